@@ -1,0 +1,10 @@
+-- What bytes are a text.
+use Rattle.std.specs.Prelude.{ℕ, ◌≤◌, List, length, Contains, IsUtf8}
+
+-- at most 1,024 bytes, none of them zero
+abbrev pub IsTextBytes : List ℕ → Type 0
+IsTextBytes bytes = (length bytes ≤ 1024) × ¬ (Contains bytes 0)
+
+-- and UTF-8
+abbrev pub IsText : List ℕ → Type 0
+IsText bytes = IsTextBytes bytes × IsUtf8 bytes

@@ -1,0 +1,26 @@
+//! The base of every layer: texts, bytes, codes, numbers and the errors that they are answered with.
+//! A `Text` is UTF-8 without a zero byte, at most 1,024 bytes. A number and a code have one printed
+//! form each, and the readers accept just the forms. Nothing here waits, and nothing is shared.
+#![tactic(auto)]
+
+mod bytes;
+mod code;
+mod ending;
+mod error;
+mod items;
+mod no_memory;
+mod number;
+mod text;
+mod thread;
+mod word;
+
+pub use bytes::Bytes;
+pub use code::Code;
+pub use ending::{Ending, RefusalKind};
+pub use error::KitError;
+pub use items::Items;
+pub use no_memory::NoMemory;
+pub use number::{print_int, print_uint};
+pub use text::{TEXT_LIMIT, Text, TextFault};
+pub use thread::ThreadId;
+pub use word::{WORD_LIMIT, is_word, is_word_byte};

@@ -1,0 +1,97 @@
+ghost use Rattle.std.specs.Prelude.{◌≡◌, ◌<◌, ◌≤◌, ◌↔◌, length, Contains, IsUtf8, IfOk, IsErrOf};
+ghost use Rattle.ak_base.specs.declared.text.TheConstants.{TEXT_LIMIT};
+
+use crate::no_memory::NoMemory;
+use std::alloc::{AllocError, Global};
+use std::marker::Model;
+
+/// The longest text, in bytes.
+pub const TEXT_LIMIT: usize = 1024;
+
+/// Why bytes are no text, or could not be kept.
+#[derive(Clone, Copy, Debug, PartialEq, Eq)]
+pub enum TextFault {
+    /// Over 1,024 bytes.
+    TooLong,
+    NotUtf8,
+    /// A zero byte is among them.
+    Zero,
+    NoMemory,
+}
+
+impl From<AllocError> for TextFault {
+    ghost use Rattle.std.specs.Prelude.{◌≡◌};
+    ghost use Rattle.ak_base.specs.declared.text.TextFault.TheVariants.{NoMemory};
+
+    ghost from_gives = { λ _ e. e ≡ NoMemory };
+
+    fn from(_error: AllocError) -> TextFault {
+        TextFault::NoMemory
+    }
+}
+
+/// UTF-8 without a zero byte, at most 1,024 bytes. Contracts see its bytes.
+#[derive(Debug, Drop)]
+pub struct Text {
+    text: String,
+}
+
+impl Model for Text {
+    ghost use Rattle.std.specs.Prelude.{List, ℕ, string_bytes};
+    ghost use Rattle.ak_base.specs.Text.{IsTextBytes};
+
+    ghost Value = { List ℕ };
+
+    ghost view = { λ t. string_bytes t.text };
+
+    ghost invariant = { λ t. IsTextBytes (string_bytes t.text) };
+}
+
+impl Text {
+    ghost use Rattle.ak_base.specs.Text.{IsTextBytes, IsText};
+
+    /// The text of these bytes. The faults are tested in the order of `TextFault`.
+    pub fn from_bytes(alloc: Global, b: &[u8]) -> Result<Text, TextFault>
+        ensures ok { IfOk result (λ t. t ≡ b.now) }
+        ensures is_text { IfOk result (λ _. IsText b.now) }
+        ensures too_long { IsErrOf result TextFault.TooLong ↔ (TEXT_LIMIT < length b.now) }
+        ensures not_utf8 { IsErrOf result TextFault.NotUtf8 ↔ ((length b.now ≤ TEXT_LIMIT) × (¬ (IsUtf8 b.now))) }
+        ensures zero { IsErrOf result TextFault.Zero
+            ↔ ((length b.now ≤ TEXT_LIMIT) × IsUtf8 b.now × Contains b.now 0) }
+    {
+        if b.len() > TEXT_LIMIT {
+            return Err(TextFault::TooLong);
+        }
+        let Ok(text) = str::from_utf8(b) else {
+            return Err(TextFault::NotUtf8);
+        };
+        if b.contains(&0) {
+            return Err(TextFault::Zero);
+        }
+        Ok(Text {
+            text: String::from_str(alloc, text)?,
+        })
+    }
+
+    /// An equal text.
+    pub fn try_clone(&self) -> Result<Text, NoMemory>
+        ensures { IfOk result (λ t. t ≡ self.now) }
+    {
+        Ok(Text {
+            text: self.text.clone()?,
+        })
+    }
+
+    pub fn as_bytes(&self) -> &[u8]
+        ensures value { result.now ≡ self.now }
+        ensures is_text { IsText self.now }
+    {
+        self.text.as_str().as_bytes()
+    }
+
+    pub fn as_str(&self) -> &str
+        ensures value { result.now ≡ self.now }
+    {
+        self.text.as_str()
+    }
+}
