@@ -20,7 +20,7 @@ pub use ending::{Ending, RefusalKind};
 pub use error::KitError;
 pub use items::Items;
 pub use no_memory::NoMemory;
-pub use number::{print_int, print_uint};
+pub use number::{one_int_text, print_int, print_uint, printed_ints_are_read, read_int};
 pub use text::{TEXT_LIMIT, Text, TextFault};
 pub use thread::ThreadId;
 pub use word::{WORD_LIMIT, is_word, is_word_byte};

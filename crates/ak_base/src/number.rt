@@ -1,8 +1,13 @@
-ghost use Rattle.std.specs.Prelude.{◌≡◌, ◌++◌, OnOk, OnErr};
+ghost use Rattle.std.specs.Prelude.{◌≡◌, ◌<◌, ◌≤◌, ◌^◌, ◌∷◌, ◌++◌, ℕ, ℤ, pos, length, IfSome, IfNone, OnOk, OnErr};
 ghost use Rattle.std.specs.Fmt.{decimal, signed_decimal};
+ghost use Rattle.std.specs.Str.Parse.{AllDigits, digits_value};
+ghost use Rattle.ak_base.specs.Number.{IsIntText, OneIntText, PrintedIntsAreRead};
 
 use crate::bytes::Bytes;
 use crate::no_memory::NoMemory;
+
+/// The longest number that is read, in digits.
+const DIGITS_LIMIT: usize = 20;
 
 /// Adds the number in decimal: a `-` where it is below 0, then its digits without a leading zero.
 /// An `Err` changes nothing.
@@ -20,3 +25,76 @@ pub fn print_uint(n: u64, out: &mut Bytes) -> Result<(), NoMemory>
 {
     out.extend(n.to_string(out.allocator())?.as_bytes())
 }
+
+/// The number that the bytes are the printed form of, in at most 20 digits. None where they are the form
+/// of no number, as `+3`, `03`, `-0` and the empty text.
+pub fn read_int(b: &[u8]) -> Option<i128>
+    ensures found { IfSome result (λ z. IsIntText b.now z) }
+    ensures none { IfNone result ((z : ℤ) → IsIntText b.now z → ⊥) }
+{
+    let Some((first, rest)) = b.split_first() else {
+        return None;
+    };
+    if *first == b'-' {
+        read_below_zero(rest)
+    } else {
+        read_from_zero(b)
+    }
+}
+
+// The number below 0 whose digits stand after the `-`. There is no `-0`.
+fn read_below_zero(digits: &[u8]) -> Option<i128>
+    ensures found { IfSome result (λ z. IsIntText (45 ∷ digits.now) z) }
+    ensures none { IfNone result ((z : ℤ) → IsIntText (45 ∷ digits.now) z → ⊥) }
+{
+    let Some(n) = read_digits(digits) else {
+        return None;
+    };
+    if n == 0 { None } else { Some(-(n as i128)) }
+}
+
+fn read_from_zero(digits: &[u8]) -> Option<i128>
+    ensures found { IfSome result (λ z. IsIntText digits.now z) }
+    ensures none { IfNone result ((n : ℕ) → IsIntText digits.now (pos n) → ⊥) }
+{
+    Some(read_digits(digits)? as i128)
+}
+
+// The number that at most 20 digits without a leading zero write.
+fn read_digits(b: &[u8]) -> Option<u128>
+    ensures found { IfSome result (λ n. (b.now ≡ decimal n) × (length b.now ≤ 20)) }
+    ensures below { IfSome result (λ n. n < 10 ^ 20) }
+    ensures none { IfNone result ((n : ℕ) → b.now ≡ decimal n → length b.now ≤ 20 → ⊥) }
+{
+    if b.is_empty() || b.len() > DIGITS_LIMIT || (b[0] == b'0' && b.len() > 1) {
+        return None;
+    }
+    value_of_digits(b)
+}
+
+// The number that the digits write, leading zeros or not.
+fn value_of_digits(b: &[u8]) -> Option<u128>
+    requires { length b.now ≤ 20 }
+    ensures found { IfSome result (λ n. AllDigits 10 b.now × (n ≡ digits_value 10 b.now)) }
+    ensures below { IfSome result (λ n. n < 10 ^ 20) }
+    ensures none { IfNone result (¬ (AllDigits 10 b.now)) }
+{
+    let mut n = 0;
+    for digit in b {
+        if !digit.is_ascii_digit() {
+            return None;
+        }
+        n = n * 10 + u128::from(*digit - b'0');
+    }
+    Some(n)
+}
+
+/// A text is read as one number.
+pub fn one_int_text()
+    ensures { OneIntText }
+{}
+
+/// Whatever `print_int` and `print_uint` add is read as the number that was printed.
+pub fn printed_ints_are_read()
+    ensures { PrintedIntsAreRead }
+{}
