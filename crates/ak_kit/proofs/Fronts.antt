@@ -1,0 +1,18 @@
+-- A list that begins with another.
+use Rattle.std.proofs.Common.{◌≡◌, ℕ, Bool, true, false, List, [], ◌∷◌, ◌++◌, length, take, drop, refl, sym, ap, ◌∙◌, rules}
+use Rattle.std.specs.Prelude.{◌==◌}
+use Rattle.std.proofs.lemmas.Slice.Eq.{starts_is}
+use Rattle.std.proofs.lemmas.Bool.Decides.{Decides-eqb}
+use Rattle.ak_kit.specs.FirstInput.{begins_with}
+
+pub begins : (front bytes : List ℕ) → begins_with front bytes ≡ true → bytes ≡ front ++ drop (length front) bytes
+begins front bytes h = (starts_is Decides-eqb bytes front (begins_with front bytes) refl).0 h
+
+pub begins_again : (front rest : List ℕ) → begins_with front (front ++ rest) ≡ true
+begins_again front rest = (starts_is Decides-eqb (front ++ rest) front (begins_with front (front ++ rest)) refl).1 rest refl
+
+pub not_begins : (front bytes : List ℕ) → ((rest : List ℕ) → bytes ≡ front ++ rest → ⊥) → begins_with front bytes ≡ false
+not_begins front bytes none = by_test (begins_with front bytes) refl where
+  by_test : (b : Bool) → begins_with front bytes ≡ b → begins_with front bytes ≡ false
+  by_test true e = absurd (none _ (begins front bytes e))
+  by_test false e = e

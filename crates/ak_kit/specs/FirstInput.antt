@@ -1,0 +1,109 @@
+-- The inputs that are run: one application with one looper, its properties, its launch, and lines that get one property each.
+use Rattle.std.specs.Prelude.{◌≡◌, ℕ, ◌≤◌, ◌+◌, ◌++◌, Bool, true, false, not, ◌&&◌, ◌||◌, ◌==◌, nat_lt, List, [], ◌∷◌, length, codes, ℤ, FitsSigned}
+use Rattle.std.specs.List.{list_all, list_any, flat_map, starts_with, ends_with, after_last}
+use Rattle.std.specs.Int.{w32}
+use Rattle.std.specs.Str.{bytes_eq}
+use Rattle.std.specs.Fmt.{decimal, signed_decimal}
+use Rattle.ak_base.specs.Word.{is_word}
+
+-- what such an input says
+pub record Script : Type 0 where
+  pub path : List ℕ
+  pub signature : List ℕ
+  pub mode : List ℕ
+  pub looper : List ℕ
+  pub capacity : ℕ
+  -- the properties, each with its value
+  pub rows : List (List ℕ × ℤ)
+  -- the property that each hey line gets
+  pub asked : List (List ℕ)
+
+-- ---- the forms of names
+
+abbrev pub begins_with : List ℕ → List ℕ → Bool
+begins_with front bytes = starts_with ◌==◌ bytes front
+
+-- a path begins with `/` and doesn't end with it
+abbrev pub is_path : List ℕ → Bool
+is_path bytes = is_word bytes && begins_with (codes "/") bytes && not (ends_with ◌==◌ bytes (codes "/"))
+
+-- a signature begins with `application/` and goes on
+abbrev pub is_signature : List ℕ → Bool
+is_signature bytes = is_word bytes && begins_with (codes "application/") bytes && nat_lt 12 (length bytes)
+
+abbrev pub is_mode : List ℕ → Bool
+is_mode bytes = bytes_eq bytes (codes "single") || bytes_eq bytes (codes "multiple") || bytes_eq bytes (codes "exclusive")
+
+-- an application's name: the last part of its path
+abbrev pub name_of : List ℕ → List ℕ
+name_of path = after_last (λ b. b == 47) path
+
+-- the words of the hey language, and the properties that every handler has
+abbrev pub is_reserved : List ℕ → Bool
+is_reserved bytes =
+    bytes_eq bytes (codes "of") || bytes_eq bytes (codes "to") || bytes_eq bytes (codes "with") || bytes_eq bytes (codes "and")
+    || bytes_eq bytes (codes "Suites")
+    || bytes_eq bytes (codes "Messenger")
+    || bytes_eq bytes (codes "InternalName")
+
+-- a property that a hey line can get
+abbrev pub is_askable : List ℕ → Bool
+is_askable bytes = is_word bytes && not (is_reserved bytes)
+
+-- no name stands twice
+abbrev pub names_differ : List (List ℕ × ℤ) → Bool
+names_differ [] = true
+names_differ (row ∷ rows) = not (list_any (λ other. bytes_eq other.0 row.0) rows) && names_differ rows
+
+pub record IsRow (row : List ℕ × ℤ) : Type 0 where
+  pub name : is_word row.0 ≡ true
+  pub value : FitsSigned w32 row.1
+
+abbrev pub AllRows : List (List ℕ × ℤ) → Type 0
+AllRows [] = Unit {0}
+AllRows (row ∷ rows) = IsRow row × AllRows rows
+
+-- what a script keeps
+pub record IsScript (s : Script) : Type 0 where
+  pub path : is_path s.path ≡ true
+  pub signature : is_signature s.signature ≡ true
+  pub mode : is_mode s.mode ≡ true
+  pub looper : is_word s.looper ≡ true
+  pub capacity : (2 ≤ s.capacity) × (s.capacity ≤ 1000)
+  pub few_rows : length s.rows ≤ 64
+  pub rows : AllRows s.rows
+  pub differ : names_differ s.rows ≡ true
+  pub few_asked : length s.asked ≤ 7999
+  pub asked : list_all is_askable s.asked ≡ true
+
+-- ---- the text
+
+-- one blank between words, and LF at the end
+abbrev pub line : List (List ℕ) → List ℕ
+line [] = 10 ∷ []
+line (w ∷ []) = w ++ 10 ∷ []
+line (w ∷ v ∷ ws) = w ++ 32 ∷ line (v ∷ ws)
+
+abbrev pub row_lines : List ℕ × ℤ → List ℕ
+row_lines row =
+    line (codes "property" ∷ row.0 ∷ codes "LONG" ∷ []) ++ line (codes "element" ∷ (codes "LONG:" ++ signed_decimal row.1) ∷ [])
+
+abbrev pub hey_line : List ℕ → List ℕ → List ℕ
+hey_line name property = line (codes "hey" ∷ name ∷ codes "get" ∷ property ∷ [])
+
+-- the one text of a script
+abbrev pub spelling : Script → List ℕ
+spelling s =
+    line (codes "kit" ∷ codes "1" ∷ [])
+    ++ (line (codes "app" ∷ s.path ∷ s.signature ∷ s.mode ∷ [])
+    ++ (line (codes "looper" ∷ s.looper ∷ codes "capacity" ∷ decimal s.capacity ∷ [])
+    ++ (flat_map row_lines s.rows
+    ++ (line (codes "script" ∷ [])
+    ++ (line (codes "launch" ∷ s.path ∷ [])
+    ++ flat_map (hey_line (name_of s.path)) s.asked)))))
+
+-- the input is the text of this script
+pub record IsFirstInput (input : List ℕ) (s : Script) : Type 0 where
+  pub short : length input ≤ 1048576
+  pub script : IsScript s
+  pub text : input ≡ spelling s

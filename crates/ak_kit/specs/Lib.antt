@@ -1,0 +1,3 @@
+pub mod FirstInput
+pub mod Reading
+pub mod Seen

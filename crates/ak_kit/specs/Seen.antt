@@ -1,0 +1,29 @@
+-- What a reader's answer is seen as.
+use Rattle.std.specs.Prelude.{◌≡◌, ℕ, ℤ, List, Option, Some, None, Result, Ok, Err}
+use Rattle.std.specs.Borrow.{Bor}
+use Rattle.ak_kit.specs.declared.fault.ScriptFault.{ScriptFault}
+use Rattle.ak_kit.specs.declared.script.FirstScript.{FirstScript}
+use Rattle.ak_kit.specs.FirstInput.{Script}
+use Rattle.ak_kit.specs.declared.fault.ScriptFault.TheVariants as fault
+
+abbrev pub seen : Bor (List ℕ) → List ℕ
+seen bytes = bytes.now
+
+abbrev pub pair_of : Bor (List ℕ) × Bor (List ℕ) → List ℕ × List ℕ
+pair_of x = (x.0.now, x.1.now)
+
+-- What a function returned, seen by view, is what reading gives, unless memory ran out.
+abbrev pub Fails : {Y : Type 0} → ScriptFault → Option Y → Type 0
+Fails fault.NotYet read = read ≡ None
+Fails fault.NoMemory read = Unit {0}
+
+abbrev pub Gives : {X Y : Type 0} → (X → Y) → Result X ScriptFault → Option Y → Type 0
+Gives view (Ok x) read = read ≡ Some (view x)
+Gives view (Err e) read = Fails e read
+
+-- the properties and the words asked
+abbrev pub seen_script : FirstScript → List (List ℕ × ℤ) × List (List ℕ)
+seen_script s = (s.rows.items, s.asked.items)
+
+abbrev pub parts_of : Script → List (List ℕ × ℤ) × List (List ℕ)
+parts_of s = (s.rows, s.asked)

@@ -1,0 +1,6 @@
+//! The top call.
+#![tactic(auto)]
+
+mod fault;
+mod reading;
+mod script;
