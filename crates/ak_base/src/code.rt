@@ -10,7 +10,32 @@ use crate::no_memory::NoMemory;
 pub struct Code(pub u32);
 
 impl Code {
+    /// `'PGET'`
     pub const GET: Code = Code(0x5047_4554);
+    /// `'PSET'`
+    pub const SET: Code = Code(0x5053_4554);
+    /// `'PCNT'`
+    pub const COUNT: Code = Code(0x5043_4E54);
+    /// `'PCRT'`
+    pub const CREATE: Code = Code(0x5043_5254);
+    /// `'PDEL'`
+    pub const DELETE: Code = Code(0x5044_454C);
+    /// `'PEXE'`
+    pub const EXECUTE: Code = Code(0x5045_5845);
+    /// `'SUIT'`
+    pub const SUITES: Code = Code(0x5355_4954);
+    /// `'RPLY'`
+    pub const REPLY: Code = Code(0x5250_4C59);
+    /// `'NONE'`
+    pub const NO_REPLY: Code = Code(0x4E4F_4E45);
+    /// `'MNOT'`
+    pub const NOT_UNDERSTOOD: Code = Code(0x4D4E_4F54);
+    /// `'_QRQ'`
+    pub const QUIT_REQUESTED: Code = Code(0x5F51_5251);
+    /// `'_ARG'`
+    pub const ARGV_RECEIVED: Code = Code(0x5F41_5247);
+    /// `'_RTR'`
+    pub const READY_TO_RUN: Code = Code(0x5F52_5452);
 
     /// Adds the code's printed form: its bytes between `'`, as `'PGET'`, where each is from 0x20 to 0x7E
     /// and none is `'` or `\`, and else `0x` and eight hexadecimal digits in lower case. An `Err` changes
@@ -140,3 +165,65 @@ pub fn one_code_text()
 pub fn printed_codes_are_read()
     ensures { code.PrintedCodesAreRead }
 {}
+
+#[cfg(test)]
+mod tests {
+    use super::*;
+    use std::test::Fail;
+
+    #[test]
+    fn prints_and_reads_codes(rt: HostRuntime) -> Result<(), Fail> {
+        let codes: [(u32, &[u8]); 5] = [
+            (0x5047_4554, b"'PGET'"),
+            (0, b"0x00000000"),
+            (0x2741_4141, b"0x27414141"),
+            (0x4141_415C, b"0x4141415c"),
+            (0x207E_5F21, b"' ~_!'"),
+        ];
+        for (code, text) in codes {
+            let mut out = Bytes::new(rt.alloc());
+            Code(code).print(&mut out)?;
+            assert_eq!(rt; out.as_slice(), text);
+            assert_eq!(rt; Code::read(text), Some(Code(code)));
+        }
+        assert_eq!(rt; Code::read(b"0x50474554"), Some(Code(0x5047_4554)));
+        let refused: [&[u8]; 10] = [
+            b"0X50474554",
+            b"0x5047455",
+            b"'PGE'",
+            b"PGET",
+            b"0x5047455G",
+            b"0xABCDEF00",
+            b"'PG'T'",
+            b"'PG\\T'",
+            b"'PGETS'",
+            b"",
+        ];
+        for text in refused {
+            assert_eq!(rt; Code::read(text), None, "at {text:?}");
+        }
+        Ok(())
+    }
+
+    #[test]
+    fn names_codes(rt: HostRuntime) {
+        let named: [(Code, &[u8]); 13] = [
+            (Code::GET, b"'PGET'"),
+            (Code::SET, b"'PSET'"),
+            (Code::COUNT, b"'PCNT'"),
+            (Code::CREATE, b"'PCRT'"),
+            (Code::DELETE, b"'PDEL'"),
+            (Code::EXECUTE, b"'PEXE'"),
+            (Code::SUITES, b"'SUIT'"),
+            (Code::REPLY, b"'RPLY'"),
+            (Code::NO_REPLY, b"'NONE'"),
+            (Code::NOT_UNDERSTOOD, b"'MNOT'"),
+            (Code::QUIT_REQUESTED, b"'_QRQ'"),
+            (Code::ARGV_RECEIVED, b"'_ARG'"),
+            (Code::READY_TO_RUN, b"'_RTR'"),
+        ];
+        for (code, text) in named {
+            assert_eq!(rt; Code::read(text), Some(code), "at {text:?}");
+        }
+    }
+}
