@@ -1,3 +1,4 @@
+pub mod Code
 pub mod Error
 pub mod Number
 pub mod Text

@@ -64,3 +64,21 @@ impl Bytes {
         self.items.as_slice()
     }
 }
+
+#[cfg(test)]
+mod tests {
+    use super::*;
+    use std::test::Fail;
+
+    #[test]
+    fn grows_and_is_cleared(rt: HostRuntime) -> Result<(), Fail> {
+        let mut out = Bytes::new(rt.alloc());
+        out.push(b'a')?;
+        out.extend(b"bc")?;
+        out.extend(b"")?;
+        assert_eq!(rt; out.as_slice(), b"abc".as_slice());
+        out.clear();
+        assert_eq!(rt; out.as_slice(), b"".as_slice());
+        Ok(())
+    }
+}

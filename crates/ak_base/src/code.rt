@@ -1,3 +1,229 @@
+ghost use Rattle.std.specs.Prelude.{◌≡◌, ◌++◌, ◌∷◌, ◌<◌, [], ℕ, IfSome, IfNone, OnOk, OnErr, length};
+ghost use Rattle.std.specs.Char.{digit_char};
+ghost use Rattle.ak_base.specs.Code as code;
+
+use crate::bytes::Bytes;
+use crate::no_memory::NoMemory;
+
 /// A type or command code: four bytes, the first one highest.
 #[derive(Clone, Copy, Debug, PartialEq, Eq)]
 pub struct Code(pub u32);
+
+impl Code {
+    /// `'PGET'`
+    pub const GET: Code = Code(0x5047_4554);
+    /// `'PSET'`
+    pub const SET: Code = Code(0x5053_4554);
+    /// `'PCNT'`
+    pub const COUNT: Code = Code(0x5043_4E54);
+    /// `'PCRT'`
+    pub const CREATE: Code = Code(0x5043_5254);
+    /// `'PDEL'`
+    pub const DELETE: Code = Code(0x5044_454C);
+    /// `'PEXE'`
+    pub const EXECUTE: Code = Code(0x5045_5845);
+    /// `'SUIT'`
+    pub const SUITES: Code = Code(0x5355_4954);
+    /// `'RPLY'`
+    pub const REPLY: Code = Code(0x5250_4C59);
+    /// `'NONE'`
+    pub const NO_REPLY: Code = Code(0x4E4F_4E45);
+    /// `'MNOT'`
+    pub const NOT_UNDERSTOOD: Code = Code(0x4D4E_4F54);
+    /// `'_QRQ'`
+    pub const QUIT_REQUESTED: Code = Code(0x5F51_5251);
+    /// `'_ARG'`
+    pub const ARGV_RECEIVED: Code = Code(0x5F41_5247);
+    /// `'_RTR'`
+    pub const READY_TO_RUN: Code = Code(0x5F52_5452);
+
+    /// Adds the code's printed form: its bytes between `'`, as `'PGET'`, where each is from 0x20 to 0x7E
+    /// and none is `'` or `\`, and else `0x` and eight hexadecimal digits in lower case. An `Err` changes
+    /// nothing.
+    #[tactic(auto, unfolding(crate::specs::Code::code_text))]
+    pub fn print(&self, out: &mut Bytes) -> Result<(), NoMemory>
+        ensures ok { OnOk result (out.new ≡ out.old ++ code.code_text self.now.0) }
+        ensures err { OnErr result (out.new ≡ out.old) }
+    {
+        let bytes = self.0.to_be_bytes();
+        if may_all_be_quoted(&bytes) {
+            out.extend(&quoted(bytes))
+        } else {
+            out.extend(&hex(bytes))
+        }
+    }
+
+    /// The code that the bytes are a text of. Each code is read from its eight digits after `0x`, and one
+    /// whose bytes may stand between quotes from these too. None where the bytes are no text of a code.
+    pub fn read(word: &[u8]) -> Option<Code>
+        ensures found { IfSome result (λ c. code.IsCodeText word.now c.0) }
+        ensures none { IfNone result ((n : ℕ) → code.IsCodeText word.now n → ⊥) }
+    {
+        match word.len() {
+            6 => read_quoted(word),
+            10 => read_hex(word),
+            _ => None,
+        }
+    }
+}
+
+fn may_be_quoted(b: u8) -> bool
+    ensures { result ≡ code.may_be_quoted b }
+{
+    b >= b' ' && b <= b'~' && b != b'\'' && b != b'\\'
+}
+
+fn may_all_be_quoted(bytes: &[u8]) -> bool
+    ensures { result ≡ code.may_all_be_quoted bytes.now }
+{
+    bytes.iter().all(|b| may_be_quoted(*b))
+}
+
+fn quoted(bytes: [u8; 4]) -> [u8; 6]
+    ensures { result ≡ code.quoted bytes }
+{
+    [b'\'', bytes[0], bytes[1], bytes[2], bytes[3], b'\'']
+}
+
+fn hex(bytes: [u8; 4]) -> [u8; 10]
+    ensures { result ≡ code.hex bytes }
+{
+    [
+        b'0',
+        b'x',
+        hex_digit(bytes[0] / 16),
+        hex_digit(bytes[0] % 16),
+        hex_digit(bytes[1] / 16),
+        hex_digit(bytes[1] % 16),
+        hex_digit(bytes[2] / 16),
+        hex_digit(bytes[2] % 16),
+        hex_digit(bytes[3] / 16),
+        hex_digit(bytes[3] % 16),
+    ]
+}
+
+fn hex_digit(d: u8) -> u8
+    requires { d < 16 }
+    ensures { result ≡ digit_char d }
+{
+    if d < 10 { b'0' + d } else { b'a' + (d - 10) }
+}
+
+// The code whose bytes stand between quotes.
+fn read_quoted(word: &[u8]) -> Option<Code>
+    requires { length word.now ≡ 6 }
+    ensures found { IfSome result (λ c. code.IsCodeText word.now c.0) }
+    ensures none { IfNone result ((n : ℕ) → code.IsCodeText word.now n → ⊥) }
+{
+    if word[0] != b'\'' || word[5] != b'\'' || !may_all_be_quoted(&word[1..5]) {
+        return None;
+    }
+    Some(Code(u32::from_be_bytes([word[1], word[2], word[3], word[4]])))
+}
+
+// The code whose digits stand after `0x`.
+fn read_hex(word: &[u8]) -> Option<Code>
+    requires { length word.now ≡ 10 }
+    ensures found { IfSome result (λ c. code.IsCodeText word.now c.0) }
+    ensures none { IfNone result ((n : ℕ) → code.IsCodeText word.now n → ⊥) }
+{
+    if word[0] != b'0' || word[1] != b'x' {
+        return None;
+    }
+    let first = read_byte(word[2], word[3])?;
+    let second = read_byte(word[4], word[5])?;
+    let third = read_byte(word[6], word[7])?;
+    let fourth = read_byte(word[8], word[9])?;
+    Some(Code(u32::from_be_bytes([first, second, third, fourth])))
+}
+
+// The byte that two hexadecimal digits write.
+fn read_byte(high: u8, low: u8) -> Option<u8>
+    ensures found { IfSome result (λ b. (high ∷ low ∷ []) ≡ code.hex_of b) }
+    ensures none { IfNone result ((b : ℕ) → b < 256 → (high ∷ low ∷ []) ≡ code.hex_of b → ⊥) }
+{
+    Some(16 * hex_value(high)? + hex_value(low)?)
+}
+
+fn hex_value(digit: u8) -> Option<u8>
+    ensures found { IfSome result (λ d. (d < 16) × (digit ≡ digit_char d)) }
+    ensures none { IfNone result ((d : ℕ) → d < 16 → digit ≡ digit_char d → ⊥) }
+{
+    match digit {
+        b'0'..=b'9' => Some(digit - b'0'),
+        b'a'..=b'f' => Some(digit - b'a' + 10),
+        _ => None,
+    }
+}
+
+/// A text is read as one code.
+pub fn one_code_text()
+    ensures { code.OneCodeText }
+{}
+
+/// Whatever `print` adds is read as the code that was printed.
+pub fn printed_codes_are_read()
+    ensures { code.PrintedCodesAreRead }
+{}
+
+#[cfg(test)]
+mod tests {
+    use super::*;
+    use std::test::Fail;
+
+    #[test]
+    fn prints_and_reads_codes(rt: HostRuntime) -> Result<(), Fail> {
+        let codes: [(u32, &[u8]); 5] = [
+            (0x5047_4554, b"'PGET'"),
+            (0, b"0x00000000"),
+            (0x2741_4141, b"0x27414141"),
+            (0x4141_415C, b"0x4141415c"),
+            (0x207E_5F21, b"' ~_!'"),
+        ];
+        for (code, text) in codes {
+            let mut out = Bytes::new(rt.alloc());
+            Code(code).print(&mut out)?;
+            assert_eq!(rt; out.as_slice(), text);
+            assert_eq!(rt; Code::read(text), Some(Code(code)));
+        }
+        assert_eq!(rt; Code::read(b"0x50474554"), Some(Code(0x5047_4554)));
+        let refused: [&[u8]; 10] = [
+            b"0X50474554",
+            b"0x5047455",
+            b"'PGE'",
+            b"PGET",
+            b"0x5047455G",
+            b"0xABCDEF00",
+            b"'PG'T'",
+            b"'PG\\T'",
+            b"'PGETS'",
+            b"",
+        ];
+        for text in refused {
+            assert_eq!(rt; Code::read(text), None, "at {text:?}");
+        }
+        Ok(())
+    }
+
+    #[test]
+    fn names_codes(rt: HostRuntime) {
+        let named: [(Code, &[u8]); 13] = [
+            (Code::GET, b"'PGET'"),
+            (Code::SET, b"'PSET'"),
+            (Code::COUNT, b"'PCNT'"),
+            (Code::CREATE, b"'PCRT'"),
+            (Code::DELETE, b"'PDEL'"),
+            (Code::EXECUTE, b"'PEXE'"),
+            (Code::SUITES, b"'SUIT'"),
+            (Code::REPLY, b"'RPLY'"),
+            (Code::NO_REPLY, b"'NONE'"),
+            (Code::NOT_UNDERSTOOD, b"'MNOT'"),
+            (Code::QUIT_REQUESTED, b"'_QRQ'"),
+            (Code::ARGV_RECEIVED, b"'_ARG'"),
+            (Code::READY_TO_RUN, b"'_RTR'"),
+        ];
+        for (code, text) in named {
+            assert_eq!(rt; Code::read(text), Some(code), "at {text:?}");
+        }
+    }
+}

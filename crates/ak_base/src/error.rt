@@ -84,3 +84,42 @@ impl KitError {
         }
     }
 }
+
+#[cfg(test)]
+mod tests {
+    use super::*;
+
+    #[test]
+    fn numbers_and_names(rt: HostRuntime) {
+        let rows: [(KitError, i32, &str); 20] = [
+            (KitError::Ok, 0, "B_OK"),
+            (KitError::NoMemory, -1, "B_NO_MEMORY"),
+            (KitError::BadType, -2, "B_BAD_TYPE"),
+            (KitError::NameNotFound, -3, "B_NAME_NOT_FOUND"),
+            (KitError::BadIndex, -4, "B_BAD_INDEX"),
+            (KitError::BadPortId, -5, "B_BAD_PORT_ID"),
+            (KitError::WouldBlock, -6, "B_WOULD_BLOCK"),
+            (KitError::BadValue, -7, "B_BAD_VALUE"),
+            (KitError::BadHandler, -8, "B_BAD_HANDLER"),
+            (KitError::NameInUse, -9, "B_NAME_IN_USE"),
+            (KitError::DuplicateReply, -10, "B_DUPLICATE_REPLY"),
+            (KitError::BadScriptSyntax, -11, "B_BAD_SCRIPT_SYNTAX"),
+            (KitError::AlreadyRunning, -12, "B_ALREADY_RUNNING"),
+            (
+                KitError::LaunchFailedAppNotFound,
+                -13,
+                "B_LAUNCH_FAILED_APP_NOT_FOUND",
+            ),
+            (KitError::Spent, -14, "K_SPENT"),
+            (KitError::TooLong, -15, "K_TOO_LONG"),
+            (KitError::Limit, -16, "K_LIMIT"),
+            (KitError::ChainLoop, -17, "K_CHAIN_LOOP"),
+            (KitError::IsLooper, -18, "K_IS_LOOPER"),
+            (KitError::NoTeam, -19, "K_NO_TEAM"),
+        ];
+        for (error, number, name) in rows {
+            assert_eq!(rt; error.number(), number);
+            assert_eq!(rt; error.name(), name);
+        }
+    }
+}

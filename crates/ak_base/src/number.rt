@@ -98,3 +98,51 @@ pub fn one_int_text()
 pub fn printed_ints_are_read()
     ensures { PrintedIntsAreRead }
 {}
+
+#[cfg(test)]
+mod tests {
+    use super::*;
+    use std::test::Fail;
+
+    #[test]
+    fn prints_and_reads_ints(rt: HostRuntime) -> Result<(), Fail> {
+        let ints: [(i64, &[u8]); 6] = [
+            (0, b"0"),
+            (-1, b"-1"),
+            (3, b"3"),
+            (2_147_483_647, b"2147483647"),
+            (-2_147_483_648, b"-2147483648"),
+            (i64::MIN, b"-9223372036854775808"),
+        ];
+        for (n, text) in ints {
+            let mut out = Bytes::new(rt.alloc());
+            print_int(n, &mut out)?;
+            assert_eq!(rt; out.as_slice(), text);
+            assert_eq!(rt; read_int(text), Some(n as i128));
+        }
+        let mut out = Bytes::new(rt.alloc());
+        print_uint(u64::MAX, &mut out)?;
+        assert_eq!(rt; out.as_slice(), b"18446744073709551615".as_slice());
+        assert_eq!(rt; read_int(out.as_slice()), Some(18_446_744_073_709_551_615));
+        assert_eq!(rt;
+            read_int(b"99999999999999999999"),
+            Some(99_999_999_999_999_999_999)
+        );
+        let refused: [&[u8]; 10] = [
+            b"+3",
+            b"03",
+            b"00",
+            b"-0",
+            b"-03",
+            b"",
+            b"-",
+            b"--1",
+            b"1a",
+            b"100000000000000000000",
+        ];
+        for text in refused {
+            assert_eq!(rt; read_int(text), None, "at {text:?}");
+        }
+        Ok(())
+    }
+}

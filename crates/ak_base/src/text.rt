@@ -95,3 +95,35 @@ impl Text {
         self.text.as_str()
     }
 }
+
+#[cfg(test)]
+mod tests {
+    use super::*;
+    use std::test::Fail;
+
+    #[test]
+    fn takes_texts(rt: HostRuntime) -> Result<(), Fail> {
+        let long = [b'x'; 1025];
+        let text = Text::from_bytes(rt.alloc(), &long[..1024])?;
+        assert_eq!(rt; text.as_bytes(), &long[..1024]);
+        let copy = Text::from_bytes(rt.alloc(), "p\u{e9}".as_bytes())?.try_clone()?;
+        assert_eq!(rt; copy.as_str(), "p\u{e9}");
+        assert_eq!(rt; copy.as_bytes(), [b'p', 0xc3, 0xa9].as_slice());
+        Ok(())
+    }
+
+    #[test]
+    fn refuses_bytes(rt: HostRuntime) {
+        let long = [b'x'; 1025];
+        let long_and_bad = [0xff; 1025];
+        let rows: [(&[u8], TextFault); 4] = [
+            (&long, TextFault::TooLong),
+            (&long_and_bad, TextFault::TooLong),
+            (&[0xff, 0], TextFault::NotUtf8),
+            (&[0x41, 0], TextFault::Zero),
+        ];
+        for (bytes, fault) in rows {
+            assert_eq!(rt; Text::from_bytes(rt.alloc(), bytes).err(), Some(fault));
+        }
+    }
+}
