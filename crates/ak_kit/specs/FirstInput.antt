@@ -5,6 +5,7 @@ use Rattle.std.specs.Int.{w32}
 use Rattle.std.specs.Str.{bytes_eq}
 use Rattle.std.specs.Fmt.{decimal, signed_decimal}
 use Rattle.ak_base.specs.Word.{is_word}
+pub use Rattle.ak_desk.specs.Rows.{names_differ}
 
 -- what such an input says
 pub record Script : Type 0 where
@@ -49,11 +50,6 @@ is_reserved bytes =
 -- a property that a hey line can get
 abbrev pub is_askable : List ℕ → Bool
 is_askable bytes = is_word bytes && not (is_reserved bytes)
-
--- no name stands twice
-abbrev pub names_differ : List (List ℕ × ℤ) → Bool
-names_differ [] = true
-names_differ (row ∷ rows) = not (list_any (λ other. bytes_eq other.0 row.0) rows) && names_differ rows
 
 pub record IsRow (row : List ℕ × ℤ) : Type 0 where
   pub name : is_word row.0 ≡ true

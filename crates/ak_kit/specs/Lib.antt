@@ -1,3 +1,5 @@
 pub mod FirstInput
 pub mod Reading
+pub mod Reply
+pub mod Run
 pub mod Seen

@@ -3,4 +3,5 @@
 
 mod fault;
 mod reading;
+mod reply;
 mod script;

@@ -1,0 +1,4 @@
+pub mod Desk
+pub mod Messages
+pub mod Replies
+pub mod Rows
