@@ -1,4 +1,5 @@
 pub mod Fronts
+pub mod GrammarFields
 pub mod Loops
 pub mod Numbers
 pub mod Words
