@@ -1,5 +1,6 @@
 pub mod Fronts
 pub mod GrammarFields
+pub mod GrammarLines
 pub mod Loops
 pub mod Numbers
 pub mod Words
