@@ -1,4 +1,5 @@
 pub mod Fronts
+pub mod Grammar
 pub mod GrammarFields
 pub mod GrammarLines
 pub mod Loops
