@@ -1,7 +1,6 @@
 -- A line that is read is the line that was written, and what was written is read again.
-use Rattle.std.proofs.Common.{◌≡◌, ℕ, zero, suc, ◌≤◌, Bool, true, false, ◌&&◌, ◌||◌, List, [], ◌∷◌, ◌++◌, length, ℤ, Option, Some, None, refl, sym, ap, subst, ◌∙◌, append_assoc, arith, ⊎_elim}
-use Rattle.std.specs.Prelude.{FitsSigned, codes}
-use Rattle.std.specs.Int.{w32}
+use Rattle.std.proofs.Common.{◌≡◌, ℕ, zero, suc, ◌≤◌, true, ◌&&◌, ◌||◌, List, [], ◌∷◌, ◌++◌, length, ℤ, Option, Some, None, refl, sym, ap, subst, ◌∙◌, append_assoc, arith, ⊎_elim}
+use Rattle.std.specs.Prelude.{codes}
 use Rattle.std.specs.List.{list_all, flat_map}
 use Rattle.std.specs.Option.{option_map_or}
 use Rattle.std.specs.Str.{bytes_eq}
@@ -9,8 +8,8 @@ use Rattle.std.specs.Fmt.{decimal, signed_decimal}
 use Rattle.std.proofs.lemmas.Bool.{or_cases}
 use Rattle.std.proofs.lemmas.Slice.Eq.{bytes_eq-Decides}
 use Rattle.ak_base.specs.Word.{is_word_byte, is_word}
-use Rattle.ak_kit.specs.FirstInput.{begins_with, is_path, is_signature, is_mode, is_reserved, is_askable, IsRow, AllRows, line, row_lines, hey_line}
-use Rattle.ak_kit.specs.Reading.{◌>>=◌, where_true, after, field_at, int32_of, capacity_of, App, app_at, looper_at, row_at, rows_at, hey_at, asked_at, launch_at}
+use Rattle.ak_kit.specs.FirstInput.{begins_with, is_path, is_signature, is_mode, is_askable, IsRow, AllRows, line, row_lines, hey_line}
+use Rattle.ak_kit.specs.Reading.{◌>>=◌, where_true, after, field_at, int32_of, capacity_of, App, app_at, looper_at, row_at, rows_at, hey_at, asked_at}
 use Rattle.ak_kit.proofs.Words.{both_true}
 use Rattle.ak_kit.proofs.Numbers.{int32_takes}
 use Rattle.ak_kit.proofs.GrammarFields.{bind_some, test_some, some_is, after_takes, after_again, NoGap, no_gap_word_bytes, no_gap_word, field_takes, field_again, is_int32_fits, int32_again, no_gap_int32, capacity_takes, capacity_again, no_gap_capacity}
