@@ -20,12 +20,16 @@ abbrev pub field_named : List FieldData → List ℕ → Option FieldData
 field_named fields name = find (is_named name) fields
 
 -- ---- adding
+abbrev pub new_field : List ℕ → ValueData → FieldData
+new_field name value = record { name = name; kind = kind_of value; values = value ∷ [] }
+
+abbrev pub with_value : FieldData → ValueData → FieldData
+with_value f value = record { name = f.name; kind = f.kind; values = f.values ++ value ∷ [] }
+
 -- at the end of the values of the field of that name, or as a new field at the end
 abbrev pub added : List FieldData → List ℕ → ValueData → List FieldData
-added [] name value = (record { name = name; kind = kind_of value; values = value ∷ [] }) ∷ []
-added (f ∷ fs) name value =
-    if is_named name f then (record f { values = f.values ++ value ∷ [] }) ∷ fs
-    else f ∷ added fs name value
+added [] name value = new_field name value ∷ []
+added (f ∷ fs) name value = if is_named name f then with_value f value ∷ fs else f ∷ added fs name value
 
 -- of so many fields, with this one of the name
 abbrev pub place_fault : ℕ → Option FieldData → Kind → Option AddFault

@@ -1,7 +1,7 @@
-ghost use Rattle.std.specs.Prelude.{◌≡◌, [], ◌∷◌, length, position, Ok, Err, OnOk, OnErr, IfOk, IfSome, IfNone, IsOkUnless};
+ghost use Rattle.std.specs.Prelude.{◌≡◌, [], length, position, Ok, Err, OnOk, OnErr, IfOk, option_map, IfSome, IfNone, IsOkUnless};
 ghost use Rattle.ak_message.specs.Message.{kind_of, depth_of_value};
-ghost use Rattle.ak_message.specs.Seen.{value_of, fields_of};
-ghost use Rattle.ak_message.specs.Fields.{added, add_fault, found_in, is_named, place_fault, field_named};
+ghost use Rattle.ak_message.specs.Seen.{value_of, field_of, fields_of};
+ghost use Rattle.ak_message.specs.Fields.{added, add_fault, found_in, is_named, place_fault, field_named, new_field};
 ghost use Rattle.ak_message.specs.Finds.{Finds};
 
 use crate::fault::{AddFault, FindFault};
@@ -166,10 +166,9 @@ impl Message {
     pub fn find(&self, name: &[u8], kind: Kind, index: u32) -> Result<&Value, FindFault>
         ensures { Finds result (found_in self.now.fields name.now kind index) }
     {
-        let Some(place) = place_of(&self.fields, name) else {
+        let Some(field) = field_named(&self.fields, name) else {
             return Err(FindFault::NameNotFound);
         };
-        let field = &self.fields[place];
         if field.kind != kind {
             return Err(FindFault::BadType);
         }
@@ -184,14 +183,13 @@ impl Message {
 fn place_fault(fields: &[Field], name: &[u8], kind: Kind) -> Option<AddFault>
     ensures { result ≡ place_fault (length fields.now) (field_named (fields_of fields.now) name.now) kind }
 {
-    let Some(place) = place_of(fields, name) else {
+    let Some(field) = field_named(fields, name) else {
         return if fields.len() >= FIELD_LIMIT {
             Some(AddFault::FieldLimit)
         } else {
             None
         };
     };
-    let field = &fields[place];
     if field.kind != kind {
         return Some(AddFault::BadType);
     }
@@ -200,6 +198,18 @@ fn place_fault(fields: &[Field], name: &[u8], kind: Kind) -> Option<AddFault>
     } else {
         None
     }
+}
+
+// The field of that name.
+fn field_named<'a>(fields: &'a [Field], name: &[u8]) -> Option<&'a Field>
+    ensures { option_map (λ f. field_of f.now) result ≡ field_named (fields_of fields.now) name.now }
+{
+    for field in fields {
+        if field.name.as_slice() == name {
+            return Some(field);
+        }
+    }
+    None
 }
 
 // Where the field of that name stands.
@@ -234,10 +244,8 @@ fn put(fields: &mut Vec<Field>, name: &[u8], value: Value) -> Result<(), NoMemor
 }
 
 impl Field {
-    ghost use Rattle.ak_message.specs.Seen.{field_of};
-
     fn with_value(alloc: Global, name: &[u8], value: Value) -> Result<Field, NoMemory>
-        ensures { IfOk result (λ f. field_of f ≡ record { name = name.now; kind = kind_of (value_of value); values = value_of value ∷ [] }) }
+        ensures { IfOk result (λ f. field_of f ≡ new_field name.now (value_of value)) }
     {
         let kind = value.kind();
         let mut bytes = Bytes::new(alloc);
