@@ -1,7 +1,9 @@
 -- What each kind is called: four ASCII bytes, and the number that they make, the first one highest.
-use Rattle.std.specs.Prelude.{◌≡◌, ℕ, Bool, ◌==◌, if◌then◌else◌, List, codes, refl}
+use Rattle.std.specs.Prelude.{◌≡◌, ℕ, Bool, ◌==◌, if◌then◌else◌, List, codes, Option, None, Some, unwrap_or, true, refl}
 use Rattle.std.specs.Int.{w32, from_be_bytes}
 use Rattle.std.specs.Coded.{Coded, coded_ℕ, code_by}
+use Rattle.std.proofs.Common.{sym, ap, ◌∙◌}
+use Rattle.std.proofs.lemmas.Bool.{eqb-true}
 use Rattle.ak_message.specs.declared.kind.Kind.{Kind}
 use Rattle.ak_message.specs.declared.kind.Kind.TheVariants as k
 
@@ -26,52 +28,49 @@ code_of_kind kind = from_be_bytes w32 (kind_letters kind)
 abbrev pub is_same_kind : Kind → Kind → Bool
 is_same_kind a b = code_of_kind a == code_of_kind b
 
--- ---- how a kind is stored
-abbrev pub number_of_kind : Kind → ℕ
-number_of_kind k.Bool = 0
-number_of_kind k.Int8 = 1
-number_of_kind k.Int16 = 2
-number_of_kind k.Int32 = 3
-number_of_kind k.Int64 = 4
-number_of_kind k.UInt8 = 5
-number_of_kind k.UInt16 = 6
-number_of_kind k.UInt32 = 7
-number_of_kind k.UInt64 = 8
-number_of_kind k.Text = 9
-number_of_kind k.Message = 10
-number_of_kind k.Messenger = 11
-number_of_kind k.Raw = 12
+-- the kind that a code names
+abbrev pub kind_of_code : ℕ → Option Kind
+kind_of_code code =
+    if code == 0x424f4f4c then Some k.Bool
+    else if code == 0x42595445 then Some k.Int8
+    else if code == 0x53485254 then Some k.Int16
+    else if code == 0x4c4f4e47 then Some k.Int32
+    else if code == 0x4c4c4e47 then Some k.Int64
+    else if code == 0x55425954 then Some k.UInt8
+    else if code == 0x55534854 then Some k.UInt16
+    else if code == 0x554c4e47 then Some k.UInt32
+    else if code == 0x554c4c47 then Some k.UInt64
+    else if code == 0x43535452 then Some k.Text
+    else if code == 0x4d534747 then Some k.Message
+    else if code == 0x4d534e47 then Some k.Messenger
+    else if code == 0x52415754 then Some k.Raw
+    else None
+
+-- ---- a kind is stored as its code
+pub kind_of_code-code : (kind : Kind) → kind_of_code (code_of_kind kind) ≡ Some kind
+kind_of_code-code k.Bool = refl
+kind_of_code-code k.Int8 = refl
+kind_of_code-code k.Int16 = refl
+kind_of_code-code k.Int32 = refl
+kind_of_code-code k.Int64 = refl
+kind_of_code-code k.UInt8 = refl
+kind_of_code-code k.UInt16 = refl
+kind_of_code-code k.UInt32 = refl
+kind_of_code-code k.UInt64 = refl
+kind_of_code-code k.Text = refl
+kind_of_code-code k.Message = refl
+kind_of_code-code k.Messenger = refl
+kind_of_code-code k.Raw = refl
 
 abbrev pub kind_at : ℕ → Kind
-kind_at n =
-    if n == 0 then k.Bool
-    else if n == 1 then k.Int8
-    else if n == 2 then k.Int16
-    else if n == 3 then k.Int32
-    else if n == 4 then k.Int64
-    else if n == 5 then k.UInt8
-    else if n == 6 then k.UInt16
-    else if n == 7 then k.UInt32
-    else if n == 8 then k.UInt64
-    else if n == 9 then k.Text
-    else if n == 10 then k.Message
-    else if n == 11 then k.Messenger
-    else k.Raw
+kind_at code = unwrap_or (kind_of_code code) k.Raw
 
-pub kind_at-number : (kind : Kind) → kind_at (number_of_kind kind) ≡ kind
-kind_at-number k.Bool = refl
-kind_at-number k.Int8 = refl
-kind_at-number k.Int16 = refl
-kind_at-number k.Int32 = refl
-kind_at-number k.Int64 = refl
-kind_at-number k.UInt8 = refl
-kind_at-number k.UInt16 = refl
-kind_at-number k.UInt32 = refl
-kind_at-number k.UInt64 = refl
-kind_at-number k.Text = refl
-kind_at-number k.Message = refl
-kind_at-number k.Messenger = refl
-kind_at-number k.Raw = refl
+pub kind_at-code : (kind : Kind) → kind_at (code_of_kind kind) ≡ kind
+kind_at-code kind = ap (λ o. unwrap_or o k.Raw) (kind_of_code-code kind)
 
 abbrev pub coded_kind : Coded Kind
-coded_kind = code_by ℕ coded_ℕ number_of_kind kind_at kind_at-number
+coded_kind = code_by ℕ coded_ℕ code_of_kind kind_at kind_at-code
+
+-- kinds of one code are one kind
+pub same_kind-is : (a b : Kind) → is_same_kind a b ≡ true → a ≡ b
+same_kind-is a b e = sym (kind_at-code a) ∙ ap kind_at (eqb-true _ _ e) ∙ kind_at-code b

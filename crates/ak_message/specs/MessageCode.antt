@@ -4,7 +4,7 @@ use Rattle.std.specs.Coded.{Coded, coded_ℕ, code_by}
 use base.Stored.{Gv, gnil, gnum, gcons}
 use Rattle.std.proofs.Common.{sym, ◌∙◌, ap}
 use Rattle.ak_message.specs.declared.kind.Kind.{Kind}
-use Rattle.ak_message.specs.Kind.{number_of_kind, kind_at, kind_at-number}
+use Rattle.ak_message.specs.Kind.{code_of_kind, kind_at, kind_at-code}
 use Rattle.ak_message.specs.Message.{ValueData, int32_value, text_value, message_value, NestedValues, no_values, then_value, NestedFields, no_fields, then_field, FieldData, MessageData, nested_values, listed_values, nested_fields, listed_fields, value_of_message, message_of_nested}
 
 abbrev number : Gv → ℕ
@@ -65,7 +65,7 @@ abbrev mutual
   code_of_fields : NestedFields → Gv
   code_of_fields no_fields = gnil
   code_of_fields (then_field name kind vs fs) =
-      gcons (gcons (gcons (code_of_bytes name) (gnum (number_of_kind kind))) (code_of_values vs)) (code_of_fields fs)
+      gcons (gcons (gcons (code_of_bytes name) (gnum (code_of_kind kind))) (code_of_values vs)) (code_of_fields fs)
 
 -- ---- back: all that one tree can be the code of, and what its second part can be
 record Read : Type 0 where
@@ -109,7 +109,7 @@ mutual
   read-fields : (fs : NestedFields) → (read (code_of_fields fs)).fields ≡ fs
   read-fields no_fields = refl
   read-fields (then_field name kind vs fs) =
-      λ i. then_field (bytes_at-code name i) (kind_at-number kind i) (read-values vs i) (read-fields fs i)
+      λ i. then_field (bytes_at-code name i) (kind_at-code kind i) (read-values vs i) (read-fields fs i)
 
 abbrev pub coded_value : Coded ValueData
 coded_value =
