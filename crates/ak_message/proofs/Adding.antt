@@ -1,12 +1,12 @@
 -- What an addition makes of a list of fields.
-use Rattle.std.proofs.Common.{◌≡◌, ℕ, ◌+◌, ◌<◌, ◌≤◌, Bool, true, false, cond, eqb, ltb, ◌⊎◌, inl, inr, List, [], ◌∷◌, ◌++◌, length, get_or, set, Option, None, Some, refl, ap, sym, ◌∙◌, arith, tests, map, max}
+use Rattle.std.proofs.Common.{◌≡◌, ℕ, ◌<◌, Bool, true, false, cond, ◌⊎◌, inl, inr, List, [], ◌∷◌, ◌++◌, length, get_or, set, None, Some, refl, ap, sym, ◌∙◌, arith, tests}
 use Rattle.std.specs.List.{position_or_len, position}
 use Rattle.std.proofs.lemmas.List.{map-set, map-append}
 use Rattle.std.proofs.Math.Seq.{map-set_same}
 use Rattle.std.proofs.Math.ListN.{get_or-map}
 use Rattle.ak_message.specs.declared.message.Field.{Field}
-use Rattle.ak_message.specs.Message.{ValueData, FieldData, MessageData, kind_of, depth_of, depth_of_value, depth_of_nested_values, depth_of_nested_fields, nested_values, nested_fields}
-use Rattle.ak_message.specs.Fields.{is_named, field_named, added, new_field, with_value, add_fault, IsField, IsMessage, specifier_count, specifier_count_in}
+use Rattle.ak_message.specs.Message.{ValueData, FieldData}
+use Rattle.ak_message.specs.Fields.{is_named, field_named, added, new_field, with_value}
 use Rattle.ak_message.specs.Seen.{field_of, fields_of}
 
 module _ (name : List ℕ) (value : ValueData) where

@@ -1,21 +1,20 @@
 -- An addition that has no fault keeps what is true of every message.
-use Rattle.std.proofs.Common.{◌≡◌, ◌≢◌, ℕ, zero, suc, ◌+◌, ◌<◌, ◌≤◌, Bool, true, false, cond, eqb, ltb, IsTrue, ◌⊎◌, inl, inr, List, [], ◌∷◌, ◌++◌, length, get_or, set, codes, All, AllPairs, Option, None, Some, refl, ap, sym, subst, ◌∙◌, arith, tests, rules, map, max}
-use Rattle.std.specs.List.{position_or_len, position}
-use Rattle.std.proofs.lemmas.List.{get_or-set_other, get_or-set_same, length-set, length-append}
+use Rattle.std.proofs.Common.{◌≡◌, ◌≢◌, ℕ, zero, suc, ◌<◌, ◌≤◌, Bool, true, false, cond, ltb, inl, inr, List, [], ◌∷◌, ◌++◌, length, get_or, set, codes, AllPairs, Option, None, Some, refl, ap, sym, subst, ◌∙◌, arith, tests, max}
+use Rattle.std.specs.List.{position_or_len}
+use Rattle.std.proofs.lemmas.List.{length-set, length-append}
 use Rattle.std.proofs.lemmas.List.Elements.{All-set, All-push, All-cons, All-nil}
 use Rattle.std.proofs.lemmas.List.Sums.{fails_before_first}
 use Rattle.std.proofs.lemmas.Bool.{false≢true}
 use Rattle.std.proofs.lemmas.List.Quantifiers.{all_pairs_push}
 use Rattle.std.proofs.lemmas.Slice.Eq.{bytes_eq-Decides}
 use Rattle.ak_base.specs.Word.{is_word}
-use Rattle.ak_message.specs.declared.kind.Kind.{Kind}
 use Rattle.ak_message.specs.declared.kind.Kind.TheVariants as k
 use Rattle.ak_message.specs.declared.fault.AddFault.{AddFault}
 use Rattle.ak_message.specs.declared.fault.AddFault.TheVariants as add
 use Rattle.ak_message.specs.Kind.{is_same_kind, same_kind-is}
 use Rattle.ak_message.specs.Message.{ValueData, FieldData, MessageData, kind_of, depth_of, depth_of_value, depth_of_nested_values, depth_of_nested_fields, nested_values, nested_fields}
-use Rattle.ak_message.specs.Fields.{is_named, field_named, added, new_field, with_value, add_fault, place_fault, depth_fault, or_fault, IsField, IsMessage, specifier_count, specifier_count_in}
-use Rattle.ak_message.proofs.Adding.{IsNew, IsThere, added-cases}
+use Rattle.ak_message.specs.Fields.{is_named, field_named, added, new_field, with_value, add_fault, place_fault, depth_fault, or_fault, IsField, IsMessage, specifier_count_in}
+use Rattle.ak_message.proofs.Adding.{added-cases}
 
 -- ---- depth
 depth-push : (vs : List ValueData) (v : ValueData) → depth_of_nested_values (nested_values (vs ++ v ∷ [])) ≡ max (depth_of_nested_values (nested_values vs)) (depth_of_value v)

@@ -1,5 +1,5 @@
 -- A message stands deeper than each message in it.
-use Rattle.std.specs.Prelude.{◌≡◌, ℕ, ◌+◌, ◌≤◌, List, [], ◌∷◌, max, map}
+use Rattle.std.specs.Prelude.{◌+◌, ◌≤◌, List, [], ◌∷◌, map}
 use Rattle.std.proofs.Common.{arith}
 use denote.Param.Weighed.{most}
 use Rattle.ak_message.specs.declared.message.Message.TheInside.{Inside}
@@ -9,7 +9,7 @@ use Rattle.ak_message.specs.declared.message.Value.TheVariants as v
 use Rattle.ak_message.specs.declared.message.Field.{Field}
 use Rattle.ak_message.specs.Message.{depth_of, depth_of_value, depth_of_nested_values, nested_values, depth_of_nested_fields, nested_fields}
 use Rattle.ak_message.specs.Inside.{message_in, IsSound}
-use Rattle.ak_message.specs.Seen.{value_of, field_of, fields_of}
+use Rattle.ak_message.specs.Seen.{value_of, fields_of}
 
 child_size-of_value : (x : Value) → deep-Value x ≤ depth_of_value (value_of x) + 1
 child_size-of_value (v.Int32 n) = omega arith

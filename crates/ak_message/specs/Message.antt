@@ -1,7 +1,6 @@
 -- What contracts see of a message: a record with real lists. What a message holds as a value is spelled by data types
 -- of its own, since a list of its own kind cannot stand in a data type; the functions below turn one into the other.
-use Rattle.std.specs.Prelude.{◌≡◌, ℕ, ◌+◌, ℤ, max, List, [], ◌∷◌, refl}
-use Rattle.std.specs.Coded.{Coded, coded_ℕ}
+use Rattle.std.specs.Prelude.{ℕ, ◌+◌, ℤ, max, List, [], ◌∷◌}
 use Rattle.ak_message.specs.declared.kind.Kind.{Kind}
 use Rattle.ak_message.specs.declared.kind.Kind.TheVariants as k
 

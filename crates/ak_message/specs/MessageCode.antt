@@ -1,9 +1,8 @@
 -- How a proof tells messages apart: each has a code of its own, a tree of numbers.
 use Rattle.std.specs.Prelude.{◌≡◌, ℕ, zero, suc, ℤ, pos, negsuc, List, [], ◌∷◌, refl}
-use Rattle.std.specs.Coded.{Coded, coded_ℕ, code_by}
+use Rattle.std.specs.Coded.{Coded, code_by}
 use base.Stored.{Gv, gnil, gnum, gcons}
 use Rattle.std.proofs.Common.{sym, ◌∙◌, ap}
-use Rattle.ak_message.specs.declared.kind.Kind.{Kind}
 use Rattle.ak_message.specs.Kind.{code_of_kind, kind_at, kind_at-code}
 use Rattle.ak_message.specs.Message.{ValueData, int32_value, text_value, message_value, NestedValues, no_values, then_value, NestedFields, no_fields, then_field, FieldData, MessageData, nested_values, listed_values, nested_fields, listed_fields, value_of_message, message_of_nested}
 

@@ -1,9 +1,9 @@
 -- The printed text of a message, as 'RPLY' result=LONG:3 error=LONG:0
-use Rattle.std.specs.Prelude.{ℕ, ◌+◌, ◌/◌, ◌%◌, Bool, ◌&&◌, ◌||◌, ◌==◌, nat_lt, nat_le, if◌then◌else◌, List, [], ◌∷◌, ◌++◌, codes}
+use Rattle.std.specs.Prelude.{◌≡◌, ℕ, pos, negsuc, ◌+◌, ◌/◌, ◌%◌, Bool, ◌&&◌, ◌||◌, ◌==◌, nat_lt, nat_le, if◌then◌else◌, List, [], ◌∷◌, ◌++◌, codes, refl}
 use Rattle.std.specs.List.{list_all, flat_map}
 use Rattle.std.specs.Int.{w32, to_be_bytes}
-use Rattle.std.specs.Fmt.{signed_decimal}
-use Rattle.ak_message.specs.declared.kind.Kind.{Kind}
+use Rattle.std.specs.Fmt.{digits, signed_decimal}
+use Rattle.ak_message.specs.declared.kind.Kind.TheVariants as k
 use Rattle.ak_message.specs.Kind.{kind_letters}
 use Rattle.ak_message.specs.Message.{ValueData, int32_value, text_value, message_value, NestedValues, no_values, then_value, NestedFields, no_fields, then_field, MessageData, kind_of, nested_fields}
 
@@ -64,3 +64,31 @@ value_text v = kind_letters (kind_of v) ++ 58 ∷ payload_text v
 -- the code, and each field
 abbrev pub message_text : MessageData → List ℕ
 message_text m = code_text m.what ++ nested_fields_text (nested_fields m.fields)
+
+-- ---- two messages as they are printed
+pub reply_text
+    : message_text (record {
+      what = 0x52504c59;
+      fields = (record { name = codes "result"; kind = k.Int32; values = int32_value (pos 3) ∷ [] })
+          ∷ (record { name = codes "error"; kind = k.Int32; values = int32_value (pos 0) ∷ [] }) ∷ [];
+      popped = 0;
+    })
+    ≡ codes "'RPLY' result=LONG:3 error=LONG:0"
+unfolding digits
+reply_text = refl
+
+pub nested_text
+    : message_text (record {
+      what = 1;
+      fields = (record {
+        name = codes "m";
+        kind = k.Message;
+        values = message_value 0x5f504e4c (then_field (codes "n") k.Int32 (then_value (int32_value (negsuc 4)) no_values) no_fields) 0
+            ∷ message_value 0x7f000000 no_fields 0 ∷ [];
+      })
+          ∷ (record { name = codes "t"; kind = k.Text; values = text_value (97 ∷ 34 ∷ 92 ∷ 10 ∷ 127 ∷ []) ∷ [] }) ∷ [];
+      popped = 0;
+    })
+    ≡ codes "0x00000001 m=MSGG:{'_PNL' n=LONG:-5},MSGG:{0x7f000000} t=CSTR:\"a\\\"\\\\\\x0a\\x7f\""
+unfolding digits
+nested_text = refl

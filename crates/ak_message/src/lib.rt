@@ -9,4 +9,4 @@ mod message;
 
 pub use fault::{AddFault, FindFault};
 pub use kind::Kind;
-pub use message::{Field, Message, Value};
+pub use message::{DEPTH_LIMIT, FIELD_LIMIT, Field, Message, VALUE_LIMIT, Value};

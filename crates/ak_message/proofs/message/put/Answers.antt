@@ -1,4 +1,4 @@
-use Rattle.std.proofs.Common.{rules, arith}
+use Rattle.std.proofs.Common.{arith}
 use Rattle.std.proofs.lemmas.Grind.{common_steps}
 use Rattle.ak_message.proofs.Adding.{fields-unchanged, fields-added_at, fields-added_new}
 use Rattle.ak_message.proofs.message.put.Goals as goal
