@@ -75,3 +75,5 @@ fields-added_new fs name value g at h =
       | inl w ↦ map-append field_of fs (g ∷ []) ∙ ap (λ x. fields_of fs ++ x ∷ []) h ∙ sym w.after
       | inr w ↦ absurd (grind (arith, tests, no_place _ _ at, w.within))
     ]
+
+pub ruleset additions = (fields-unchanged, fields-added_at, fields-added_new)

@@ -1,7 +1,7 @@
 ghost use Rattle.std.specs.Prelude.{◌≡◌, [], length, position, Ok, Err, OnOk, OnErr, IfOk, option_map, IfSome, IfNone, IsOkUnless};
 ghost use Rattle.ak_message.specs.Message.{kind_of, depth_of_value};
 ghost use Rattle.ak_message.specs.Seen.{value_of, field_of, fields_of};
-ghost use Rattle.ak_message.specs.Fields.{added, add_fault, found_in, is_named, place_fault, field_named, new_field};
+ghost use Rattle.ak_message.specs.Fields.{added, add_fault, found_in, is_named, place_fault, field_named, new_field, with_value};
 ghost use Rattle.ak_message.specs.Finds.{Finds};
 
 use crate::fault::{AddFault, FindFault};
@@ -225,6 +225,7 @@ fn place_of(fields: &[Field], name: &[u8]) -> Option<usize>
 }
 
 // Adds a value that has been tested. After an `Err` the fields are seen as they were.
+#[tactic(auto, using(crate::proofs::Adding::additions))]
 fn put(fields: &mut Vec<Field>, name: &[u8], value: Value) -> Result<(), NoMemory>
     ensures ok { OnOk result (fields_of fields.new.items ≡ added (fields_of fields.old.items) name.now (value_of value)) }
     ensures err { OnErr result (fields_of fields.new.items ≡ fields_of fields.old.items) }
@@ -232,8 +233,7 @@ fn put(fields: &mut Vec<Field>, name: &[u8], value: Value) -> Result<(), NoMemor
     match place_of(fields.as_slice(), name) {
         Some(place) => {
             let field = &mut fields[place];
-            field.values.push(value)?;
-            Ok(())
+            field.push(value)
         }
         None => {
             let field = Field::with_value(*fields.allocator(), name, value)?;
@@ -257,6 +257,15 @@ impl Field {
             kind,
             values,
         })
+    }
+
+    // One more value, of its kind. After an `Err` the field is seen as it was.
+    fn push(&mut self, value: Value) -> Result<(), NoMemory>
+        ensures ok { OnOk result (field_of self.new ≡ with_value (field_of self.old) (value_of value)) }
+        ensures err { OnErr result (field_of self.new ≡ field_of self.old) }
+    {
+        self.values.push(value)?;
+        Ok(())
     }
 }
 
