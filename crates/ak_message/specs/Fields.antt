@@ -1,0 +1,84 @@
+-- The fields of a message: what an addition makes of them, why one is refused, and what is found.
+use Rattle.std.specs.Prelude.{◌≡◌, ◌≢◌, ℕ, ◌<◌, ◌≤◌, Bool, nat_lt, IsTrue, if◌then◌else◌, List, [], ◌∷◌, ◌++◌, length, codes, find, All, AllPairs, Option, None, Some, Result, Err, ok_or}
+use Rattle.std.specs.List.{slice_get}
+use Rattle.std.specs.Str.{bytes_eq}
+use Rattle.ak_base.specs.Word.{is_word}
+use Rattle.ak_message.specs.declared.kind.Kind.{Kind}
+use Rattle.ak_message.specs.declared.kind.Kind.TheVariants as k
+use Rattle.ak_message.specs.declared.fault.AddFault.{AddFault}
+use Rattle.ak_message.specs.declared.fault.AddFault.TheVariants as add
+use Rattle.ak_message.specs.declared.fault.FindFault.{FindFault}
+use Rattle.ak_message.specs.declared.fault.FindFault.TheVariants as missing
+use Rattle.ak_message.specs.Kind.{is_same_kind}
+use Rattle.ak_message.specs.Message.{ValueData, FieldData, MessageData, kind_of, depth_of, depth_of_value}
+
+abbrev pub is_named : List ℕ → FieldData → Bool
+is_named name f = bytes_eq f.name name
+
+-- the field of that name
+abbrev pub field_named : List FieldData → List ℕ → Option FieldData
+field_named fields name = find (is_named name) fields
+
+-- ---- adding
+abbrev pub new_field : List ℕ → ValueData → FieldData
+new_field name value = record { name = name; kind = kind_of value; values = value ∷ [] }
+
+abbrev pub with_value : FieldData → ValueData → FieldData
+with_value f value = record { name = f.name; kind = f.kind; values = f.values ++ value ∷ [] }
+
+-- at the end of the values of the field of that name, or as a new field at the end
+abbrev pub added : List FieldData → List ℕ → ValueData → List FieldData
+added [] name value = new_field name value ∷ []
+added (f ∷ fs) name value = if is_named name f then with_value f value ∷ fs else f ∷ added fs name value
+
+-- of so many fields, with this one of the name
+abbrev pub place_fault : ℕ → Option FieldData → Kind → Option AddFault
+place_fault count None kind = if nat_lt count 64 then None else Some add.FieldLimit
+place_fault count (Some f) kind =
+    if is_same_kind f.kind kind then (if nat_lt (length f.values) 255 then None else Some add.FieldLimit)
+    else Some add.BadType
+
+abbrev pub depth_fault : ValueData → Option AddFault
+depth_fault value = if nat_lt (depth_of_value value) 16 then None else Some add.TooDeep
+
+-- the first fault, or else the second one
+abbrev pub or_fault : Option AddFault → Option AddFault → Option AddFault
+or_fault (Some e) _ = Some e
+or_fault None e = e
+
+abbrev pub add_fault : List FieldData → List ℕ → ValueData → Option AddFault
+add_fault fields name value =
+    if is_word name then or_fault (place_fault (length fields) (field_named fields name) (kind_of value)) (depth_fault value)
+    else Some add.BadName
+
+-- ---- finding
+abbrev pub value_in : Option FieldData → Kind → ℕ → Result ValueData FindFault
+value_in None kind index = Err missing.NameNotFound
+value_in (Some f) kind index =
+    if is_same_kind f.kind kind then ok_or (slice_get f.values index) missing.BadIndex
+    else Err missing.BadType
+
+abbrev pub found_in : List FieldData → List ℕ → Kind → ℕ → Result ValueData FindFault
+found_in fields name kind index = value_in (field_named fields name) kind index
+
+-- ---- what is true of every message
+pub record IsField (f : FieldData) : Type 0 where
+  pub word : IsTrue (is_word f.name)
+  pub filled : 0 < length f.values
+  pub limit : length f.values ≤ 255
+  pub same_kind : All (λ v. kind_of v ≡ f.kind) f.values
+
+-- how many values stand in the field `specifiers` of messages
+abbrev pub specifier_count_in : Option FieldData → ℕ
+specifier_count_in None = 0
+specifier_count_in (Some f) = if is_same_kind f.kind k.Message then length f.values else 0
+
+abbrev pub specifier_count : List FieldData → ℕ
+specifier_count fields = specifier_count_in (field_named fields (codes "specifiers"))
+
+pub record IsMessage (m : MessageData) : Type 0 where
+  pub every_field : All IsField m.fields
+  pub names_differ : AllPairs (λ f g. f.name ≢ g.name) m.fields
+  pub limit : length m.fields ≤ 64
+  pub popped_within : m.popped ≤ specifier_count m.fields
+  pub depth_within : depth_of m ≤ 16

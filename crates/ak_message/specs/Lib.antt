@@ -1,0 +1,9 @@
+pub mod Falls
+pub mod Fields
+pub mod Finds
+pub mod Inside
+pub mod Kind
+pub mod Message
+pub mod MessageCode
+pub mod MessageText
+pub mod Seen

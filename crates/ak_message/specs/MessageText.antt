@@ -1,0 +1,94 @@
+-- The printed text of a message, as 'RPLY' result=LONG:3 error=LONG:0
+use Rattle.std.specs.Prelude.{◌≡◌, ℕ, pos, negsuc, ◌+◌, ◌/◌, ◌%◌, Bool, ◌&&◌, ◌||◌, ◌==◌, nat_lt, nat_le, if◌then◌else◌, List, [], ◌∷◌, ◌++◌, codes, refl}
+use Rattle.std.specs.List.{list_all, flat_map}
+use Rattle.std.specs.Int.{w32, to_be_bytes}
+use Rattle.std.specs.Fmt.{digits, signed_decimal}
+use Rattle.ak_message.specs.declared.kind.Kind.TheVariants as k
+use Rattle.ak_message.specs.Kind.{kind_letters}
+use Rattle.ak_message.specs.Message.{ValueData, int32_value, text_value, message_value, NestedValues, no_values, then_value, NestedFields, no_fields, then_field, MessageData, kind_of, nested_fields}
+
+-- a lower-case hex digit
+abbrev hex_digit : ℕ → ℕ
+hex_digit n = if nat_lt n 10 then 48 + n else 87 + n
+
+-- two lower-case hex digits
+abbrev pub hex_byte : ℕ → List ℕ
+hex_byte b = hex_digit (b / 16) ∷ hex_digit (b % 16) ∷ []
+
+-- TO BE REPLACED by Rattle.ak_base.specs.Code.{code_text}: the four bytes in single quotes where all can be printed,
+-- else eight hex digits
+abbrev is_printed : ℕ → Bool
+is_printed b = nat_le 32 b && nat_le b 126
+
+abbrev pub code_text : ℕ → List ℕ
+code_text code =
+    if list_all is_printed (to_be_bytes w32 code) then 39 ∷ to_be_bytes w32 code ++ 39 ∷ []
+    else codes "0x" ++ flat_map hex_byte (to_be_bytes w32 code)
+
+-- `"` and `\` have a `\` before them; a control byte is `\x` and two hex digits; every other byte stands as it is
+abbrev pub quoted_byte : ℕ → List ℕ
+quoted_byte b =
+    if b == 34 || b == 92 then 92 ∷ b ∷ []
+    else if (nat_le 1 b && nat_lt b 32) || b == 127 then codes "\\x" ++ hex_byte b
+    else b ∷ []
+
+-- in double quotes
+abbrev pub quoted : List ℕ → List ℕ
+quoted bytes = 34 ∷ flat_map quoted_byte bytes ++ 34 ∷ []
+
+-- ---- a value is its kind's letters, a colon and its payload
+abbrev mutual
+  pub payload_text : ValueData → List ℕ
+  payload_text (int32_value n) = signed_decimal n
+  payload_text (text_value bytes) = quoted bytes
+  payload_text (message_value what fields _) = 123 ∷ code_text what ++ nested_fields_text fields ++ 125 ∷ []
+
+  -- of values behind a first one
+  pub more_values_text : NestedValues → List ℕ
+  more_values_text no_values = []
+  more_values_text (then_value v vs) = 44 ∷ kind_letters (kind_of v) ++ 58 ∷ payload_text v ++ more_values_text vs
+
+  -- joined by commas
+  pub nested_values_text : NestedValues → List ℕ
+  nested_values_text no_values = []
+  nested_values_text (then_value v vs) = kind_letters (kind_of v) ++ 58 ∷ payload_text v ++ more_values_text vs
+
+  -- each a space, its name, `=` and its values
+  pub nested_fields_text : NestedFields → List ℕ
+  nested_fields_text no_fields = []
+  nested_fields_text (then_field name _ vs fs) = 32 ∷ name ++ 61 ∷ nested_values_text vs ++ nested_fields_text fs
+
+abbrev pub value_text : ValueData → List ℕ
+value_text v = kind_letters (kind_of v) ++ 58 ∷ payload_text v
+
+-- the code, and each field
+abbrev pub message_text : MessageData → List ℕ
+message_text m = code_text m.what ++ nested_fields_text (nested_fields m.fields)
+
+-- ---- two messages as they are printed
+pub reply_text
+    : message_text (record {
+      what = 0x52504c59;
+      fields = (record { name = codes "result"; kind = k.Int32; values = int32_value (pos 3) ∷ [] })
+          ∷ (record { name = codes "error"; kind = k.Int32; values = int32_value (pos 0) ∷ [] }) ∷ [];
+      popped = 0;
+    })
+    ≡ codes "'RPLY' result=LONG:3 error=LONG:0"
+unfolding digits
+reply_text = refl
+
+pub nested_text
+    : message_text (record {
+      what = 1;
+      fields = (record {
+        name = codes "m";
+        kind = k.Message;
+        values = message_value 0x5f504e4c (then_field (codes "n") k.Int32 (then_value (int32_value (negsuc 4)) no_values) no_fields) 0
+            ∷ message_value 0x7f000000 no_fields 0 ∷ [];
+      })
+          ∷ (record { name = codes "t"; kind = k.Text; values = text_value (97 ∷ 34 ∷ 92 ∷ 10 ∷ 127 ∷ []) ∷ [] }) ∷ [];
+      popped = 0;
+    })
+    ≡ codes "0x00000001 m=MSGG:{'_PNL' n=LONG:-5},MSGG:{0x7f000000} t=CSTR:\"a\\\"\\\\\\x0a\\x7f\""
+unfolding digits
+nested_text = refl

@@ -1,0 +1,12 @@
+//! Messages: a code and fields, each a name with one or more values of one kind, in the order of adding.
+//! A value may be a message itself, so a message is a tree, at most 16 messages deep.
+//! Contracts see a message as a record of lists. Nothing here waits, and nothing is shared.
+#![tactic(auto)]
+
+mod fault;
+mod kind;
+mod message;
+
+pub use fault::{AddFault, FindFault};
+pub use kind::Kind;
+pub use message::{DEPTH_LIMIT, FIELD_LIMIT, Field, Message, VALUE_LIMIT, Value};

@@ -1,0 +1,388 @@
+ghost use Rattle.std.specs.Prelude.{◌≡◌, [], length, position, Ok, Err, OnOk, OnErr, IfOk, option_map, IfSome, IfNone, IsOkUnless};
+ghost use Rattle.ak_message.specs.Message.{kind_of, depth_of_value};
+ghost use Rattle.ak_message.specs.Seen.{value_of, field_of, fields_of};
+ghost use Rattle.ak_message.specs.Fields.{added, add_fault, found_in, is_named, place_fault, field_named, new_field, with_value};
+ghost use Rattle.ak_message.specs.Finds.{Finds};
+
+use crate::fault::{AddFault, FindFault};
+use crate::kind::Kind;
+use ak_base::{Bytes, Code, NoMemory, Text, is_word};
+use std::alloc::Global;
+use std::marker::Model;
+
+/// How many fields a message may have.
+pub const FIELD_LIMIT: usize = 64;
+
+/// How many values a field may have.
+pub const VALUE_LIMIT: usize = 255;
+
+/// How deep messages may stand in one another.
+pub const DEPTH_LIMIT: u32 = 16;
+
+/// One value of a field. A message is boxed, since a value may hold messages in messages.
+#[cycle(message)]
+#[derive(Drop)]
+pub enum Value {
+    Int32(i32),
+    Text(Text),
+    Message(Box<Message>),
+}
+
+/// The values of one name, all of one kind.
+#[cycle(message)]
+#[derive(Drop)]
+pub struct Field {
+    name: Bytes,
+    kind: Kind,
+    values: Vec<Value>,
+}
+
+/// A code and fields in the order of adding.
+#[cycle(message)]
+#[derive(Drop)]
+pub struct Message {
+    what: Code,
+    fields: Vec<Field>,
+    // how many of the specifiers are popped, counted from the last
+    popped: u32,
+    // how deep messages stand in this one, itself counted
+    depth: u32,
+}
+
+impl Model for Message {
+    ghost use Rattle.ak_message.specs.Message.{MessageData, depth_of};
+    ghost use Rattle.ak_message.specs.MessageCode.{coded_message};
+
+    ghost Value = { MessageData };
+
+    ghost coded = { coded_message };
+
+    ghost use Rattle.ak_message.specs.Inside.{message_in, IsSound};
+
+    ghost view = { message_in };
+
+    ghost invariant = { IsSound };
+
+    ghost size = { depth_of };
+
+    ghost use Rattle.ak_message.specs.Falls.{child_size-falls};
+
+    ghost size_decreases = { child_size-falls };
+}
+
+impl Value {
+    pub fn kind(&self) -> Kind
+        ensures { result ≡ kind_of (value_of self.now) }
+    {
+        match self {
+            Value::Int32(_) => Kind::Int32,
+            Value::Text(_) => Kind::Text,
+            Value::Message(_) => Kind::Message,
+        }
+    }
+
+    // How deep messages stand in it: 0 where it is none.
+    fn depth(&self) -> u32
+        ensures { result ≡ depth_of_value (value_of self.now) }
+    {
+        match self {
+            Value::Message(message) => message.depth(),
+            _ => 0,
+        }
+    }
+}
+
+impl Message {
+    ghost use Rattle.ak_message.specs.Message.{depth_of};
+    ghost use Rattle.ak_message.specs.Fields.{IsMessage};
+
+    /// A message of this code, without fields. Takes no memory.
+    pub fn new(alloc: Global, what: Code) -> Message
+        ensures { result ≡ record { what = what.0; fields = []; popped = 0 } }
+    {
+        Message {
+            what,
+            fields: Vec::new(alloc),
+            popped: 0,
+            depth: 1,
+        }
+    }
+
+    pub fn what(&self) -> Code
+        ensures value { result.0 ≡ self.now.what }
+        ensures is_message { IsMessage self.now }
+    {
+        self.what
+    }
+
+    /// How many of its specifiers are popped, counted from the last.
+    pub fn popped(&self) -> u32
+        ensures { result ≡ self.now.popped }
+    {
+        self.popped
+    }
+
+    fn depth(&self) -> u32
+        ensures { result ≡ depth_of self.now }
+    {
+        self.depth
+    }
+
+    /// Adds the value at the end of the field of that name, or in a new field at the end. The faults are
+    /// tested in the order of `AddFault`. An `Err` changes nothing, and the value is dropped.
+    pub fn add(&mut self, name: &[u8], value: Value) -> Result<(), AddFault>
+        ensures refused { IfSome (add_fault self.old.fields name.now (value_of value)) (λ f. result ≡ Err f) }
+        ensures only { IfNone (add_fault self.old.fields name.now (value_of value)) (IsOkUnless result AddFault.NoMemory) }
+        ensures ok { OnOk result (self.new ≡ record self.old { fields = added self.old.fields name.now (value_of value) }) }
+        ensures err { OnErr result (self.new ≡ self.old) }
+    {
+        if let Some(fault) = self.add_fault(name, &value) {
+            return Err(fault);
+        }
+        let depth = value.depth();
+        put(&mut self.fields, name, value)?;
+        self.depth = self.depth.max(depth + 1);
+        Ok(())
+    }
+
+    // Why the value is not added, if memory is there.
+    fn add_fault(&self, name: &[u8], value: &Value) -> Option<AddFault>
+        ensures { result ≡ add_fault self.now.fields name.now (value_of value.now) }
+    {
+        if !is_word(name) {
+            return Some(AddFault::BadName);
+        }
+        if let Some(fault) = place_fault(&self.fields, name, value.kind()) {
+            return Some(fault);
+        }
+        if value.depth() >= DEPTH_LIMIT {
+            return Some(AddFault::TooDeep);
+        }
+        None
+    }
+
+    /// The value at that place of the field of that name and kind. The faults are tested in the order of
+    /// `FindFault`. Takes no memory.
+    pub fn find(&self, name: &[u8], kind: Kind, index: u32) -> Result<&Value, FindFault>
+        ensures { Finds result (found_in self.now.fields name.now kind index) }
+    {
+        let Some(field) = field_named(&self.fields, name) else {
+            return Err(FindFault::NameNotFound);
+        };
+        if field.kind != kind {
+            return Err(FindFault::BadType);
+        }
+        match field.values.get(index as usize) {
+            Some(value) => Ok(value),
+            None => Err(FindFault::BadIndex),
+        }
+    }
+}
+
+// Why no value of that kind has room in the field of that name.
+fn place_fault(fields: &[Field], name: &[u8], kind: Kind) -> Option<AddFault>
+    ensures { result ≡ place_fault (length fields.now) (field_named (fields_of fields.now) name.now) kind }
+{
+    let Some(field) = field_named(fields, name) else {
+        return if fields.len() >= FIELD_LIMIT {
+            Some(AddFault::FieldLimit)
+        } else {
+            None
+        };
+    };
+    if field.kind != kind {
+        return Some(AddFault::BadType);
+    }
+    if field.values.len() >= VALUE_LIMIT {
+        Some(AddFault::FieldLimit)
+    } else {
+        None
+    }
+}
+
+// The field of that name.
+fn field_named<'a>(fields: &'a [Field], name: &[u8]) -> Option<&'a Field>
+    ensures { option_map (λ f. field_of f.now) result ≡ field_named (fields_of fields.now) name.now }
+{
+    for field in fields {
+        if field.name.as_slice() == name {
+            return Some(field);
+        }
+    }
+    None
+}
+
+// Where the field of that name stands.
+fn place_of(fields: &[Field], name: &[u8]) -> Option<usize>
+    ensures { result ≡ position (is_named name.now) (fields_of fields.now) }
+{
+    for (place, field) in fields.iter().enumerate() {
+        if field.name.as_slice() == name {
+            return Some(place);
+        }
+    }
+    None
+}
+
+// Adds a value that has been tested. After an `Err` the fields are seen as they were.
+#[tactic(auto, using(crate::proofs::Adding::additions))]
+fn put(fields: &mut Vec<Field>, name: &[u8], value: Value) -> Result<(), NoMemory>
+    ensures ok { OnOk result (fields_of fields.new.items ≡ added (fields_of fields.old.items) name.now (value_of value)) }
+    ensures err { OnErr result (fields_of fields.new.items ≡ fields_of fields.old.items) }
+{
+    match place_of(fields.as_slice(), name) {
+        Some(place) => {
+            let field = &mut fields[place];
+            field.push(value)
+        }
+        None => {
+            let field = Field::with_value(*fields.allocator(), name, value)?;
+            fields.push(field)?;
+            Ok(())
+        }
+    }
+}
+
+impl Field {
+    fn with_value(alloc: Global, name: &[u8], value: Value) -> Result<Field, NoMemory>
+        ensures { IfOk result (λ f. field_of f ≡ new_field name.now (value_of value)) }
+    {
+        let kind = value.kind();
+        let mut bytes = Bytes::new(alloc);
+        bytes.extend(name)?;
+        let mut values = Vec::new(alloc);
+        values.push(value)?;
+        Ok(Field {
+            name: bytes,
+            kind,
+            values,
+        })
+    }
+
+    // One more value, of its kind. After an `Err` the field is seen as it was.
+    fn push(&mut self, value: Value) -> Result<(), NoMemory>
+        ensures ok { OnOk result (field_of self.new ≡ with_value (field_of self.old) (value_of value)) }
+        ensures err { OnErr result (field_of self.new ≡ field_of self.old) }
+    {
+        self.values.push(value)?;
+        Ok(())
+    }
+}
+
+#[cfg(test)]
+mod tests {
+    use super::*;
+    use std::test::Fail;
+
+    fn number(message: &Message, name: &[u8], index: u32) -> Option<i32> {
+        match message.find(name, Kind::Int32, index) {
+            Ok(Value::Int32(n)) => Some(*n),
+            _ => None,
+        }
+    }
+
+    fn boxed(alloc: Global, message: Message) -> Result<Value, AddFault> {
+        match Box::new(alloc, message) {
+            Ok(message) => Ok(Value::Message(message)),
+            Err(_) => Err(AddFault::NoMemory),
+        }
+    }
+
+    // Messages in one another, so many deep.
+    fn nested(alloc: Global, depth: u32) -> Result<Message, AddFault> {
+        let mut message = Message::new(alloc, Code(1));
+        for _ in 1..depth {
+            let mut outer = Message::new(alloc, Code(1));
+            outer.add(b"m", boxed(alloc, message)?)?;
+            message = outer;
+        }
+        Ok(message)
+    }
+
+    #[test]
+    fn values_are_found(rt: HostRuntime) -> Result<(), Fail> {
+        let alloc = rt.alloc();
+        let mut message = Message::new(alloc, Code(7));
+        message.add(b"a", Value::Text(Text::from_bytes(alloc, b"x")?))?;
+        message.add(b"n", Value::Int32(-5))?;
+        message.add(b"n", Value::Int32(6))?;
+        assert_eq!(rt; message.what(), Code(7));
+        assert_eq!(rt; message.popped(), 0);
+        assert_eq!(rt; number(&message, b"n", 0), Some(-5));
+        assert_eq!(rt; number(&message, b"n", 1), Some(6));
+        match message.find(b"a", Kind::Text, 0)? {
+            Value::Text(text) => assert_eq!(rt; text.as_str(), "x"),
+            _ => assert!(rt; false),
+        }
+        for (name, kind, index, fault) in [
+            ("a", Kind::Int32, 7, FindFault::BadType),
+            ("b", Kind::Int32, 0, FindFault::NameNotFound),
+            ("a", Kind::Text, 1, FindFault::BadIndex),
+            ("n", Kind::Int32, 2, FindFault::BadIndex),
+        ] {
+            assert_eq!(rt;
+                message.find(name.as_bytes(), kind, index).err(),
+                Some(fault)
+            );
+        }
+        Ok(())
+    }
+
+    #[test]
+    fn additions_are_refused(rt: HostRuntime) -> Result<(), Fail> {
+        let alloc = rt.alloc();
+        let mut message = Message::new(alloc, Code(1));
+        message.add(b"a", Value::Text(Text::from_bytes(alloc, b"x")?))?;
+        assert_eq!(rt; message.add(b"a", Value::Int32(5)), Err(AddFault::BadType));
+        assert_eq!(rt; message.add(b"", Value::Int32(5)), Err(AddFault::BadName));
+        assert_eq!(rt;
+            message.add(b"a b", Value::Int32(5)),
+            Err(AddFault::BadName)
+        );
+        Ok(())
+    }
+
+    #[test]
+    fn fields_and_values_are_limited(rt: HostRuntime) -> Result<(), Fail> {
+        let alloc = rt.alloc();
+        let mut message = Message::new(alloc, Code(1));
+        for name in b'0'..b'0' + 10 {
+            for more in b'a'..b'a' + 6 {
+                message.add(&[name, more], Value::Int32(1))?;
+            }
+        }
+        for name in [b"a", b"b", b"c", b"d"] {
+            message.add(name, Value::Int32(1))?;
+        }
+        assert_eq!(rt;
+            message.add(b"e", Value::Int32(1)),
+            Err(AddFault::FieldLimit)
+        );
+        for n in 1..255 {
+            message.add(b"a", Value::Int32(n))?;
+        }
+        assert_eq!(rt;
+            message.add(b"a", Value::Int32(1)),
+            Err(AddFault::FieldLimit)
+        );
+        assert_eq!(rt; number(&message, b"a", 254), Some(254));
+        Ok(())
+    }
+
+    #[test]
+    fn depth_is_limited(rt: HostRuntime) -> Result<(), Fail> {
+        let alloc = rt.alloc();
+        let deepest = nested(alloc, 16)?;
+        let mut message = Message::new(alloc, Code(1));
+        assert_eq!(rt;
+            message.add(b"m", boxed(alloc, deepest)?),
+            Err(AddFault::TooDeep)
+        );
+        assert_eq!(rt;
+            message.add(b"m", boxed(alloc, nested(alloc, 15)?)?),
+            Ok(())
+        );
+        assert_eq!(rt; message.find(b"m", Kind::Message, 0).is_ok(), true);
+        Ok(())
+    }
+}
