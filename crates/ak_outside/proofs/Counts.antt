@@ -1,5 +1,5 @@
 -- Counts of faults over several calls, one after the other.
-use Rattle.std.proofs.Common.{◌≡◌, ℕ, ◌≤◌, arith}
+use Rattle.std.proofs.Common.{ℕ, ◌≤◌, arith}
 use Rattle.ak_outside.specs.Faults.{Rose, Stayed}
 
 -- a count that rose in a later call rose

@@ -1,10 +1,10 @@
 -- What several reads or writes did, one after the other, is what one would have done.
-use Rattle.std.proofs.Common.{◌≡◌, ℕ, ◌+◌, ◌≤◌, List, ◌++◌, length, take, drop, sym, subst, ◌-◌, arith, length-append}
+use Rattle.std.proofs.Common.{◌≡◌, ℕ, ◌+◌, List, ◌++◌, length, take, drop, sym, subst, ◌-◌, arith, length-append, Result, Ok, Err, OnErr}
 use Rattle.std.proofs.lemmas.List.{take-append-le}
 use Rattle.std.proofs.lemmas.Grind.{common_steps}
 use Rattle.std.specs.Prelude.{Option}
 use Rattle.std.proofs.Math.Seq.{take-add, take-append-add}
-use Rattle.std.proofs.KnownBytes.{Appends-trans, Appends-kept, Consumes-trans, Consumes-kept}
+use Rattle.std.proofs.KnownBytes.{Appends-trans, Consumes-trans}
 use Rattle.std.specs.Io.KnownBytes.{Appends, Consumes}
 use Rattle.ak_outside.specs.Source.{ConsumesAtMost}
 use Rattle.ak_outside.specs.Sink.{AppendsPart}
@@ -42,7 +42,14 @@ AppendsPart-before a b front rest part = (
   subst (Appends a b) (sym (take-append-le part.0 front rest (omega (arith, part.1)))) part.2,
 )
 
+-- what holds at each exit holds at the exit by an `Err`
+pub OnErr-always : {T E P : Type 0} (r : Result T E) → P → OnErr r P
+OnErr-always (Ok x) p = tt
+OnErr-always (Err e) p = p
+
 -- some bytes more, within what is left of the limit
 pub ConsumesAtMost-after : (a b c : Option (List ℕ)) (bytes : List ℕ) (room most : ℕ) → Consumes a b bytes → length bytes + room ≡ most → ConsumesAtMost room b c → ConsumesAtMost most a c
 ConsumesAtMost-after a b c bytes room most first counted more =
     (bytes ++ more.0, omega (arith, more.1, length-append bytes more.0), Consumes-trans a b c bytes more.0 first more.2)
+
+pub ruleset joins = (OnErr-always, Appends-joined, Appends-take, AppendsPart-after, AppendsPart-before, Consumes-joined, ConsumesAtMost-after)

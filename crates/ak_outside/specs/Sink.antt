@@ -1,5 +1,5 @@
 -- What writing does to what a sink was given.
-use Rattle.std.specs.Prelude.{◌≡◌, ℕ, ◌<◌, ◌≤◌, List, Option, length, take}
+use Rattle.std.specs.Prelude.{ℕ, ◌<◌, ◌≤◌, List, Option, length, take}
 use Rattle.std.specs.Io.KnownBytes.{Appends, Keeps}
 use Rattle.ak_outside.specs.declared.sink.SinkWrite.{SinkWrite}
 use Rattle.ak_outside.specs.declared.sink.SinkWrite.TheVariants.{Wrote, Failed}

@@ -86,3 +86,62 @@ fn read_piece<S: Source>(source: &mut S, room: usize, bytes: &mut Bytes) -> Resu
         SourceRead::Failed => Err(ReadFault::Failed),
     }
 }
+
+#[cfg(test)]
+mod tests {
+    use super::*;
+    use crate::text_source::TextSource;
+    use std::test::Fail;
+
+    // This many bytes, none of which is like the one before it.
+    fn text(alloc: Global, n: u32) -> Result<Bytes, NoMemory> {
+        let mut bytes = Bytes::new(alloc);
+        for i in 0..n {
+            bytes.push((i % 251) as u8)?;
+        }
+        Ok(bytes)
+    }
+
+    #[test]
+    fn reads_to_the_end_or_past_the_limit(rt: HostRuntime) -> Result<(), Fail> {
+        // the text's length, the limit, the call that is refused, or 0, and the length that is read
+        let rows = [
+            (0, 0, 0, Some(0)),
+            (1, 0, 0, Some(1)),
+            (2, 0, 0, Some(1)),
+            (10_000, 20_000, 0, Some(10_000)),
+            (10_000, 10_001, 0, Some(10_000)),
+            (10_000, 10_000, 0, Some(10_000)),
+            (10_000, 9_999, 0, Some(10_000)),
+            (10_000, 9_998, 0, Some(9_999)),
+            (10_000, 4_095, 0, Some(4_096)),
+            (10_000, 4_096, 0, Some(4_097)),
+            // three reads give the text, and where there is room a fourth finds its end
+            (10_000, 20_000, 1, None),
+            (10_000, 20_000, 2, None),
+            (10_000, 20_000, 4, None),
+            (10_000, 20_000, 5, Some(10_000)),
+            (10_000, 9_999, 4, Some(10_000)),
+        ];
+        for (length, limit, refused, want) in rows {
+            let whole = text(rt.alloc(), length)?;
+            let fails = vec![in rt.alloc(); refused]?;
+            let mut source = TextSource::new(text(rt.alloc(), length)?, fails);
+            match read_all(rt.alloc(), &mut source, limit) {
+                Ok(bytes) => {
+                    assert_eq!(rt;
+                        Some(bytes.as_slice().len()),
+                        want,
+                        "{length} {limit} {refused}"
+                    );
+                    assert!(rt; whole.as_slice().starts_with(bytes.as_slice()));
+                }
+                Err(fault) => {
+                    assert_eq!(rt; fault, ReadFault::Failed);
+                    assert_eq!(rt; want, None, "{length} {limit} {refused}");
+                }
+            }
+        }
+        Ok(())
+    }
+}

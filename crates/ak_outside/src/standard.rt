@@ -84,3 +84,82 @@ impl<W: Write> Sink for StdSink<W> {
         }
     }
 }
+
+#[cfg(test)]
+mod tests {
+    use super::*;
+    use std::io;
+    use std::io::ErrorKind;
+    use std::test::Fail;
+
+    // Fails at each call.
+    #[derive(Drop)]
+    struct Broken;
+
+    impl Read for Broken {
+        fn read(&mut self, _buf: &mut [u8]) -> io::Result<usize> {
+            Err(io::Error::from(ErrorKind::Other))
+        }
+    }
+
+    impl Write for Broken {
+        fn write(&mut self, _buf: &[u8]) -> io::Result<usize> {
+            Err(io::Error::from(ErrorKind::Other))
+        }
+
+        fn flush(&mut self) -> io::Result<()> {
+            Ok(())
+        }
+    }
+
+    // Takes nothing, and does not call that an error.
+    #[derive(Drop)]
+    struct Full;
+
+    impl Write for Full {
+        fn write(&mut self, _buf: &[u8]) -> io::Result<usize> {
+            Ok(0)
+        }
+
+        fn flush(&mut self) -> io::Result<()> {
+            Ok(())
+        }
+    }
+
+    #[test]
+    fn reads_from_the_system(rt: HostRuntime) {
+        let mut buf = [0u8; 2];
+
+        let mut source = StdSource::new(b"abc".as_slice());
+        assert_eq!(rt; source.read(&mut buf), SourceRead::Read(2));
+        assert_eq!(rt; buf, *b"ab");
+        assert_eq!(rt; source.read(&mut buf), SourceRead::Read(1));
+        assert_eq!(rt; buf, *b"cb");
+        assert_eq!(rt; source.read(&mut buf), SourceRead::Read(0));
+        assert_eq!(rt; source.failed, 0);
+
+        let mut source = StdSource::new(Broken);
+        assert_eq!(rt; source.read(&mut buf), SourceRead::Failed);
+        assert_eq!(rt; source.read(&mut buf), SourceRead::Failed);
+        assert_eq!(rt; source.failed, 2);
+    }
+
+    #[test]
+    fn writes_to_the_system(rt: HostRuntime) -> Result<(), Fail> {
+        let mut kept = Vec::new(rt.alloc());
+        let mut sink = StdSink::new(&mut kept);
+        assert_eq!(rt; sink.write(b"ab"), SinkWrite::Wrote(2));
+        assert_eq!(rt; sink.write(b"c"), SinkWrite::Wrote(1));
+        assert_eq!(rt; sink.failed, 0);
+        assert_eq!(rt; kept.as_slice(), b"abc".as_slice());
+
+        let mut sink = StdSink::new(Broken);
+        assert_eq!(rt; sink.write(b"ab"), SinkWrite::Failed);
+        assert_eq!(rt; sink.failed, 1);
+
+        let mut sink = StdSink::new(Full);
+        assert_eq!(rt; sink.write(b"ab"), SinkWrite::Failed);
+        assert_eq!(rt; sink.failed, 1);
+        Ok(())
+    }
+}

@@ -37,3 +37,42 @@ pub fn write_all<K: Sink>(sink: &mut K, piece: &[u8]) -> Result<(), WriteFailed>
     }
     Ok(())
 }
+
+#[cfg(test)]
+mod tests {
+    use super::*;
+    use crate::list_sink::ListSink;
+    use std::test::Fail;
+
+    // Takes one byte at a time.
+    #[derive(Drop)]
+    struct Narrow {
+        list: ListSink,
+    }
+
+    impl Sink for Narrow {
+        ghost faults = { λ s. s.list.calls.faults };
+
+        fn write(&mut self, piece: &[u8]) -> SinkWrite {
+            self.list.write(&piece[..1])
+        }
+    }
+
+    #[test]
+    fn writes_the_whole_piece(rt: HostRuntime) -> Result<(), Fail> {
+        let mut sink = ListSink::new(rt.alloc(), vec![in rt.alloc(); 2]?);
+        assert_eq!(rt; write_all(&mut sink, b"ab"), Ok(()));
+        assert_eq!(rt; write_all(&mut sink, b""), Ok(()));
+        assert_eq!(rt; write_all(&mut sink, b"cd"), Err(WriteFailed));
+        assert_eq!(rt; write_all(&mut sink, b"ef"), Ok(()));
+        assert_eq!(rt; sink.written(), b"abef".as_slice());
+
+        let list = ListSink::new(rt.alloc(), vec![in rt.alloc(); 6]?);
+        let mut sink = Narrow { list };
+        assert_eq!(rt; write_all(&mut sink, b"abc"), Ok(()));
+        assert_eq!(rt; write_all(&mut sink, b""), Ok(()));
+        assert_eq!(rt; write_all(&mut sink, b"defg"), Err(WriteFailed));
+        assert_eq!(rt; sink.list.written(), b"abcde".as_slice());
+        Ok(())
+    }
+}
