@@ -51,5 +51,3 @@ OnErr-always (Err e) p = p
 pub ConsumesAtMost-after : (a b c : Option (List ℕ)) (bytes : List ℕ) (room most : ℕ) → Consumes a b bytes → length bytes + room ≡ most → ConsumesAtMost room b c → ConsumesAtMost most a c
 ConsumesAtMost-after a b c bytes room most first counted more =
     (bytes ++ more.0, omega (arith, more.1, length-append bytes more.0), Consumes-trans a b c bytes more.0 first more.2)
-
-pub ruleset joins = (OnErr-always, Appends-joined, Appends-take, AppendsPart-after, AppendsPart-before, Consumes-joined, ConsumesAtMost-after)

@@ -1,4 +1,4 @@
-ghost use Rattle.std.specs.Prelude.{◌≡◌, ◌<◌, ◌≤◌, [], length, Some};
+ghost use Rattle.std.specs.Prelude.{◌≡◌, ◌≢◌, ◌<◌, ◌≤◌, [], length, Some};
 ghost use Rattle.ak_outside.specs.Calls.{no_calls};
 ghost use Rattle.ak_outside.specs.Faults.{Rose};
 ghost use Rattle.ak_outside.specs.ListSink.{WritesList};
@@ -58,6 +58,7 @@ impl Sink for ListSink {
         ensures bytes { Writes (Some self.old.written) (Some self.new.written) piece.now result }
         ensures never_falls { self.old.calls.faults ≤ self.new.calls.faults }
         ensures cause { result ≡ SinkWrite.Failed → Rose self.old.calls.faults self.new.calls.faults }
+        ensures kept { result ≢ SinkWrite.Failed → self.new.calls.faults ≡ self.old.calls.faults }
         ensures exact { WritesList self.old self.new piece.now result }
     {
         if self.log.refuses_next() {

@@ -52,6 +52,7 @@ pub fn read_all<S: Source>(alloc: Global, source: &mut S, limit: u32) -> Result<
     ensures err { OnErr result (ConsumesAtMost (limit + 1) (S.left source.old) (S.left source.new)) }
     ensures cause { IsErrOf result ReadFault.Failed → Rose (S.faults source.old) (S.faults source.new) }
     ensures never_falls { S.faults source.old ≤ S.faults source.new }
+    ensures kept { ¬ IsErrOf result ReadFault.Failed → S.faults source.new ≡ S.faults source.old }
 {
     let mut bytes = Bytes::new(alloc);
     let mut room = limit as usize + 1;
@@ -75,6 +76,7 @@ fn read_piece<S: Source>(source: &mut S, room: usize, bytes: &mut Bytes) -> Resu
     ensures err { OnErr result (ConsumesAtMost room (S.left source.old) (S.left source.new)) }
     ensures cause { IsErrOf result ReadFault.Failed → Rose (S.faults source.old) (S.faults source.new) }
     ensures never_falls { S.faults source.old ≤ S.faults source.new }
+    ensures kept { ¬ IsErrOf result ReadFault.Failed → S.faults source.new ≡ S.faults source.old }
 {
     let mut buffer = [0u8; PIECE];
     let piece = &mut buffer[..room.min(PIECE)];

@@ -1,4 +1,4 @@
-ghost use Rattle.std.specs.Prelude.{◌≡◌, ◌<◌, ◌≤◌, ℕ, List, Option, None, length};
+ghost use Rattle.std.specs.Prelude.{◌≡◌, ◌≢◌, ◌<◌, ◌≤◌, ℕ, List, Option, None, length};
 ghost use Rattle.ak_outside.specs.Faults.{Rose};
 ghost use Rattle.ak_outside.specs.Sink.{Writes};
 
@@ -24,5 +24,6 @@ pub trait Sink {
         requires { 0 < length piece.now }
         ensures bytes { Writes (written self.old) (written self.new) piece.now result }
         ensures never_falls { faults self.old ≤ faults self.new }
-        ensures cause { result ≡ SinkWrite.Failed → Rose (faults self.old) (faults self.new) };
+        ensures cause { result ≡ SinkWrite.Failed → Rose (faults self.old) (faults self.new) }
+        ensures kept { result ≢ SinkWrite.Failed → faults self.new ≡ faults self.old };
 }

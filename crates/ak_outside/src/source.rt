@@ -1,4 +1,4 @@
-ghost use Rattle.std.specs.Prelude.{◌≡◌, ◌<◌, ◌≤◌, ℕ, List, Option, None, length};
+ghost use Rattle.std.specs.Prelude.{◌≡◌, ◌≢◌, ◌<◌, ◌≤◌, ℕ, List, Option, None, length};
 ghost use Rattle.ak_outside.specs.Faults.{Rose};
 ghost use Rattle.ak_outside.specs.Source.{Reads};
 
@@ -24,5 +24,6 @@ pub trait Source {
         requires { 0 < length buf.old }
         ensures bytes { Reads (left self.old) (left self.new) buf.new result }
         ensures never_falls { faults self.old ≤ faults self.new }
-        ensures cause { result ≡ SourceRead.Failed → Rose (faults self.old) (faults self.new) };
+        ensures cause { result ≡ SourceRead.Failed → Rose (faults self.old) (faults self.new) }
+        ensures kept { result ≢ SourceRead.Failed → faults self.new ≡ faults self.old };
 }

@@ -1,4 +1,4 @@
-ghost use Rattle.std.specs.Prelude.{◌≡◌, ◌<◌, ◌≤◌, length, Some};
+ghost use Rattle.std.specs.Prelude.{◌≡◌, ◌≢◌, ◌<◌, ◌≤◌, length, Some};
 ghost use Rattle.ak_outside.specs.Calls.{no_calls};
 ghost use Rattle.ak_outside.specs.Faults.{Rose};
 ghost use Rattle.ak_outside.specs.Source.{Reads};
@@ -54,6 +54,7 @@ impl Source for TextSource {
         ensures bytes { Reads (Some self.old.left) (Some self.new.left) buf.new result }
         ensures never_falls { self.old.calls.faults ≤ self.new.calls.faults }
         ensures cause { result ≡ SourceRead.Failed → Rose self.old.calls.faults self.new.calls.faults }
+        ensures kept { result ≢ SourceRead.Failed → self.new.calls.faults ≡ self.old.calls.faults }
         ensures exact { ReadsText self.old self.new buf.new result }
     {
         if self.log.refuses_next() {

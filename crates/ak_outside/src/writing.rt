@@ -27,6 +27,7 @@ pub fn write_all<K: Sink>(sink: &mut K, piece: &[u8]) -> Result<(), WriteFailed>
     ensures err { OnErr result (AppendsPart (K.written sink.old) (K.written sink.new) piece.now) }
     ensures cause { OnErr result (Rose (K.faults sink.old) (K.faults sink.new)) }
     ensures never_falls { K.faults sink.old ≤ K.faults sink.new }
+    ensures kept { OnOk result (K.faults sink.new ≡ K.faults sink.old) }
 {
     let mut taken = 0;
     while taken < piece.len() {

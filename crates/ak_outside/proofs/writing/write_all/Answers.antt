@@ -7,5 +7,5 @@ pub loop-taken-preserved : goal.loop-taken-preserved
 loop-taken-preserved g c = record {
   in_piece = grind arith;
   appended = Appends-take _ _ _ _ _ _ c.loop-taken.invariant.appended (rw take-rest at c.in-Wrote.ensures.bytes.2);
-  never_falls = omega (arith, c.in-Wrote.ensures.never_falls);
+  kept = grind (arith, c.in-Wrote.ensures.kept);
 }
