@@ -1,0 +1,6 @@
+pub mod Calls
+pub mod Faults
+pub mod ListSink
+pub mod Sink
+pub mod Source
+pub mod TextSource

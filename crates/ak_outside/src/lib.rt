@@ -1,0 +1,22 @@
+//! The outside: where the program's bytes come from and where they go. A `Source` and a `Sink` count
+//! their faults, and a fault is answered only where that count rose. What one has left or has written
+//! is told by those in memory and by no real one, and clauses on content hold where it is told.
+//! `read_all` and `write_all` are the ways through, with a limit for what comes in.
+#![tactic(auto)]
+
+mod call_log;
+mod list_sink;
+mod reading;
+mod sink;
+mod source;
+mod standard;
+mod text_source;
+mod writing;
+
+pub use list_sink::ListSink;
+pub use reading::{ReadFault, read_all};
+pub use sink::{Sink, SinkWrite};
+pub use source::{Source, SourceRead};
+pub use standard::{StdSink, StdSource};
+pub use text_source::TextSource;
+pub use writing::{WriteFailed, write_all};

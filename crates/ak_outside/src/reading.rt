@@ -1,0 +1,149 @@
+ghost use Rattle.std.specs.Prelude.{◌≡◌, ◌+◌, ◌<◌, ◌≤◌, length, IfOk, OnErr, IsErrOf};
+ghost use Rattle.std.specs.Io.KnownBytes.{Consumes, IsAtEnd};
+ghost use Rattle.ak_outside.specs.Faults.{Rose};
+ghost use Rattle.ak_outside.specs.Source.{AddsPiece, ConsumesAtMost};
+
+use crate::source::{Source, SourceRead};
+use ak_base::{Bytes, NoMemory};
+use std::alloc::Global;
+use std::error::Error;
+use std::fmt;
+
+/// Why a source was not read to its end.
+#[derive(Clone, Copy, Debug, PartialEq, Eq)]
+pub enum ReadFault {
+    /// A read failed, and the source counted a fault.
+    Failed,
+    NoMemory,
+}
+
+impl fmt::Display for ReadFault {
+    fn fmt<W: fmt::Write>(&self, f: &mut fmt::Formatter<W>) -> fmt::Result {
+        match self {
+            ReadFault::Failed => f.write_str("a read failed"),
+            ReadFault::NoMemory => f.write_str("no memory"),
+        }
+    }
+}
+
+impl Error for ReadFault {}
+
+impl From<NoMemory> for ReadFault {
+    ghost use Rattle.std.specs.Prelude.{◌≡◌};
+    ghost use Rattle.ak_outside.specs.declared.reading.ReadFault.TheVariants.{NoMemory};
+
+    ghost from_gives = { λ _ e. e ≡ NoMemory };
+
+    fn from(_error: NoMemory) -> ReadFault {
+        ReadFault::NoMemory
+    }
+}
+
+// The most that one read is asked for, in bytes.
+const PIECE: usize = 4096;
+
+/// Reads until the source ends, or until `limit` + 1 bytes were read, so that an answer longer than
+/// `limit` says that there was too much. Never reads more than that. A read that fails ends it.
+pub fn read_all<S: Source>(alloc: Global, source: &mut S, limit: u32) -> Result<Bytes, ReadFault>
+    ensures read { IfOk result (λ bytes. Consumes (S.left source.old) (S.left source.new) bytes) }
+    ensures bound { IfOk result (λ bytes. length bytes ≤ limit + 1) }
+    ensures end { IfOk result (λ bytes. length bytes ≤ limit → IsAtEnd (S.left source.new)) }
+
+    ensures err { OnErr result (ConsumesAtMost (limit + 1) (S.left source.old) (S.left source.new)) }
+    ensures cause { IsErrOf result ReadFault.Failed → Rose (S.faults source.old) (S.faults source.new) }
+    ensures never_falls { S.faults source.old ≤ S.faults source.new }
+    ensures kept { ¬ IsErrOf result ReadFault.Failed → S.faults source.new ≡ S.faults source.old }
+{
+    let mut bytes = Bytes::new(alloc);
+    let mut room = limit as usize + 1;
+    while room > 0 {
+        let n = read_piece(source, room, &mut bytes)?;
+        if n == 0 {
+            return Ok(bytes);
+        }
+        room -= n;
+    }
+    Ok(bytes)
+}
+
+// Reads once, at most `room` bytes, and adds them to `bytes`. Gives how many came: none only at the
+// source's end.
+fn read_piece<S: Source>(source: &mut S, room: usize, bytes: &mut Bytes) -> Result<usize, ReadFault>
+    requires { 0 < room }
+    ensures ok { IfOk result (AddsPiece (S.left source.old) (S.left source.new) bytes.old bytes.new) }
+    ensures bound { IfOk result (λ n. n ≤ room) }
+
+    ensures err { OnErr result (ConsumesAtMost room (S.left source.old) (S.left source.new)) }
+    ensures cause { IsErrOf result ReadFault.Failed → Rose (S.faults source.old) (S.faults source.new) }
+    ensures never_falls { S.faults source.old ≤ S.faults source.new }
+    ensures kept { ¬ IsErrOf result ReadFault.Failed → S.faults source.new ≡ S.faults source.old }
+{
+    let mut buffer = [0u8; PIECE];
+    let piece = &mut buffer[..room.min(PIECE)];
+    match source.read(piece) {
+        SourceRead::Read(n) => {
+            bytes.extend(&piece[..n])?;
+            Ok(n)
+        }
+        SourceRead::Failed => Err(ReadFault::Failed),
+    }
+}
+
+#[cfg(test)]
+mod tests {
+    use super::*;
+    use crate::text_source::TextSource;
+    use std::test::Fail;
+
+    // This many bytes, none of which is like the one before it.
+    fn text(alloc: Global, n: u32) -> Result<Bytes, NoMemory> {
+        let mut bytes = Bytes::new(alloc);
+        for i in 0..n {
+            bytes.push((i % 251) as u8)?;
+        }
+        Ok(bytes)
+    }
+
+    #[test]
+    fn reads_to_the_end_or_past_the_limit(rt: HostRuntime) -> Result<(), Fail> {
+        // the text's length, the limit, the call that is refused, or 0, and the length that is read
+        let rows = [
+            (0, 0, 0, Some(0)),
+            (1, 0, 0, Some(1)),
+            (2, 0, 0, Some(1)),
+            (10_000, 20_000, 0, Some(10_000)),
+            (10_000, 10_001, 0, Some(10_000)),
+            (10_000, 10_000, 0, Some(10_000)),
+            (10_000, 9_999, 0, Some(10_000)),
+            (10_000, 9_998, 0, Some(9_999)),
+            (10_000, 4_095, 0, Some(4_096)),
+            (10_000, 4_096, 0, Some(4_097)),
+            // three reads give the text, and where there is room a fourth finds its end
+            (10_000, 20_000, 1, None),
+            (10_000, 20_000, 2, None),
+            (10_000, 20_000, 4, None),
+            (10_000, 20_000, 5, Some(10_000)),
+            (10_000, 9_999, 4, Some(10_000)),
+        ];
+        for (length, limit, refused, want) in rows {
+            let whole = text(rt.alloc(), length)?;
+            let fails = vec![in rt.alloc(); refused]?;
+            let mut source = TextSource::new(text(rt.alloc(), length)?, fails);
+            match read_all(rt.alloc(), &mut source, limit) {
+                Ok(bytes) => {
+                    assert_eq!(rt;
+                        Some(bytes.as_slice().len()),
+                        want,
+                        "{length} {limit} {refused}"
+                    );
+                    assert!(rt; whole.as_slice().starts_with(bytes.as_slice()));
+                }
+                Err(fault) => {
+                    assert_eq!(rt; fault, ReadFault::Failed);
+                    assert_eq!(rt; want, None, "{length} {limit} {refused}");
+                }
+            }
+        }
+        Ok(())
+    }
+}
