@@ -1,4 +1,4 @@
-ghost use Rattle.std.specs.Prelude.{◌≡◌, ◌<◌, ◌≤◌, ◌^◌, ◌∷◌, ◌++◌, ℕ, ℤ, pos, length, IfSome, IfNone, OnOk, OnErr};
+ghost use Rattle.std.specs.Prelude.{◌≡◌, ◌<◌, ◌≤◌, ◌^◌, ◌∷◌, ◌++◌, ℕ, ℤ, pos, neg_ℤ, length, IfSome, IfNone, OnOk, OnErr, IsTrue, ◌↔◌, slice_index};
 ghost use Rattle.std.specs.Fmt.{decimal, signed_decimal};
 ghost use Rattle.std.specs.Str.Parse.{AllDigits, digits_value};
 ghost use Rattle.ak_base.specs.Number.{IsIntText, OneIntText, PrintedIntsAreRead};
@@ -42,7 +42,7 @@ pub fn read_int(b: &[u8]) -> Option<i128>
     }
 }
 
-// The number below 0 whose digits stand after the `-`. There is no `-0`.
+// The number below 0 whose digits stand after the `-`.
 fn read_below_zero(digits: &[u8]) -> Option<i128>
     ensures found { IfSome result (λ z. IsIntText (45 ∷ digits.now) z) }
     ensures none { IfNone result ((z : ℤ) → IsIntText (45 ∷ digits.now) z → ⊥) }
@@ -50,6 +50,15 @@ fn read_below_zero(digits: &[u8]) -> Option<i128>
     let Some(n) = read_digits(digits) else {
         return None;
     };
+    below_zero(n)
+}
+
+// The number that is this much below 0. There is no `-0`.
+fn below_zero(n: u128) -> Option<i128>
+    requires { n < 10 ^ 20 }
+    ensures found { IfSome result (λ z. (0 < n) × (z ≡ neg_ℤ (pos n))) }
+    ensures none { IfNone result (n ≡ 0) }
+{
     if n == 0 { None } else { Some(-(n as i128)) }
 }
 
@@ -66,10 +75,17 @@ fn read_digits(b: &[u8]) -> Option<u128>
     ensures below { IfSome result (λ n. n < 10 ^ 20) }
     ensures none { IfNone result ((n : ℕ) → b.now ≡ decimal n → length b.now ≤ 20 → ⊥) }
 {
-    if b.is_empty() || b.len() > DIGITS_LIMIT || (b[0] == b'0' && b.len() > 1) {
+    if b.is_empty() || b.len() > DIGITS_LIMIT || has_leading_zero(b) {
         return None;
     }
     value_of_digits(b)
+}
+
+// A zero stands first, and more follows.
+fn has_leading_zero(b: &[u8]) -> bool
+    ensures { IsTrue result ↔ ((1 < length b.now) × (slice_index b.now 0 ≡ 48)) }
+{
+    b.len() > 1 && b[0] == b'0'
 }
 
 // The number that the digits write, leading zeros or not.

@@ -1,10 +1,10 @@
-use Rattle.std.proofs.Common.{◌≡◌, ℕ, ◌≤◌, length, arith, ◌∙◌, sym, ap}
+use Rattle.std.proofs.Common.{◌≡◌, ℕ, ◌≤◌, length, arith, ◌∙◌, sym, ap, refl}
 use Rattle.std.specs.Fmt.{decimal}
 use Rattle.std.proofs.lemmas.Option.{IfSome_then}
 use Rattle.ak_base.proofs.Digits.{form_of, decimal_from_digits}
 use Rattle.ak_base.proofs.Numbers.{IfNone_then}
 use Rattle.ak_base.proofs.number.read_digits.Goals as goal
-use Rattle.ak_base.proofs.number.read_digits.Goals.{then-is_empty-via-then-is_empty, then-is_empty-via-else-is_empty+then-b-gt-DIGITS_LIMIT, then-is_empty-via-else-is_empty+else-b-gt-DIGITS_LIMIT+then-b-gt1}
+use Rattle.ak_base.proofs.number.read_digits.Goals.{then-is_empty-via-then-is_empty, then-is_empty-via-else-is_empty+then-b-gt-DIGITS_LIMIT, then-is_empty-via-else-is_empty+else-b-gt-DIGITS_LIMIT+then-has_leading_zero}
 
 pub returns-then-is_empty-clause-none : goal.returns-then-is_empty-clause-none
 returns-then-is_empty-clause-none c = λ n e short.
@@ -12,7 +12,8 @@ returns-then-is_empty-clause-none c = λ n e short.
     elim c.then-is_empty.branch [
       | then-is_empty-via-then-is_empty w ↦ grind (arith, f.some)
       | then-is_empty-via-else-is_empty+then-b-gt-DIGITS_LIMIT w ↦ omega arith
-      | then-is_empty-via-else-is_empty+else-b-gt-DIGITS_LIMIT+then-b-gt1 w ↦ omega (arith, f.lead w.if-b-gt1.true.0)
+      | then-is_empty-via-else-is_empty+else-b-gt-DIGITS_LIMIT+then-has_leading_zero w ↦
+          let z = w.if-has_leading_zero.ensures.0 refl in omega (arith, z, f.lead z.1)
     ]
 
 pub returns-clause-found : goal.returns-clause-found
