@@ -3,6 +3,7 @@ use Rattle.std.specs.Prelude.{◌≡◌, ℕ, pos, negsuc, ◌+◌, ◌/◌, ◌
 use Rattle.std.specs.List.{list_all, flat_map}
 use Rattle.std.specs.Int.{w32, to_be_bytes}
 use Rattle.std.specs.Fmt.{digits, signed_decimal}
+use Rattle.ak_base.specs.Code.{code_text}
 use Rattle.ak_message.specs.declared.kind.Kind.TheVariants as k
 use Rattle.ak_message.specs.Kind.{kind_letters}
 use Rattle.ak_message.specs.Message.{ValueData, int32_value, text_value, message_value, NestedValues, no_values, then_value, NestedFields, no_fields, then_field, MessageData, kind_of, nested_fields}
@@ -14,16 +15,6 @@ hex_digit n = if nat_lt n 10 then 48 + n else 87 + n
 -- two lower-case hex digits
 abbrev pub hex_byte : ℕ → List ℕ
 hex_byte b = hex_digit (b / 16) ∷ hex_digit (b % 16) ∷ []
-
--- TO BE REPLACED by Rattle.ak_base.specs.Code.{code_text}: the four bytes in single quotes where all can be printed,
--- else eight hex digits
-abbrev is_printed : ℕ → Bool
-is_printed b = nat_le 32 b && nat_le b 126
-
-abbrev pub code_text : ℕ → List ℕ
-code_text code =
-    if list_all is_printed (to_be_bytes w32 code) then 39 ∷ to_be_bytes w32 code ++ 39 ∷ []
-    else codes "0x" ++ flat_map hex_byte (to_be_bytes w32 code)
 
 -- `"` and `\` have a `\` before them; a control byte is `\x` and two hex digits; every other byte stands as it is
 abbrev pub quoted_byte : ℕ → List ℕ
@@ -74,7 +65,7 @@ pub reply_text
       popped = 0;
     })
     ≡ codes "'RPLY' result=LONG:3 error=LONG:0"
-unfolding digits
+unfolding code_text digits
 reply_text = refl
 
 pub nested_text
@@ -90,5 +81,5 @@ pub nested_text
       popped = 0;
     })
     ≡ codes "0x00000001 m=MSGG:{'_PNL' n=LONG:-5},MSGG:{0x7f000000} t=CSTR:\"a\\\"\\\\\\x0a\\x7f\""
-unfolding digits
+unfolding code_text digits
 nested_text = refl
