@@ -231,10 +231,7 @@ fn put(fields: &mut Vec<Field>, name: &[u8], value: Value) -> Result<(), NoMemor
     ensures err { OnErr result (fields_of fields.new.items ≡ fields_of fields.old.items) }
 {
     match place_of(fields.as_slice(), name) {
-        Some(place) => {
-            let field = &mut fields[place];
-            field.push(value)
-        }
+        Some(place) => fields[place].push(value),
         None => {
             let field = Field::with_value(*fields.allocator(), name, value)?;
             fields.push(field)?;
