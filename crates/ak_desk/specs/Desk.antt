@@ -1,5 +1,5 @@
 -- A desk: its properties, and all that was dispatched.
-use Rattle.std.specs.Prelude.{◌≡◌, ℕ, ℤ, List, [], ◌∷◌, ◌++◌, length, refl}
+use Rattle.std.specs.Prelude.{ℕ, ℤ, List, [], ◌∷◌, ◌++◌, length, refl}
 use Rattle.std.specs.Coded.{Coded, code_by, coded×, coded_list, coded_ℕ, coded_ℤ}
 use Rattle.ak_message.specs.Message.{MessageData}
 use Rattle.ak_message.specs.MessageCode.{coded_message}

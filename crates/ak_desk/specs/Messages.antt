@@ -1,5 +1,5 @@
 -- The messages of the first path.
-use Rattle.std.specs.Prelude.{◌≡◌, ℕ, ℤ, pos, List, [], ◌∷◌, codes}
+use Rattle.std.specs.Prelude.{ℕ, ℤ, pos, List, [], ◌∷◌, codes}
 use Rattle.ak_base.specs.Code.{code_of}
 use Rattle.ak_message.specs.declared.kind.Kind.{Kind}
 use Rattle.ak_message.specs.declared.kind.Kind.TheVariants as k

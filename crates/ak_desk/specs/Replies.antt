@@ -1,9 +1,8 @@
 -- The reply that a desk with these properties makes for a message.
-use Rattle.std.specs.Prelude.{◌≡◌, ℕ, ℤ, ◌==◌, Bool, true, false, List, codes, Option, Some, None, Result, Ok, Err, option_and_then, if◌then◌else◌}
+use Rattle.std.specs.Prelude.{ℕ, ℤ, ◌==◌, Bool, true, false, List, codes, Option, Some, None, Result, Ok, Err, option_and_then, if◌then◌else◌}
 use Rattle.ak_base.specs.Code.{code_of}
 use Rattle.ak_message.specs.declared.kind.Kind.TheVariants as k
 use Rattle.ak_message.specs.declared.fault.FindFault.{FindFault}
-use Rattle.ak_message.specs.declared.fault.FindFault.TheVariants as missing
 use Rattle.ak_message.specs.Message.{ValueData, MessageData, int32_value, text_value, message_value, message_of_nested}
 use Rattle.ak_message.specs.Fields.{found_in}
 use Rattle.ak_desk.specs.Messages.{value_reply, no_reply, not_understood}

@@ -1,7 +1,13 @@
+pub mod Answers
+pub mod Command
+pub mod Complete
+pub mod Ends
 pub mod Fronts
 pub mod Grammar
 pub mod GrammarFields
 pub mod GrammarLines
 pub mod Loops
 pub mod Numbers
+pub mod Progress
+pub mod ReadScript
 pub mod Words

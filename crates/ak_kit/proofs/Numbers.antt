@@ -1,6 +1,6 @@
 -- The text of a number of 32 bits is read as that number.
-use Rattle.std.proofs.Common.{◌≡◌, ℕ, suc, ◌<◌, ◌≤◌, ◌^◌, Bool, true, false, ◌&&◌, List, [], ◌∷◌, ◌++◌, length, drop, ℤ, pos, negsuc, neg_ℤ, Option, Some, None, refl, sym, ap, ◌∙◌, subst, arith, rules}
-use Rattle.std.specs.Prelude.{int_le, unsigned_abs, codes, IfSome, IfNone}
+use Rattle.std.proofs.Common.{◌≡◌, ℕ, suc, ◌≤◌, Bool, true, false, ◌&&◌, List, length, ℤ, pos, negsuc, neg_ℤ, Option, Some, None, refl, sym, ap, ◌∙◌, arith, rules}
+use Rattle.std.specs.Prelude.{int_le, unsigned_abs, codes}
 use Rattle.std.specs.Str.{bytes_eq}
 use Rattle.std.specs.Str.Parse.{digits_value}
 use Rattle.std.specs.Fmt.{decimal, signed_decimal}
@@ -8,7 +8,6 @@ use Rattle.std.proofs.lemmas.Fmt.{decimal_is_IsNumeral_wide}
 use Rattle.std.proofs.lemmas.Slice.Eq.{bytes_eq-Decides}
 use Rattle.ak_base.specs.Number.{IsIntText}
 use Rattle.ak_base.proofs.Digits.{below_from_short, short_from_below, decimal-ne_minus}
-use Rattle.ak_kit.specs.FirstInput.{begins_with}
 use Rattle.ak_kit.specs.Reading.{where_true, int_value, is_int32, int32_of}
 use Rattle.ak_kit.proofs.Fronts.{not_begins}
 use Rattle.ak_kit.proofs.Words.{both_true}

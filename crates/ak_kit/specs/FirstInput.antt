@@ -1,6 +1,6 @@
 -- The inputs that are run: one application with one looper, its properties, its launch, and lines that get one property each.
-use Rattle.std.specs.Prelude.{◌≡◌, ℕ, ◌≤◌, ◌+◌, ◌++◌, Bool, true, false, not, ◌&&◌, ◌||◌, ◌==◌, nat_lt, List, [], ◌∷◌, length, codes, ℤ, FitsSigned}
-use Rattle.std.specs.List.{list_all, list_any, flat_map, starts_with, ends_with, after_last}
+use Rattle.std.specs.Prelude.{◌≡◌, ℕ, ◌≤◌, ◌++◌, Bool, true, not, ◌&&◌, ◌||◌, ◌==◌, nat_lt, List, [], ◌∷◌, length, codes, ℤ, FitsSigned}
+use Rattle.std.specs.List.{list_all, flat_map, starts_with, ends_with, after_last}
 use Rattle.std.specs.Int.{w32}
 use Rattle.std.specs.Str.{bytes_eq}
 use Rattle.std.specs.Fmt.{decimal, signed_decimal}
@@ -103,3 +103,11 @@ pub record IsFirstInput (input : List ℕ) (s : Script) : Type 0 where
   pub short : length input ≤ 1048576
   pub script : IsScript s
   pub text : input ≡ spelling s
+
+-- the input is the text of no script that is run
+abbrev pub IsNoScript : List ℕ → Type 0
+IsNoScript input = (s : Script) → IsFirstInput input s → ⊥
+
+-- the input is the text of a script with these properties and words
+abbrev pub IsTextOf : List (List ℕ × ℤ) → List (List ℕ) → List ℕ → Type 0
+IsTextOf rows asked input = (s : Script) × IsFirstInput input s × (rows ≡ s.rows) × (asked ≡ s.asked)

@@ -1,5 +1,7 @@
 pub mod FirstInput
+pub mod Kit
 pub mod Reading
 pub mod Reply
 pub mod Run
 pub mod Seen
+pub mod Steps

@@ -1,5 +1,5 @@
 -- Reading such an input from its front: each reader answers what it read and the bytes after it, or nothing.
-use Rattle.std.specs.Prelude.{ℕ, zero, suc, ◌+◌, ◌++◌, Bool, not, ◌&&◌, ◌||◌, ◌==◌, List, [], ◌∷◌, length, take, drop, codes, ℤ, pos, negsuc, neg_ℤ, unsigned_abs, int_le, Option, Some, None, option_and_then, if◌then◌else◌}
+use Rattle.std.specs.Prelude.{ℕ, zero, suc, ◌++◌, Bool, not, ◌&&◌, ◌||◌, ◌==◌, List, [], ◌∷◌, length, take, drop, codes, ℤ, pos, negsuc, neg_ℤ, unsigned_abs, int_le, Option, Some, None, option_and_then, if◌then◌else◌}
 use Rattle.std.specs.Option.{option_map_or}
 use Rattle.std.specs.List.{prefix_len}
 use Rattle.std.specs.Str.{bytes_eq}

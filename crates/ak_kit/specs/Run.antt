@@ -1,9 +1,10 @@
 -- What the run of a script does: its steps, each with the entry that the desk gets and the line that is written.
-use Rattle.std.specs.Prelude.{◌≡◌, ℕ, ℤ, ◌+◌, ◌-◌, ◌<◌, ◌≤◌, List, [], ◌∷◌, ◌++◌, length, take, map, codes}
+use Rattle.std.specs.Prelude.{ℕ, ℤ, ◌+◌, List, [], ◌∷◌, ◌++◌, map, codes}
 use Rattle.std.specs.List.{flat_map}
 use Rattle.ak_desk.specs.declared.desk.FirstEntry.{FirstEntry}
 use Rattle.ak_desk.specs.Desk.{entry_of}
 use Rattle.ak_desk.specs.Messages.{get_of, ready_to_run}
+use Rattle.ak_message.specs.Message.{MessageData}
 use Rattle.ak_message.specs.MessageText.{message_text}
 
 pub record Step : Type 0 where
@@ -14,14 +15,14 @@ pub record Step : Type 0 where
 abbrev pub launch_step : List (List ℕ × ℤ) → Step
 launch_step rows = record { entry = entry_of rows 0 ready_to_run; line = codes "launch team 1" ++ 10 ∷ [] }
 
-abbrev pub reply_line : FirstEntry → List ℕ
-reply_line entry = codes "reply " ++ message_text entry.reply ++ 10 ∷ []
+abbrev pub reply_text_line : MessageData → List ℕ
+reply_text_line reply = codes "reply " ++ message_text reply ++ 10 ∷ []
 
 -- a hey line: the desk gets the message that gets the property, and the reply is written
 abbrev pub hey_step : List (List ℕ × ℤ) → ℕ → List ℕ → Step
 hey_step rows position property =
     let entry = entry_of rows position (get_of property) in
-    record { entry = entry; line = reply_line entry }
+    record { entry = entry; line = reply_text_line entry.reply }
 
 abbrev pub hey_steps : List (List ℕ × ℤ) → ℕ → List (List ℕ) → List Step
 hey_steps rows position [] = []

@@ -1,13 +1,14 @@
 //! Reads an input from its front. Each reader answers what it read and the bytes after it, or nothing.
 
-ghost use Rattle.std.specs.Prelude.{◌≡◌, ◌==◌, ℕ, List, length, take, drop, not, Option, IfOk, IfSome, OnErr, None, ◌≤◌, true};
+ghost use Rattle.std.specs.Prelude.{◌≡◌, ◌==◌, ℕ, List, length, take, drop, not, Option, IfOk, IfSome, IsErrOf, OnErr, None, ◌≤◌, true};
 ghost use Rattle.std.specs.Option.{option_map};
 ghost use Rattle.std.specs.List.{suffix_len, list_any};
 ghost use Rattle.std.specs.Str.{bytes_eq};
 ghost use Rattle.ak_base.specs.Word as word;
-ghost use Rattle.ak_kit.specs.FirstInput.{name_of, is_path, is_signature, is_mode, is_reserved, is_askable, names_differ};
+ghost use Rattle.ak_kit.specs.FirstInput.{IsTextOf, IsNoScript, name_of, is_path, is_signature, is_mode, is_reserved, is_askable, names_differ};
 ghost use Rattle.ak_kit.specs.Reading as reads;
 ghost use Rattle.ak_kit.specs.Reading.{where_true};
+ghost use Rattle.ak_desk.specs.Rows.{IsRows};
 ghost use Rattle.ak_kit.specs.Seen.{Gives, seen, pair_of, seen_script, parts_of};
 
 use crate::fault::ScriptFault;
@@ -19,6 +20,9 @@ use std::alloc::Global;
 const ROW_LIMIT: usize = 64;
 
 const HEY_LIMIT: usize = 7999;
+
+/// The longest input, in bytes.
+pub(crate) const INPUT_LIMIT: usize = 1_048_576;
 
 #[tactic(auto, unfolding(crate::specs::Reading::after))]
 fn after<'a>(bytes: &'a [u8], front: &[u8]) -> Option<&'a [u8]>
@@ -288,9 +292,8 @@ fn opening(bytes: &[u8]) -> Option<(&[u8], &[u8])>
     Some((path, looper(rest)?))
 }
 
-/// The script that the input is the text of.
 #[tactic(auto, unfolding(crate::specs::Reading::script_of))]
-pub(crate) fn script(alloc: Global, input: &[u8]) -> Result<FirstScript, ScriptFault>
+fn script(alloc: Global, input: &[u8]) -> Result<FirstScript, ScriptFault>
     ensures { Gives seen_script result (option_map parts_of (reads.script_of input.now)) }
 {
     let Some((path, rest)) = opening(input) else {
@@ -302,4 +305,16 @@ pub(crate) fn script(alloc: Global, input: &[u8]) -> Result<FirstScript, ScriptF
         return Err(ScriptFault::NotYet);
     }
     Ok(FirstScript { rows, asked })
+}
+
+/// The script that the input is the text of.
+pub(crate) fn read_script(alloc: Global, input: &[u8]) -> Result<FirstScript, ScriptFault>
+    ensures found { IfOk result (λ script. IsTextOf script.rows.items script.asked.items input.now) }
+    ensures rows { IfOk result (λ script. IsRows script.rows.items) }
+    ensures none { IsErrOf result ScriptFault.NotYet → IsNoScript input.now }
+{
+    if input.len() > INPUT_LIMIT {
+        return Err(ScriptFault::NotYet);
+    }
+    script(alloc, input)
 }

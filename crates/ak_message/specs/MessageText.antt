@@ -1,7 +1,6 @@
 -- The printed text of a message, as 'RPLY' result=LONG:3 error=LONG:0
-use Rattle.std.specs.Prelude.{◌≡◌, ℕ, pos, negsuc, ◌+◌, ◌/◌, ◌%◌, Bool, ◌&&◌, ◌||◌, ◌==◌, nat_lt, nat_le, if◌then◌else◌, List, [], ◌∷◌, ◌++◌, codes, refl}
-use Rattle.std.specs.List.{list_all, flat_map}
-use Rattle.std.specs.Int.{w32, to_be_bytes}
+use Rattle.std.specs.Prelude.{◌≡◌, ℕ, pos, negsuc, ◌+◌, ◌/◌, ◌%◌, ◌&&◌, ◌||◌, ◌==◌, nat_lt, nat_le, if◌then◌else◌, List, [], ◌∷◌, ◌++◌, codes, refl}
+use Rattle.std.specs.List.{flat_map}
 use Rattle.std.specs.Fmt.{digits, signed_decimal}
 use Rattle.ak_base.specs.Code.{code_text}
 use Rattle.ak_message.specs.declared.kind.Kind.TheVariants as k

@@ -1,4 +1,4 @@
-use Rattle.std.proofs.Common.{◌≡◌, sym, ap, ◌∙◌, Some}
+use Rattle.std.proofs.Common.{sym, ap, ◌∙◌, Some}
 use Rattle.ak_message.specs.Message.{MessageData}
 use Rattle.ak_desk.proofs.Nested.{message_back}
 use Rattle.ak_desk.proofs.desk.first_specifier.Goals as goal

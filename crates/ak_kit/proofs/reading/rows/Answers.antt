@@ -1,4 +1,4 @@
-use Rattle.std.proofs.Common.{◌≡◌, sym}
+use Rattle.std.proofs.Common.{sym}
 use Rattle.std.proofs.lemmas.Result.{err_from_is_err_and}
 use Rattle.ak_kit.specs.Reading.{rows_at}
 use Rattle.ak_kit.proofs.Loops.{rows_go_on, row_fails, rows_stop, rows_end}

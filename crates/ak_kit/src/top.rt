@@ -1,0 +1,203 @@
+ghost use Rattle.std.specs.Prelude.{◌≡◌, ◌≢◌, ◌≤◌, [], ◌↔◌, ◌⊎◌, ℕ, List, Some, IfSome, IfOk, IsTrue};
+ghost use Rattle.ak_outside.specs.Faults.{Rose, Stayed};
+ghost use Rattle.ak_desk.specs.Rows.{IsRows};
+ghost use Rattle.ak_kit.specs.FirstInput.{Script, IsFirstInput, IsNoScript, IsTextOf};
+ghost use Rattle.ak_kit.specs.Run.{entries_of};
+ghost use Rattle.ak_kit.specs.Steps.{IsFrontOf};
+ghost use Rattle.ak_kit.specs.Kit as kit;
+
+use crate::fault::ScriptFault;
+use crate::reading::{INPUT_LIMIT, read_script};
+use crate::run::carry_out;
+use crate::script::FirstScript;
+use crate::stopped::Stopped;
+use ak_base::{Bytes, Ending, Items, RefusalKind, Text};
+use ak_desk::{Desk, FirstEntry};
+use ak_outside::{ReadFault, Sink, Source, read_all, write_all};
+use std::alloc::Global;
+
+/// What a run did: the properties and the words of its script, and all that its desk dispatched.
+#[derive(Drop)]
+pub struct FirstRun {
+    pub rows: Items<(Text, i32)>,
+    pub asked: Items<Text>,
+    pub desk: Items<FirstEntry>,
+}
+
+/// How the program ends, with the run where an input was read and was a script.
+#[derive(Drop)]
+pub struct KitEnd {
+    pub status: u8,
+    pub ending: Ending,
+    pub run: Option<FirstRun>,
+}
+
+fn status_of(ending: Ending) -> u8
+    ensures { result ≡ kit.status_of ending }
+{
+    match ending {
+        Ending::Done => 0,
+        Ending::Usage => 1,
+        Ending::Refused { .. } => 2,
+        Ending::ReadFault => 3,
+        Ending::WriteFault => 4,
+        Ending::ThreadFault => 5,
+        Ending::NoMemory => 6,
+    }
+}
+
+fn ending_of(stopped: Stopped) -> Ending
+    ensures { result ≡ kit.ending_of stopped }
+{
+    match stopped {
+        Stopped::WriteFault => Ending::WriteFault,
+        Stopped::NoMemory => Ending::NoMemory,
+    }
+}
+
+fn closing_line(ending: Ending) -> &'static [u8]
+    ensures { result.now ≡ kit.closing_line ending }
+{
+    match ending {
+        Ending::Done | Ending::WriteFault => b"",
+        Ending::Usage => b"usage: kit run\n",
+        Ending::Refused { .. } => b"refused line 0: not yet\n",
+        Ending::ReadFault => b"read fault\n",
+        Ending::ThreadFault => b"thread fault\n",
+        Ending::NoMemory => b"no memory\n",
+    }
+}
+
+// Whether the words after the program's name are the one command.
+fn is_run(words: &[Bytes]) -> bool
+    ensures { IsTrue result ↔ (words.now ≡ kit.run_words) }
+{
+    match words {
+        [word] => word.as_slice() == b"run".as_slice(),
+        _ => false,
+    }
+}
+
+// Writes the closing line. Where the sink fails, the rest of it is missing, and nothing else changes.
+fn write_closing<K: Sink>(sink: &mut K, line: &[u8])
+    ensures line { kit.Closes [] line.now (K.written sink.old) (K.written sink.new) (Rose (K.faults sink.old) (K.faults sink.new)) }
+    ensures never_falls { K.faults sink.old ≤ K.faults sink.new }
+{
+    let _ = write_all(sink, line);
+}
+
+fn close<K: Sink>(sink: &mut K, ending: Ending, run: Option<FirstRun>) -> KitEnd
+    ensures status { result.status ≡ kit.status_of ending }
+    ensures ending { result.ending ≡ ending }
+    ensures run { result.run ≡ run }
+    ensures line { kit.Closes [] (kit.closing_line ending) (K.written sink.old) (K.written sink.new) (Rose (K.faults sink.old) (K.faults sink.new)) }
+    ensures never_falls { K.faults sink.old ≤ K.faults sink.new }
+{
+    write_closing(sink, closing_line(ending));
+    KitEnd {
+        status: status_of(ending),
+        ending,
+        run,
+    }
+}
+
+fn run_script<K: Sink>(alloc: Global, script: FirstScript, sink: &mut K) -> KitEnd
+    requires { IsRows script.rows.items }
+    ensures status { result.status ≡ kit.status_of result.ending }
+    ensures ending { kit.IsRunEnding result.ending }
+    ensures run { IfSome result.run (λ run. (run.rows ≡ script.rows.items) × (run.asked ≡ script.asked.items)) }
+    ensures entries { IfSome result.run (λ run. IsFrontOf run.desk (entries_of (kit.run_steps run))) }
+    ensures written { kit.Writes result.ending result.run (K.written sink.old) (K.written sink.new) (Rose (K.faults sink.old) (K.faults sink.new)) }
+    ensures write_fault { result.ending ≡ Ending.WriteFault → Rose (K.faults sink.old) (K.faults sink.new) }
+    ensures never_falls { K.faults sink.old ≤ K.faults sink.new }
+{
+    let FirstScript { rows, asked } = script;
+    let Ok(mut desk) = Desk::first(alloc, rows) else {
+        return close(sink, Ending::NoMemory, None);
+    };
+    let carried = carry_out(alloc, &asked, &mut desk, sink);
+    let (rows, entries) = desk.into_parts();
+    let run = Some(FirstRun {
+        rows,
+        asked: Items::from_vec(asked),
+        desk: entries,
+    });
+    match carried {
+        Ok(()) => close(sink, Ending::Done, run),
+        Err(stopped) => close(sink, ending_of(stopped), run),
+    }
+}
+
+fn run_input<K: Sink>(alloc: Global, input: &[u8], sink: &mut K) -> KitEnd
+    ensures status { result.status ≡ kit.status_of result.ending }
+    ensures ending { kit.IsInputEnding result.ending }
+    ensures refused { result.ending ≡ kit.not_yet → IsNoScript input.now }
+    ensures run { IfSome result.run (λ run. IsTextOf run.rows run.asked input.now) }
+    ensures entries { IfSome result.run (λ run. IsFrontOf run.desk (entries_of (kit.run_steps run))) }
+    ensures written { kit.Writes result.ending result.run (K.written sink.old) (K.written sink.new) (Rose (K.faults sink.old) (K.faults sink.new)) }
+    ensures write_fault { result.ending ≡ Ending.WriteFault → Rose (K.faults sink.old) (K.faults sink.new) }
+    ensures never_falls { K.faults sink.old ≤ K.faults sink.new }
+{
+    match read_script(alloc, input) {
+        Ok(script) => run_script(alloc, script, sink),
+        Err(ScriptFault::NotYet) => close(
+            sink,
+            Ending::Refused {
+                line: 0,
+                kind: RefusalKind::NotYet,
+            },
+            None,
+        ),
+        Err(ScriptFault::NoMemory) => close(sink, Ending::NoMemory, None),
+    }
+}
+
+/// The program: reads the source to its end, runs the script that the input is the text of, and writes
+/// to the sink what comes of each statement, and a closing line where it ends otherwise. Waits for nobody.
+///
+/// Of a source and a sink that tell nothing, the clauses on bytes say that there are such bytes.
+pub fn kit<S: Source, K: Sink>(
+    alloc: Global,
+    words: &[Bytes],
+    source: &mut S,
+    sink: &mut K,
+) -> KitEnd
+    ensures status { result.status ≡ kit.status_of result.ending }
+    ensures endings { kit.IsFirstEnding result.ending }
+
+    // The words.
+    ensures usage { (result.ending ≡ Ending.Usage) ↔ (words.now ≢ kit.run_words) }
+    ensures usage_reads_nothing { result.ending ≡ Ending.Usage → source.new ≡ source.old }
+
+    // The input.
+    ensures refused { result.ending ≡ kit.not_yet → kit.SomeInput IsNoScript (S.left source.old) (S.left source.new) }
+    ensures run { IfSome result.run (λ run. kit.SomeInput (IsTextOf run.rows run.asked) (S.left source.old) (S.left source.new)) }
+
+    // What the desk made of it, and what was written.
+    ensures entries { IfSome result.run (λ run. IsFrontOf run.desk (entries_of (kit.run_steps run))) }
+    ensures written { kit.Writes result.ending result.run (K.written sink.old) (K.written sink.new) (Rose (K.faults sink.old) (K.faults sink.new)) }
+
+    // A fault has its cause.
+    ensures read_fault { result.ending ≡ Ending.ReadFault → Rose (S.faults source.old) (S.faults source.new) }
+    ensures write_fault { result.ending ≡ Ending.WriteFault → Rose (K.faults sink.old) (K.faults sink.new) }
+    ensures source_never_falls { S.faults source.old ≤ S.faults source.new }
+    ensures sink_never_falls { K.faults sink.old ≤ K.faults sink.new }
+
+    // Nothing but memory keeps a script from being run to its end.
+    ensures complete { words.now ≡ kit.run_words
+        → Stayed (S.faults source.old) (S.faults source.new)
+        → Stayed (K.faults sink.old) (K.faults sink.new)
+        → (input : List ℕ) (script : Script)
+        → S.left source.old ≡ Some input
+        → IsFirstInput input script
+        → (result.ending ≡ Ending.Done) ⊎ (result.ending ≡ Ending.NoMemory) }
+{
+    if !is_run(words) {
+        return close(sink, Ending::Usage, None);
+    }
+    match read_all(alloc, source, INPUT_LIMIT as u32) {
+        Ok(input) => run_input(alloc, input.as_slice(), sink),
+        Err(ReadFault::Failed) => close(sink, Ending::ReadFault, None),
+        Err(ReadFault::NoMemory) => close(sink, Ending::NoMemory, None),
+    }
+}
