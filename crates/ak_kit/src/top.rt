@@ -183,7 +183,14 @@ pub fn kit<S: Source, K: Sink>(
     ensures source_never_falls { S.faults source.old ≤ S.faults source.new }
     ensures sink_never_falls { K.faults sink.old ≤ K.faults sink.new }
 
-    // Nothing but memory keeps a script from being run to its end.
+    // Nothing but memory keeps an input that is no script from being refused, and a script from being run
+    // to its end.
+    ensures refuses { words.now ≡ kit.run_words
+        → Stayed (S.faults source.old) (S.faults source.new)
+        → (input : List ℕ)
+        → S.left source.old ≡ Some input
+        → IsNoScript input
+        → (result.ending ≡ kit.not_yet) ⊎ (result.ending ≡ Ending.NoMemory) }
     ensures complete { words.now ≡ kit.run_words
         → Stayed (S.faults source.old) (S.faults source.new)
         → Stayed (K.faults sink.old) (K.faults sink.new)
