@@ -1,4 +1,4 @@
-ghost use Rattle.std.specs.Prelude.{◌≡◌, ◌++◌, ◌∷◌, ◌<◌, [], ℕ, IfSome, IfNone, OnOk, OnErr, length};
+ghost use Rattle.std.specs.Prelude.{◌≡◌, ◌++◌, ◌∷◌, ◌<◌, [], ℕ, IfSome, IfNone, OnOk, OnErr, length, codes};
 ghost use Rattle.std.specs.Char.{digit_char};
 ghost use Rattle.ak_base.specs.Code as code;
 
@@ -164,6 +164,23 @@ pub fn one_code_text()
 /// Whatever `print` adds is read as the code that was printed.
 pub fn printed_codes_are_read()
     ensures { code.PrintedCodesAreRead }
+{}
+
+/// Each named code is the number of its four letters, the first one highest.
+pub fn codes_are_named()
+    ensures get { Code.GET.0 ≡ code.code_of (codes "PGET") }
+    ensures set { Code.SET.0 ≡ code.code_of (codes "PSET") }
+    ensures count { Code.COUNT.0 ≡ code.code_of (codes "PCNT") }
+    ensures create { Code.CREATE.0 ≡ code.code_of (codes "PCRT") }
+    ensures delete { Code.DELETE.0 ≡ code.code_of (codes "PDEL") }
+    ensures execute { Code.EXECUTE.0 ≡ code.code_of (codes "PEXE") }
+    ensures suites { Code.SUITES.0 ≡ code.code_of (codes "SUIT") }
+    ensures reply { Code.REPLY.0 ≡ code.code_of (codes "RPLY") }
+    ensures no_reply { Code.NO_REPLY.0 ≡ code.code_of (codes "NONE") }
+    ensures not_understood { Code.NOT_UNDERSTOOD.0 ≡ code.code_of (codes "MNOT") }
+    ensures quit_requested { Code.QUIT_REQUESTED.0 ≡ code.code_of (codes "_QRQ") }
+    ensures argv_received { Code.ARGV_RECEIVED.0 ≡ code.code_of (codes "_ARG") }
+    ensures ready_to_run { Code.READY_TO_RUN.0 ≡ code.code_of (codes "_RTR") }
 {}
 
 #[cfg(test)]

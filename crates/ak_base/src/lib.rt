@@ -15,7 +15,7 @@ mod thread;
 mod word;
 
 pub use bytes::Bytes;
-pub use code::{Code, one_code_text, printed_codes_are_read};
+pub use code::{Code, codes_are_named, one_code_text, printed_codes_are_read};
 pub use ending::{Ending, RefusalKind};
 pub use error::KitError;
 pub use items::Items;

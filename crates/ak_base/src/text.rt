@@ -54,6 +54,7 @@ impl Text {
     pub fn from_bytes(alloc: Global, b: &[u8]) -> Result<Text, TextFault>
         ensures ok { IfOk result (λ t. t ≡ b.now) }
         ensures is_text { IfOk result (λ _. IsText b.now) }
+        ensures limit { TEXT_LIMIT ≡ 1024 }
         ensures too_long { IsErrOf result TextFault.TooLong ↔ (TEXT_LIMIT < length b.now) }
         ensures not_utf8 { IsErrOf result TextFault.NotUtf8 ↔ ((length b.now ≤ TEXT_LIMIT) × (¬ (IsUtf8 b.now))) }
         ensures zero { IsErrOf result TextFault.Zero

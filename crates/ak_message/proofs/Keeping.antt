@@ -52,11 +52,11 @@ counted-added (f ∷ fs) name other v =
     counted-behind f fs _ other v (is_named name f) (is_named other f) refl (counted-added fs name other v)
 
 -- ---- what the want of a fault says
-passed : (b : Bool) (o : Option AddFault) (x : AddFault) → cond b o (Some x) ≡ None → (b ≡ true) × (o ≡ None)
+pub passed : (b : Bool) (o : Option AddFault) (x : AddFault) → cond b o (Some x) ≡ None → (b ≡ true) × (o ≡ None)
 passed true o x e = (refl, e)
 passed false o x e = absurd cc
 
-neither : (a b : Option AddFault) → or_fault a b ≡ None → (a ≡ None) × (b ≡ None)
+pub neither : (a b : Option AddFault) → or_fault a b ≡ None → (a ≡ None) × (b ≡ None)
 neither None b e = (refl, e)
 neither (Some x) b e = absurd cc
 

@@ -1,5 +1,5 @@
 -- The fields of a message: what an addition makes of them, why one is refused, and what is found.
-use Rattle.std.specs.Prelude.{◌≡◌, ◌≢◌, ℕ, ◌<◌, ◌≤◌, Bool, nat_lt, IsTrue, if◌then◌else◌, List, [], ◌∷◌, ◌++◌, length, codes, find, All, AllPairs, Option, None, Some, Result, Err, ok_or}
+use Rattle.std.specs.Prelude.{◌≡◌, ◌≢◌, ℕ, ◌<◌, ◌≤◌, Bool, nat_lt, IsTrue, if◌then◌else◌, List, [], ◌∷◌, ◌++◌, length, codes, find, All, AllPairs, Option, None, Some, Result, Ok, Err, ok_or}
 use Rattle.std.specs.List.{slice_get}
 use Rattle.std.specs.Str.{bytes_eq}
 use Rattle.ak_base.specs.Word.{is_word}
@@ -60,6 +60,30 @@ value_in (Some f) kind index =
 
 abbrev pub found_in : List FieldData → List ℕ → Kind → ℕ → Result ValueData FindFault
 found_in fields name kind index = value_in (field_named fields name) kind index
+
+-- ---- adding and finding
+-- how many values that field has
+abbrev pub value_count_in : Option FieldData → ℕ
+value_count_in None = 0
+value_count_in (Some f) = length f.values
+
+abbrev pub value_count : List FieldData → List ℕ → ℕ
+value_count fields name = value_count_in (field_named fields name)
+
+-- an added value is found behind those of its name that were there, which are found as before, and so are all of other names
+pub record IsFoundWhenAdded (fields : List FieldData) (name : List ℕ) (value : ValueData) : Type 0 where
+  pub last : found_in (added fields name value) name (kind_of value) (value_count fields name) ≡ Ok value
+  pub earlier
+      : (index : ℕ) → index < value_count fields name
+      → found_in (added fields name value) name (kind_of value) index ≡ found_in fields name (kind_of value) index
+  pub others
+      : (other : List ℕ) (kind : Kind) (index : ℕ) → other ≢ name
+      → found_in (added fields name value) other kind index ≡ found_in fields other kind index
+
+-- where nothing speaks against an addition, the value is found after it
+abbrev pub AddedValuesAreFound : Type 0
+AddedValuesAreFound =
+    (fields : List FieldData) (name : List ℕ) (value : ValueData) → add_fault fields name value ≡ None → IsFoundWhenAdded fields name value
 
 -- ---- what is true of every message
 pub record IsField (f : FieldData) : Type 0 where

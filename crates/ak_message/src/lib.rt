@@ -9,4 +9,6 @@ mod message;
 
 pub use fault::{AddFault, FindFault};
 pub use kind::Kind;
-pub use message::{DEPTH_LIMIT, FIELD_LIMIT, Field, Message, VALUE_LIMIT, Value};
+pub use message::{
+    DEPTH_LIMIT, FIELD_LIMIT, Field, Message, VALUE_LIMIT, Value, added_values_are_found,
+};

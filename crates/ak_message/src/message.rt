@@ -1,7 +1,7 @@
 ghost use Rattle.std.specs.Prelude.{◌≡◌, [], length, position, Ok, Err, OnOk, OnErr, IfOk, option_map, IfSome, IfNone, IsOkUnless};
 ghost use Rattle.ak_message.specs.Message.{kind_of, depth_of_value};
 ghost use Rattle.ak_message.specs.Seen.{value_of, field_of, fields_of};
-ghost use Rattle.ak_message.specs.Fields.{added, add_fault, found_in, is_named, place_fault, field_named, new_field, with_value};
+ghost use Rattle.ak_message.specs.Fields.{AddedValuesAreFound, added, add_fault, found_in, is_named, place_fault, field_named, new_field, with_value};
 ghost use Rattle.ak_message.specs.Finds.{Finds};
 
 use crate::fault::{AddFault, FindFault};
@@ -239,6 +239,11 @@ fn put(fields: &mut Vec<Field>, name: &[u8], value: Value) -> Result<(), NoMemor
         }
     }
 }
+
+/// What is added without a fault is found after it, and nothing else is found elsewhere than before.
+pub fn added_values_are_found()
+    ensures { AddedValuesAreFound }
+{}
 
 impl Field {
     fn with_value(alloc: Global, name: &[u8], value: Value) -> Result<Field, NoMemory>

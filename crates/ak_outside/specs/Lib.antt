@@ -4,4 +4,5 @@ pub mod ListSink
 pub mod ReadFault
 pub mod Sink
 pub mod Source
+pub mod Standard
 pub mod TextSource

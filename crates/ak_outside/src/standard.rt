@@ -1,15 +1,16 @@
-ghost use Rattle.std.specs.Prelude.{◌≡◌, ◌<◌, ◌≤◌, length};
-ghost use Rattle.ak_outside.specs.Faults.{Rose};
+ghost use Rattle.std.specs.Prelude.{◌≡◌, ◌≢◌, ◌<◌, ◌≤◌, length};
+ghost use Rattle.ak_outside.specs.Faults.{Rose, raised};
 ghost use Rattle.ak_outside.specs.Sink.{Writes};
 ghost use Rattle.ak_outside.specs.Source.{Reads};
+ghost use Rattle.ak_outside.specs.Standard.{not_failed};
 
 use crate::sink::{Sink, SinkWrite};
 use crate::source::{Source, SourceRead};
 use std::io::{Read, Write};
 use std::marker::Model;
 
-/// A reader of the system as a source. It tells nothing of its bytes: contracts see the count of its
-/// faults, which stands still at the end of a `u64`.
+/// A reader of the system as a source. It tells of its bytes what the reader tells: those of a slice, and
+/// nothing of standard input's. The count of its faults stands still at the end of a `u64`.
 #[derive(Drop)]
 pub struct StdSource<R> {
     reader: R,
@@ -17,25 +18,34 @@ pub struct StdSource<R> {
 }
 
 impl<R> Model for StdSource<R> {
-    ghost use Rattle.std.specs.Prelude.{ℕ};
+    ghost use Rattle.ak_outside.specs.Standard.{Counted};
 
-    ghost Value = { ℕ };
+    ghost Value = { Counted R };
 
-    ghost view = { λ s. s.failed };
+    ghost view = { λ s. record { inner = s.reader; faults = s.failed } };
 }
 
 impl<R> StdSource<R> {
     pub fn new(reader: R) -> StdSource<R>
-        ensures { result ≡ 0 }
+        ensures { result ≡ not_failed reader }
     {
         StdSource { reader, failed: 0 }
     }
 }
 
 impl<R: Read> Source for StdSource<R> {
-    ghost faults = { λ s. s };
+    ghost left = { λ s. R.remaining s.inner };
 
-    fn read(&mut self, buf: &mut [u8]) -> SourceRead {
+    ghost faults = { λ s. s.faults };
+
+    fn read(&mut self, buf: &mut [u8]) -> SourceRead
+        requires { 0 < length buf.old }
+        ensures bytes { Reads (R.remaining self.old.inner) (R.remaining self.new.inner) buf.new result }
+        ensures never_falls { self.old.faults ≤ self.new.faults }
+        ensures cause { result ≡ SourceRead.Failed → Rose self.old.faults self.new.faults }
+        ensures kept { result ≢ SourceRead.Failed → self.new.faults ≡ self.old.faults }
+        ensures counted { result ≡ SourceRead.Failed → self.new.faults ≡ raised self.old.faults }
+    {
         match self.reader.read(buf) {
             Ok(n) => SourceRead::Read(n),
             Err(_) => {
@@ -46,8 +56,8 @@ impl<R: Read> Source for StdSource<R> {
     }
 }
 
-/// A writer of the system as a sink. It tells nothing of its bytes: contracts see the count of its
-/// faults, which stands still at the end of a `u64`.
+/// A writer of the system as a sink. It tells of its bytes what the writer tells: those of a `Vec`, and
+/// nothing of standard output's. The count of its faults stands still at the end of a `u64`.
 #[derive(Drop)]
 pub struct StdSink<W> {
     writer: W,
@@ -55,26 +65,35 @@ pub struct StdSink<W> {
 }
 
 impl<W> Model for StdSink<W> {
-    ghost use Rattle.std.specs.Prelude.{ℕ};
+    ghost use Rattle.ak_outside.specs.Standard.{Counted};
 
-    ghost Value = { ℕ };
+    ghost Value = { Counted W };
 
-    ghost view = { λ s. s.failed };
+    ghost view = { λ s. record { inner = s.writer; faults = s.failed } };
 }
 
 impl<W> StdSink<W> {
     pub fn new(writer: W) -> StdSink<W>
-        ensures { result ≡ 0 }
+        ensures { result ≡ not_failed writer }
     {
         StdSink { writer, failed: 0 }
     }
 }
 
 impl<W: Write> Sink for StdSink<W> {
-    ghost faults = { λ s. s };
+    ghost written = { λ s. W.contents s.inner };
+
+    ghost faults = { λ s. s.faults };
 
     /// A write that takes nothing is a fault, since the next would do no better.
-    fn write(&mut self, piece: &[u8]) -> SinkWrite {
+    fn write(&mut self, piece: &[u8]) -> SinkWrite
+        requires { 0 < length piece.now }
+        ensures bytes { Writes (W.contents self.old.inner) (W.contents self.new.inner) piece.now result }
+        ensures never_falls { self.old.faults ≤ self.new.faults }
+        ensures cause { result ≡ SinkWrite.Failed → Rose self.old.faults self.new.faults }
+        ensures kept { result ≢ SinkWrite.Failed → self.new.faults ≡ self.old.faults }
+        ensures counted { result ≡ SinkWrite.Failed → self.new.faults ≡ raised self.old.faults }
+    {
         match self.writer.write(piece) {
             Ok(n) if n > 0 => SinkWrite::Wrote(n),
             _ => {
