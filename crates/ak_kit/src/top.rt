@@ -201,3 +201,6 @@ pub fn kit<S: Source, K: Sink>(
         Err(ReadFault::NoMemory) => close(sink, Ending::NoMemory, None),
     }
 }
+
+#[cfg(test)]
+mod tests;
