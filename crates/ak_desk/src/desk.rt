@@ -146,3 +146,133 @@ fn property_of(specifier: &Message) -> Option<&[u8]>
         _ => None,
     }
 }
+
+#[cfg(test)]
+mod tests {
+    use super::*;
+    use crate::messages::{get_message, ready_message};
+    use std::test::Fail;
+
+    // The code of a reply, and its numbers where it has them.
+    type Said = (Code, Option<i32>, Option<i32>);
+
+    const NOTHING: Said = (Code::NO_REPLY, None, None);
+
+    const NOT_UNDERSTOOD: Said = (Code::NOT_UNDERSTOOD, None, None);
+
+    fn value(n: i32) -> Said {
+        (Code::REPLY, Some(n), Some(0))
+    }
+
+    fn number(message: &Message, name: &[u8]) -> Option<i32> {
+        match message.find(name, Kind::Int32, 0) {
+            Ok(Value::Int32(n)) => Some(*n),
+            _ => None,
+        }
+    }
+
+    fn said(reply: &Message) -> Said {
+        (
+            reply.what(),
+            number(reply, b"result"),
+            number(reply, b"error"),
+        )
+    }
+
+    fn two_rows(alloc: Global) -> Result<Desk, Fail> {
+        let count = Text::from_bytes(alloc, b"Count")?;
+        let neg = Text::from_bytes(alloc, b"Neg")?;
+        Ok(Desk::first(alloc, vec![in alloc; (count, 3), (neg, -7)]?)?)
+    }
+
+    fn get(alloc: Global, property: &[u8]) -> Result<Message, Fail> {
+        Ok(get_message(alloc, Text::from_bytes(alloc, property)?)?)
+    }
+
+    // A specifier of this code, with the property `Count`.
+    fn specifier(alloc: Global, form: u32) -> Result<Message, Fail> {
+        let mut specifier = Message::new(alloc, Code(form));
+        specifier.add(b"property", Value::Text(Text::from_bytes(alloc, b"Count")?))?;
+        Ok(specifier)
+    }
+
+    // A message with specifiers of these codes.
+    fn specified(alloc: Global, what: Code, forms: &[u32]) -> Result<Message, Fail> {
+        let mut message = Message::new(alloc, what);
+        for form in forms {
+            let specifier = Box::new(alloc, specifier(alloc, *form)?)?;
+            message.add(b"specifiers", Value::Message(specifier))?;
+        }
+        Ok(message)
+    }
+
+    #[test]
+    fn answers_what_is_got(rt: HostRuntime) -> Result<(), Fail> {
+        let mut desk = two_rows(rt.alloc())?;
+        let ready = desk.dispatch(ready_message(rt.alloc()))?;
+        assert_eq!(rt; said(&ready), NOTHING);
+        let asked: [(&[u8], Said); 3] = [
+            (b"Count", value(3)),
+            (b"Neg", value(-7)),
+            (b"Nothing", NOT_UNDERSTOOD),
+        ];
+        for (property, wanted) in asked {
+            let reply = desk.dispatch(get(rt.alloc(), property)?)?;
+            assert_eq!(rt; said(&reply), wanted, "at {property:?}");
+        }
+        Ok(())
+    }
+
+    #[test]
+    fn answers_other_messages(rt: HostRuntime) -> Result<(), Fail> {
+        let mut desk = two_rows(rt.alloc())?;
+        let ping = Code(0x7069_6E67);
+        let sent: [(Code, &[u32], Said); 5] = [
+            (Code::GET, &[1], value(3)),
+            (Code::GET, &[1, 1], NOT_UNDERSTOOD),
+            (Code::GET, &[2], NOT_UNDERSTOOD),
+            (Code::GET, &[], NOT_UNDERSTOOD),
+            (ping, &[1], NOT_UNDERSTOOD),
+        ];
+        for (what, forms, wanted) in sent {
+            let reply = desk.dispatch(specified(rt.alloc(), what, forms)?)?;
+            assert_eq!(rt; said(&reply), wanted, "at {forms:?}");
+        }
+        Ok(())
+    }
+
+    #[test]
+    fn gives_its_parts_back(rt: HostRuntime) -> Result<(), Fail> {
+        let mut desk = two_rows(rt.alloc())?;
+        let _ready = desk.dispatch(ready_message(rt.alloc()))?;
+        let _value = desk.dispatch(get(rt.alloc(), b"Neg")?)?;
+        let (rows, entries) = desk.into_parts();
+        let wanted_rows = [("Count", 3), ("Neg", -7)];
+        assert_eq!(rt; rows.as_slice().len(), 2);
+        for (row, (name, value)) in rows.as_slice().iter().zip(wanted_rows) {
+            assert_eq!(rt; row.0.as_str(), name);
+            assert_eq!(rt; row.1, value);
+        }
+        let wanted_entries = [(Code::READY_TO_RUN, NOTHING), (Code::GET, value(-7))];
+        assert_eq!(rt; entries.as_slice().len(), 2);
+        for (i, entry) in entries.as_slice().iter().enumerate() {
+            assert_eq!(rt; entry.position, i as u64);
+            assert_eq!(rt;
+                wanted_entries.get(i),
+                Some(&(entry.message.what(), said(&entry.reply)))
+            );
+        }
+        Ok(())
+    }
+
+    #[test]
+    fn has_no_properties(rt: HostRuntime) -> Result<(), Fail> {
+        let mut desk = Desk::first(rt.alloc(), Vec::new(rt.alloc()))?;
+        let reply = desk.dispatch(get(rt.alloc(), b"Count")?)?;
+        assert_eq!(rt; said(&reply), NOT_UNDERSTOOD);
+        let (rows, entries) = desk.into_parts();
+        assert_eq!(rt; rows.as_slice().len(), 0);
+        assert_eq!(rt; entries.as_slice().len(), 1);
+        Ok(())
+    }
+}

@@ -6,7 +6,7 @@ use Rattle.ak_outside.specs.Sink.{AppendsPart}
 use Rattle.ak_outside.proofs.Joins.{Appends-joined}
 use Rattle.ak_desk.specs.declared.desk.FirstEntry.{FirstEntry}
 use Rattle.ak_kit.specs.Run.{Step, steps_of, entries_of, text_of}
-use Rattle.ak_kit.specs.Steps.{IsFrontOf, Progress, IsCut, IsStopped, Carries}
+use Rattle.ak_kit.specs.Steps.{IsFrontOf, MadeBy, Progress, IsCut, IsStopped, Carries}
 use Rattle.ak_base.specs.declared.ending.Ending.TheVariants as ending
 use Rattle.ak_kit.specs.declared.stopped.Stopped.{Stopped}
 use Rattle.ak_kit.specs.declared.stopped.Stopped.TheVariants as stop
@@ -50,9 +50,9 @@ cut_writes steps made old mid new Failed cut after = record {
 
 -- memory ran out
 pub stopped_writes : (steps : List Step) (made : List FirstEntry) (line : List ℕ) (old mid new : Option (List ℕ)) (Failed Failed' : Type 0) → (Failed → Failed') → IsStopped steps made old mid → Closes [] line mid new Failed
-    → (done : List Step) × IsFrontOf done steps × Closes (text_of done) line old new Failed'
+    → (done : List Step) × IsFrontOf done steps × MadeBy done made × Closes (text_of done) line old new Failed'
 stopped_writes steps made line old mid new Failed Failed' weaker stopped after =
-    (stopped.done, stopped.lines, (after.0, Appends-joined old mid new (text_of stopped.done) (take after.0 line) stopped.written after.1, λ lt. weaker (after.2 lt)))
+    (stopped.done, stopped.lines, stopped.count, (after.0, Appends-joined old mid new (text_of stopped.done) (take after.0 line) stopped.written after.1, λ lt. weaker (after.2 lt)))
 
 -- the entries of a run whose line was cut
 pub cut_entries : (steps : List Step) (made : List FirstEntry) (old new : Option (List ℕ)) → IsCut steps made old new → IsFrontOf made (entries_of steps)
@@ -93,19 +93,19 @@ cut_front run rows asked made old mid same_rows same_asked same_desk cut =
 
 pub stopped_run
     : (run : FirstRun) (rows : List (List ℕ × ℤ)) (asked : List (List ℕ)) (made : List FirstEntry) (old mid new : Option (List ℕ)) (Failed Failed' : Type 0) → (Failed → Failed')
-    → run.rows ≡ rows → run.asked ≡ asked → IsStopped (steps_of rows asked) made old mid → Closes [] (closing_line ending.NoMemory) mid new Failed
+    → run.rows ≡ rows → run.asked ≡ asked → run.desk ≡ made → IsStopped (steps_of rows asked) made old mid → Closes [] (closing_line ending.NoMemory) mid new Failed
     → Writes ending.NoMemory (Some run) old new Failed'
-stopped_run run rows asked made old mid new Failed Failed' weaker same_rows same_asked stopped after =
+stopped_run run rows asked made old mid new Failed Failed' weaker same_rows same_asked same_desk stopped after =
     let same = same_steps run rows asked same_rows same_asked in
     let d = stopped_writes (steps_of rows asked) made (closing_line ending.NoMemory) old mid new Failed Failed' weaker stopped after in
-    subst (λ (s : List Step). ClosesEarly s old new Failed') (sym same) d
+    subst (λ (s : List Step). ClosesEarly s run.desk old new Failed') (sym same) (subst (λ (m : List FirstEntry). ClosesEarly (steps_of rows asked) m old new Failed') (sym same_desk) d)
 
 pub stops_run
     : (e : Stopped) (run : FirstRun) (rows : List (List ℕ × ℤ)) (asked : List (List ℕ)) (made : List FirstEntry) (old mid new : Option (List ℕ)) (Failed Failed' : Type 0) → (Failed → Failed')
     → run.rows ≡ rows → run.asked ≡ asked → run.desk ≡ made → Carries {A = Unit {0}} (Err e) (steps_of rows asked) made old mid → Closes [] (closing_line (ending_of e)) mid new Failed
     → Writes (ending_of e) (Some run) old new Failed'
 stops_run stop.WriteFault run rows asked made old mid new Failed Failed' weaker same_rows same_asked same_desk cut after = cut_run run rows asked made old mid new Failed Failed' same_rows same_asked same_desk cut after
-stops_run stop.NoMemory run rows asked made old mid new Failed Failed' weaker same_rows same_asked same_desk stopped after = stopped_run run rows asked made old mid new Failed Failed' weaker same_rows same_asked stopped after
+stops_run stop.NoMemory run rows asked made old mid new Failed Failed' weaker same_rows same_asked same_desk stopped after = stopped_run run rows asked made old mid new Failed Failed' weaker same_rows same_asked same_desk stopped after
 
 pub stopped_front
     : (e : Stopped) (run : FirstRun) (rows : List (List ℕ × ℤ)) (asked : List (List ℕ)) (made : List FirstEntry) (old mid : Option (List ℕ))

@@ -10,4 +10,5 @@ pub mod Loops
 pub mod Numbers
 pub mod Progress
 pub mod ReadScript
+pub mod RunLaws
 pub mod Words

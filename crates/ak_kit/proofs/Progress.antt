@@ -1,6 +1,6 @@
 -- A run goes on step by step.
-use Rattle.std.proofs.Common.{◌≡◌, ◌⊎◌, inl, inr, ℕ, ◌+◌, ◌<◌, ◌≤◌, List, [], ◌∷◌, ◌++◌, length, take, drop, get_or, Option, None, Some, Err, refl, sym, ap, ◌∙◌, subst, append_assoc, ℤ, add-one}
-use Rattle.std.proofs.lemmas.List.{drop_all, append-nil, map_push, map-append}
+use Rattle.std.proofs.Common.{◌≡◌, ◌⊎◌, inl, inr, ℕ, ◌+◌, ◌<◌, ◌≤◌, List, [], ◌∷◌, ◌++◌, length, take, drop, get_or, Option, None, Some, Err, refl, sym, ap, ◌∙◌, subst, append_assoc, ℤ, add-one, arith}
+use Rattle.std.proofs.lemmas.List.{drop_all, append-nil, map_push, map-append, length_push, length-map}
 use Rattle.std.proofs.lemmas.List.Concat.{flat_map-append}
 use Rattle.std.proofs.Math.Seq.{drop-cons}
 use Rattle.std.specs.Io.KnownBytes.{Appends}
@@ -9,7 +9,7 @@ use Rattle.ak_desk.specs.declared.desk.FirstEntry.{FirstEntry}
 use Rattle.ak_kit.specs.declared.stopped.Stopped.{Stopped}
 use Rattle.ak_kit.specs.declared.stopped.Stopped.TheVariants as stop
 use Rattle.ak_kit.specs.Run.{Step, hey_step, hey_steps, entries_of, text_of}
-use Rattle.ak_kit.specs.Steps.{AddsEntry, DoesStep, IsFrontOf, Progress, Carries}
+use Rattle.ak_kit.specs.Steps.{AddsEntry, DoesStep, IsFrontOf, MadeBy, Progress, Carries}
 
 Appends-nothing : (given : Option (List ℕ)) → Appends given given []
 Appends-nothing None = tt
@@ -43,6 +43,16 @@ stopped_entries steps step left made more old mid so_far (inr entry) =
     let with_step : more ≡ entries_of (so_far.done ++ step ∷ []) = entry ∙ ap (λ (entries : List FirstEntry). entries ++ step.entry ∷ []) so_far.entries ∙ sym (map_push (λ s. s.entry) so_far.done step) in
     subst (λ (entries : List FirstEntry). IsFrontOf entries (entries_of steps)) (sym with_step) (front_of_entries steps (so_far.done ++ step ∷ []) left (so_far.split ∙ sym (append_assoc so_far.done (step ∷ []) left)))
 
+stopped_count : (steps : List Step) (step : Step) (left : List Step) (made more : List FirstEntry) (old mid : Option (List ℕ)) → (so_far : Progress steps (step ∷ left) made old mid)
+    → (more ≡ made) ⊎ AddsEntry step made more → MadeBy so_far.done more
+stopped_count steps step left made more old mid so_far (inl same) =
+    let count : length made ≡ length so_far.done = ap length so_far.entries ∙ length-map so_far.done (λ s. s.entry) in
+    (omega (arith, count, ap length same), omega (arith, count, ap length same))
+stopped_count steps step left made more old mid so_far (inr entry) =
+    let count : length made ≡ length so_far.done = ap length so_far.entries ∙ length-map so_far.done (λ s. s.entry) in
+    let more_by_one : length more ≡ length made + 1 = ap length entry ∙ length_push made step.entry in
+    (omega (arith, count, more_by_one), omega (arith, count, more_by_one))
+
 -- the run ends at a step that was not done whole
 pub ends : (e : Stopped) (steps : List Step) (step : Step) (left : List Step) (made more : List FirstEntry) (old mid new : Option (List ℕ)) → Progress steps (step ∷ left) made old mid
     → DoesStep {A = Unit {0}} (Err e) step made more mid new → Carries {A = Unit {0}} (Err e) steps more old new
@@ -60,6 +70,7 @@ ends stop.NoMemory steps step left made more old mid new so_far (entry, same) = 
   done = so_far.done;
   lines = (step ∷ left, so_far.split);
   entries = stopped_entries steps step left made more old mid so_far entry;
+  count = stopped_count steps step left made more old mid so_far entry;
   written = subst (λ (given : Option (List ℕ)). Appends old given (text_of so_far.done)) (sym same) so_far.written;
 }
 

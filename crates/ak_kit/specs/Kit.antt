@@ -4,11 +4,12 @@ use Rattle.std.specs.Io.KnownBytes.{Appends, Consumes, IsAtEnd}
 use Rattle.ak_base.specs.declared.ending.Ending.{Ending}
 use Rattle.ak_base.specs.declared.ending.Ending.TheVariants as ending
 use Rattle.ak_base.specs.declared.ending.RefusalKind.TheVariants as kind
+use Rattle.ak_desk.specs.declared.desk.FirstEntry.{FirstEntry}
 use Rattle.ak_kit.specs.declared.stopped.Stopped.{Stopped}
 use Rattle.ak_kit.specs.declared.stopped.Stopped.TheVariants as stop
 use Rattle.ak_kit.specs.declared.top.FirstRun.{FirstRun}
 use Rattle.ak_kit.specs.Run.{Step, steps_of, entries_of, text_of}
-use Rattle.ak_kit.specs.Steps.{IsFrontOf, IsCut}
+use Rattle.ak_kit.specs.Steps.{IsFrontOf, MadeBy, IsCut}
 
 -- the one command
 abbrev pub run_words : List (List ℕ)
@@ -87,16 +88,16 @@ run_steps run = steps_of run.rows run.asked
 abbrev pub Closes : List ℕ → List ℕ → Option (List ℕ) → Option (List ℕ) → Type 0 → Type 0
 Closes before line old new Failed = (n : ℕ) × Appends old new (before ++ take n line) × (n < length line → Failed)
 
--- the lines of some first steps, and then that there is no memory
-abbrev pub ClosesEarly : List Step → Option (List ℕ) → Option (List ℕ) → Type 0 → Type 0
-ClosesEarly steps old new Failed = (done : List Step) × IsFrontOf done steps × Closes (text_of done) (closing_line ending.NoMemory) old new Failed
+-- the lines of some first steps, of which the entries were made, and then that there is no memory
+abbrev pub ClosesEarly : List Step → List FirstEntry → Option (List ℕ) → Option (List ℕ) → Type 0 → Type 0
+ClosesEarly steps made old new Failed = (done : List Step) × IsFrontOf done steps × MadeBy done made × Closes (text_of done) (closing_line ending.NoMemory) old new Failed
 
 -- What is written at each ending: the whole text, a front of it, some of its first lines and the closing line, or the closing line
 -- alone. A run that is done has made every entry.
 abbrev pub Writes : Ending → Option FirstRun → Option (List ℕ) → Option (List ℕ) → Type 0 → Type 0
 Writes ending.Done (Some run) old new Failed = (run.desk ≡ entries_of (run_steps run)) × Appends old new (text_of (run_steps run))
 Writes ending.WriteFault (Some run) old new Failed = IsCut (run_steps run) run.desk old new
-Writes ending.NoMemory (Some run) old new Failed = ClosesEarly (run_steps run) old new Failed
+Writes ending.NoMemory (Some run) old new Failed = ClosesEarly (run_steps run) run.desk old new Failed
 Writes ending.NoMemory None old new Failed = Closes [] (closing_line ending.NoMemory) old new Failed
 Writes ending.Usage None old new Failed = Closes [] (closing_line ending.Usage) old new Failed
 Writes (ending.Refused line reason) None old new Failed = Closes [] (closing_line (ending.Refused line reason)) old new Failed

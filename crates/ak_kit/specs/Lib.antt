@@ -1,5 +1,6 @@
 pub mod FirstInput
 pub mod Kit
+pub mod Laws
 pub mod Reading
 pub mod Reply
 pub mod Run

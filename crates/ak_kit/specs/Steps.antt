@@ -1,5 +1,5 @@
 -- Carrying out steps: what one step does, and how far a run came.
-use Rattle.std.specs.Prelude.{◌≡◌, ◌⊎◌, ℕ, ◌<◌, List, [], ◌∷◌, ◌++◌, length, take, Option, Result, Ok, Err}
+use Rattle.std.specs.Prelude.{◌≡◌, ◌⊎◌, ℕ, ◌+◌, ◌<◌, ◌≤◌, List, [], ◌∷◌, ◌++◌, length, take, Option, Result, Ok, Err}
 use Rattle.std.specs.Io.KnownBytes.{Appends}
 use Rattle.ak_outside.specs.Sink.{AppendsPart}
 use Rattle.ak_desk.specs.declared.desk.FirstEntry.{FirstEntry}
@@ -40,11 +40,16 @@ pub record IsCut (steps : List Step) (made : List FirstEntry) (old new : Option 
   pub short : part < length step.line
   pub written : Appends old new (text_of done ++ take part step.line)
 
+-- Some first steps are done, and the desk has the entries of these or of one more.
+abbrev pub MadeBy : List Step → List FirstEntry → Type 0
+MadeBy done made = (length done ≤ length made) × (length made ≤ length done + 1)
+
 -- Memory ran out at a step: the lines of some first steps are written, and the desk has the entries of these or of one more.
 pub record IsStopped (steps : List Step) (made : List FirstEntry) (old new : Option (List ℕ)) : Type 0 where
   pub done : List Step
   pub lines : IsFrontOf done steps
   pub entries : IsFrontOf made (entries_of steps)
+  pub count : MadeBy done made
   pub written : Appends old new (text_of done)
 
 abbrev pub Carries : {A : Type 0} → Result A Stopped → List Step → List FirstEntry → Option (List ℕ) → Option (List ℕ) → Type 0

@@ -5,6 +5,7 @@
 #![tactic(auto)]
 
 mod fault;
+mod laws;
 mod reading;
 mod reply;
 mod run;
@@ -12,4 +13,5 @@ mod script;
 mod stopped;
 mod top;
 
+pub use laws::{one_script, steps_match};
 pub use top::{FirstRun, KitEnd, kit};

@@ -1,7 +1,7 @@
 //! Carries out a script on the calling thread: one step after the other, each with its entry on the desk
 //! and then its line.
 
-ghost use Rattle.std.specs.Prelude.{◌≡◌, ◌≤◌, ◌⊎◌, [], ◌∷◌, ◌++◌, length, codes, OnErr, IfOk, IsErrOf};
+ghost use Rattle.std.specs.Prelude.{◌≡◌, ◌≤◌, ◌⊎◌, [], ◌∷◌, ◌++◌, length, codes, OnOk, OnErr, IfOk, IsErrOf};
 ghost use Rattle.ak_message.specs.MessageText.{message_text};
 ghost use Rattle.ak_desk.specs.Desk.{dispatched};
 ghost use Rattle.ak_desk.specs.Messages.{get_of};
@@ -53,6 +53,7 @@ fn hey<K: Sink>(
     ensures step { DoesStep result (hey_step desk.old.rows (length desk.old.entries) property.now) desk.old.entries desk.new.entries (K.written sink.old) (K.written sink.new) }
     ensures cause { IsErrOf result Stopped.WriteFault → Rose (K.faults sink.old) (K.faults sink.new) }
     ensures never_falls { K.faults sink.old ≤ K.faults sink.new }
+    ensures kept { OnOk result (K.faults sink.new ≡ K.faults sink.old) }
 {
     let line = ask(alloc, property, desk)?;
     write_all(sink, line.as_slice())?;
@@ -65,6 +66,7 @@ fn launch<K: Sink>(alloc: Global, desk: &mut Desk, sink: &mut K) -> Result<(), S
     ensures step { DoesStep result (launch_step desk.old.rows) desk.old.entries desk.new.entries (K.written sink.old) (K.written sink.new) }
     ensures cause { IsErrOf result Stopped.WriteFault → Rose (K.faults sink.old) (K.faults sink.new) }
     ensures never_falls { K.faults sink.old ≤ K.faults sink.new }
+    ensures kept { OnOk result (K.faults sink.new ≡ K.faults sink.old) }
 {
     desk.dispatch(ready_message(alloc))?;
     write_all(sink, LAUNCHED)?;
@@ -83,6 +85,7 @@ pub(crate) fn carry_out<K: Sink>(
     ensures steps { Carries result (steps_of desk.old.rows asked.now) desk.new.entries (K.written sink.old) (K.written sink.new) }
     ensures cause { IsErrOf result Stopped.WriteFault → Rose (K.faults sink.old) (K.faults sink.new) }
     ensures never_falls { K.faults sink.old ≤ K.faults sink.new }
+    ensures kept { OnOk result (K.faults sink.new ≡ K.faults sink.old) }
 {
     launch(alloc, desk, sink)?;
     for property in asked {

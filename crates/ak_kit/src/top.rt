@@ -1,5 +1,6 @@
 ghost use Rattle.std.specs.Prelude.{◌≡◌, ◌≢◌, ◌≤◌, [], ◌↔◌, ◌⊎◌, ℕ, List, Some, IfSome, IfOk, IsTrue};
 ghost use Rattle.ak_outside.specs.Faults.{Rose, Stayed};
+ghost use Rattle.ak_outside.specs.Source.{ConsumesAtMost};
 ghost use Rattle.ak_desk.specs.Rows.{IsRows};
 ghost use Rattle.ak_kit.specs.FirstInput.{Script, IsFirstInput, IsNoScript, IsTextOf};
 ghost use Rattle.ak_kit.specs.Run.{entries_of};
@@ -82,6 +83,7 @@ fn is_run(words: &[Bytes]) -> bool
 fn write_closing<K: Sink>(sink: &mut K, line: &[u8])
     ensures line { kit.Closes [] line.now (K.written sink.old) (K.written sink.new) (Rose (K.faults sink.old) (K.faults sink.new)) }
     ensures never_falls { K.faults sink.old ≤ K.faults sink.new }
+    ensures kept { line.now ≡ [] → K.faults sink.new ≡ K.faults sink.old }
 {
     let _ = write_all(sink, line);
 }
@@ -92,6 +94,7 @@ fn close<K: Sink>(sink: &mut K, ending: Ending, run: Option<FirstRun>) -> KitEnd
     ensures run { result.run ≡ run }
     ensures line { kit.Closes [] (kit.closing_line ending) (K.written sink.old) (K.written sink.new) (Rose (K.faults sink.old) (K.faults sink.new)) }
     ensures never_falls { K.faults sink.old ≤ K.faults sink.new }
+    ensures kept { kit.closing_line ending ≡ [] → K.faults sink.new ≡ K.faults sink.old }
 {
     write_closing(sink, closing_line(ending));
     KitEnd {
@@ -109,6 +112,7 @@ fn run_script<K: Sink>(alloc: Global, script: FirstScript, sink: &mut K) -> KitE
     ensures entries { IfSome result.run (λ run. IsFrontOf run.desk (entries_of (kit.run_steps run))) }
     ensures written { kit.Writes result.ending result.run (K.written sink.old) (K.written sink.new) (Rose (K.faults sink.old) (K.faults sink.new)) }
     ensures write_fault { result.ending ≡ Ending.WriteFault → Rose (K.faults sink.old) (K.faults sink.new) }
+    ensures done { result.ending ≡ Ending.Done → K.faults sink.new ≡ K.faults sink.old }
     ensures never_falls { K.faults sink.old ≤ K.faults sink.new }
 {
     let FirstScript { rows, asked } = script;
@@ -136,6 +140,7 @@ fn run_input<K: Sink>(alloc: Global, input: &[u8], sink: &mut K) -> KitEnd
     ensures entries { IfSome result.run (λ run. IsFrontOf run.desk (entries_of (kit.run_steps run))) }
     ensures written { kit.Writes result.ending result.run (K.written sink.old) (K.written sink.new) (Rose (K.faults sink.old) (K.faults sink.new)) }
     ensures write_fault { result.ending ≡ Ending.WriteFault → Rose (K.faults sink.old) (K.faults sink.new) }
+    ensures done { result.ending ≡ Ending.Done → K.faults sink.new ≡ K.faults sink.old }
     ensures never_falls { K.faults sink.old ≤ K.faults sink.new }
 {
     match read_script(alloc, input) {
@@ -169,6 +174,9 @@ pub fn kit<S: Source, K: Sink>(
     ensures usage { (result.ending ≡ Ending.Usage) ↔ (words.now ≢ kit.run_words) }
     ensures usage_reads_nothing { result.ending ≡ Ending.Usage → source.new ≡ source.old }
 
+    // One byte more than an input may have is the most that is read.
+    ensures bounded { ConsumesAtMost 1048577 (S.left source.old) (S.left source.new) }
+
     // The input.
     ensures refused { result.ending ≡ kit.not_yet → kit.SomeInput IsNoScript (S.left source.old) (S.left source.new) }
     ensures run { IfSome result.run (λ run. kit.SomeInput (IsTextOf run.rows run.asked) (S.left source.old) (S.left source.new)) }
@@ -177,13 +185,22 @@ pub fn kit<S: Source, K: Sink>(
     ensures entries { IfSome result.run (λ run. IsFrontOf run.desk (entries_of (kit.run_steps run))) }
     ensures written { kit.Writes result.ending result.run (K.written sink.old) (K.written sink.new) (Rose (K.faults sink.old) (K.faults sink.new)) }
 
-    // A fault has its cause.
+    // A fault has its cause, and where a call failed the run doesn't go on.
     ensures read_fault { result.ending ≡ Ending.ReadFault → Rose (S.faults source.old) (S.faults source.new) }
+    ensures other_ending { result.ending ≢ Ending.ReadFault → S.faults source.new ≡ S.faults source.old }
     ensures write_fault { result.ending ≡ Ending.WriteFault → Rose (K.faults sink.old) (K.faults sink.new) }
+    ensures done { result.ending ≡ Ending.Done → K.faults sink.new ≡ K.faults sink.old }
     ensures source_never_falls { S.faults source.old ≤ S.faults source.new }
     ensures sink_never_falls { K.faults sink.old ≤ K.faults sink.new }
 
-    // Nothing but memory keeps a script from being run to its end.
+    // Nothing but memory keeps an input that is no script from being refused, and a script from being run
+    // to its end.
+    ensures refuses { words.now ≡ kit.run_words
+        → Stayed (S.faults source.old) (S.faults source.new)
+        → (input : List ℕ)
+        → S.left source.old ≡ Some input
+        → IsNoScript input
+        → (result.ending ≡ kit.not_yet) ⊎ (result.ending ≡ Ending.NoMemory) }
     ensures complete { words.now ≡ kit.run_words
         → Stayed (S.faults source.old) (S.faults source.new)
         → Stayed (K.faults sink.old) (K.faults sink.new)
@@ -201,3 +218,6 @@ pub fn kit<S: Source, K: Sink>(
         Err(ReadFault::NoMemory) => close(sink, Ending::NoMemory, None),
     }
 }
+
+#[cfg(test)]
+mod tests;

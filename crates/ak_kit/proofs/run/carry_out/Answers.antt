@@ -26,6 +26,7 @@ loop-property-init g c =
       rows = c.in_ok-launch.ensures.rows;
       count = count;
       progress = goes_on (steps_of rows asked) (launch_step rows) (hey_steps rows 1 asked) c.args.desk.now.entries c.launch.new.desk.entries given given (g.K.Sink.written c.launch.new.sink) (begun (steps_of rows asked) c.args.desk.now.entries given c.requires) step.0 step.1;
+      kept = c.in_ok-launch.ensures.kept;
       never_falls = c.in_ok-launch.ensures.never_falls;
     }
 
@@ -57,6 +58,7 @@ loop-property-preserved g c =
       rows = c.in_ok-hey.ensures.rows ∙ c.loop-property.invariant.rows;
       count = ap length step.0 ∙ length_push made (hey_step c.loop-property.desk.rows (length made) property).entry ∙ ap (λ (n : ℕ). n + 1) c.loop-property.invariant.count;
       progress = goes_on (steps_of rows asked) (hey_step c.loop-property.desk.rows (length made) property) (hey_steps rows (i + 1 + 1) (drop (i + 1) asked)) made c.hey.new.desk.entries given (g.K.Sink.written c.loop-property.sink) (g.K.Sink.written c.hey.new.sink) so_far step.0 step.1;
+      kept = c.in_ok-hey.ensures.kept ∙ c.loop-property.invariant.kept;
       never_falls = omega (arith, c.loop-property.invariant.never_falls, c.in_ok-hey.ensures.never_falls);
     }
 
