@@ -1,12 +1,13 @@
 -- What is found after an addition.
-use Rattle.std.proofs.Common.{◌≡◌, ◌≢◌, ℕ, zero, suc, ◌<◌, Bool, true, false, cond, List, [], ◌∷◌, ◌++◌, length, Option, None, Some, Ok, refl, sym, ◌∙◌, arith, tests}
+use Rattle.std.proofs.Common.{◌≡◌, ◌≢◌, ℕ, zero, suc, ◌<◌, Bool, true, false, cond, List, [], ◌∷◌, ◌++◌, length, Option, None, Some, Ok, Err, refl, sym, ◌∙◌, arith, tests}
 use Rattle.std.specs.List.{slice_get}
 use Rattle.std.specs.Str.{bytes_eq}
 use Rattle.std.proofs.lemmas.Slice.Eq.{bytes_eq-Decides}
 use Rattle.ak_base.specs.Word.{is_word}
 use Rattle.ak_message.specs.declared.kind.Kind.{Kind}
 use Rattle.ak_message.specs.declared.fault.AddFault.TheVariants as add
-use Rattle.ak_message.specs.Kind.{is_same_kind}
+use Rattle.ak_message.specs.declared.fault.FindFault.TheVariants as missing
+use Rattle.ak_message.specs.Kind.{is_same_kind, same_kind-is}
 use Rattle.ak_message.specs.Message.{ValueData, FieldData, kind_of}
 use Rattle.ak_message.specs.Fields.{is_named, field_named, added, new_field, with_value, place_fault, depth_fault, or_fault, value_in, value_count_in, AddedValuesAreFound}
 use Rattle.ak_message.proofs.Keeping.{passed, neither}
@@ -76,6 +77,19 @@ unfolding grown
 earlier-grown None name value kind index h = absurd (omega (arith, h))
 earlier-grown (Some f) name value kind index h = rw (get_earlier f.values value index h) refl
 
+kinds_differ : (a b : Kind) (t : Bool) → is_same_kind a b ≡ t → b ≢ a → t ≡ false
+kinds_differ a b true e h = absurd (h (sym (same_kind-is a b e)))
+kinds_differ a b false e h = refl
+
+other_kind-grown : (count : ℕ) (o : Option FieldData) (name : List ℕ) (value : ValueData) (kind : Kind) (index : ℕ) → place_fault count o (kind_of value) ≡ None → kind ≢ kind_of value → value_in (Some (grown o name value)) kind index ≡ Err missing.BadType
+unfolding grown
+other_kind-grown count None name value kind index e h = rw (kinds_differ (kind_of value) kind _ refl h) refl
+other_kind-grown count (Some f) name value kind index e h =
+    let same = passed (is_same_kind f.kind (kind_of value)) _ add.BadType e in
+    let is = same_kind-is f.kind (kind_of value) same.0 in
+    let no : is_same_kind f.kind kind ≡ false = kinds_differ f.kind kind _ refl (λ p. h (p ∙ is)) in
+    rw no refl
+
 pub added_values_are_found-proof : AddedValuesAreFound
 added_values_are_found-proof fields name value e =
     let place = place_fault (length fields) (field_named fields name) (kind_of value) in
@@ -85,5 +99,6 @@ added_values_are_found-proof fields name value e =
     record {
       last = rw own (last-grown (length fields) (field_named fields name) name value places.0);
       earlier = λ index h. rw own (earlier-grown (field_named fields name) name value (kind_of value) index h);
+      other_kinds = λ kind index h. rw own (other_kind-grown (length fields) (field_named fields name) name value kind index places.0 h);
       others = λ other kind index h. rw (field_named-others fields name other value h) refl;
     }

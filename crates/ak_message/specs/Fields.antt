@@ -70,12 +70,16 @@ value_count_in (Some f) = length f.values
 abbrev pub value_count : List FieldData → List ℕ → ℕ
 value_count fields name = value_count_in (field_named fields name)
 
--- an added value is found behind those of its name that were there, which are found as before, and so are all of other names
+-- an added value is found behind those of its name that were there, and no other kind is found by that name; the earlier
+-- ones are found as before, and so is all that other names find
 pub record IsFoundWhenAdded (fields : List FieldData) (name : List ℕ) (value : ValueData) : Type 0 where
   pub last : found_in (added fields name value) name (kind_of value) (value_count fields name) ≡ Ok value
   pub earlier
       : (index : ℕ) → index < value_count fields name
       → found_in (added fields name value) name (kind_of value) index ≡ found_in fields name (kind_of value) index
+  pub other_kinds
+      : (kind : Kind) (index : ℕ) → kind ≢ kind_of value
+      → found_in (added fields name value) name kind index ≡ Err missing.BadType
   pub others
       : (other : List ℕ) (kind : Kind) (index : ℕ) → other ≢ name
       → found_in (added fields name value) other kind index ≡ found_in fields other kind index

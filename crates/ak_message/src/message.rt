@@ -240,7 +240,8 @@ fn put(fields: &mut Vec<Field>, name: &[u8], value: Value) -> Result<(), NoMemor
     }
 }
 
-/// What is added without a fault is found after it, and nothing else is found elsewhere than before.
+/// What is added without a fault is found after it, behind the values of its name, and what was found
+/// before is found where it was.
 pub fn added_values_are_found()
     ensures { AddedValuesAreFound }
 {}
