@@ -38,7 +38,7 @@ impl Model for Desk {
 }
 
 impl Desk {
-    /// A desk with these properties, on which nothing was dispatched. It has room for the first entry.
+    /// A desk with these properties, on which nothing was dispatched.
     pub fn first(alloc: Global, rows: Vec<(Text, i32)>) -> Result<Desk, NoMemory>
         requires { IsRows rows.items }
         ensures rows { IfOk result (λ d. d.rows ≡ rows.items) }

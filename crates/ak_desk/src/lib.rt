@@ -4,7 +4,9 @@
 #![tactic(auto)]
 
 mod desk;
+mod laws;
 mod messages;
 
 pub use desk::{Desk, FirstEntry};
+pub use laws::{each_property_is_answered, no_other_is_answered};
 pub use messages::{get_message, ready_message};
