@@ -103,6 +103,7 @@ sound_after m name value h e =
           let place : place_fault (length m.fields) None (kind_of value) ≡ None = subst (λ o. place_fault (length m.fields) o (kind_of value) ≡ None) w.none places.0 in
           let room = passed (ltb (length m.fields) 64) None add.FieldLimit place in
           record {
+            code = h.code;
             every_field = rw w.after (All-push IsField m.fields _ h.every_field (new-is_field m name value h word.0));
             names_differ = rw w.after (all_pairs_push (λ f g. f.name ≢ g.name) m.fields _ h.names_differ (new_name m name value h w.none w.place));
             limit = rw w.after (grind (arith, tests, length-append m.fields (new_field name value ∷ []), room.0));
@@ -117,6 +118,7 @@ sound_after m name value h e =
           let names : (k : ℕ) (d : FieldData) → (get_or (set m.fields (position_or_len (is_named name) m.fields) (with_value w.field value)) k d).name ≡ (get_or m.fields k d).name
           = λ k d. name_at-set m.fields _ k _ d (ap (λ f. f.name) (sym (w.at d))) in
           record {
+            code = h.code;
             every_field = rw w.after (All-set IsField m.fields _ _ (grown-is_field m name value h w.field old same.0 room.0) h.every_field);
             names_differ = rw w.after (names_differ-set m.fields _ _ names h.names_differ);
             limit = rw w.after (omega (arith, length-set m.fields (position_or_len (is_named name) m.fields) (with_value w.field value), h.limit));

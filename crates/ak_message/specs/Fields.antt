@@ -1,5 +1,5 @@
 -- The fields of a message: what an addition makes of them, why one is refused, and what is found.
-use Rattle.std.specs.Prelude.{◌≡◌, ◌≢◌, ℕ, ◌<◌, ◌≤◌, Bool, nat_lt, IsTrue, if◌then◌else◌, List, [], ◌∷◌, ◌++◌, length, codes, find, All, AllPairs, Option, None, Some, Result, Err, ok_or}
+use Rattle.std.specs.Prelude.{◌≡◌, ◌≢◌, ℕ, ◌^◌, ◌<◌, ◌≤◌, Bool, nat_lt, IsTrue, if◌then◌else◌, List, [], ◌∷◌, ◌++◌, length, codes, find, All, AllPairs, Option, None, Some, Result, Err, ok_or}
 use Rattle.std.specs.List.{slice_get}
 use Rattle.std.specs.Str.{bytes_eq}
 use Rattle.ak_base.specs.Word.{is_word}
@@ -77,6 +77,7 @@ abbrev pub specifier_count : List FieldData → ℕ
 specifier_count fields = specifier_count_in (field_named fields (codes "specifiers"))
 
 pub record IsMessage (m : MessageData) : Type 0 where
+  pub code : m.what < 2 ^ 32
   pub every_field : All IsField m.fields
   pub names_differ : AllPairs (λ f g. f.name ≢ g.name) m.fields
   pub limit : length m.fields ≤ 64

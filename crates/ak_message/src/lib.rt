@@ -3,10 +3,12 @@
 //! Contracts see a message as a record of lists. Nothing here waits, and nothing is shared.
 #![tactic(auto)]
 
+mod address;
 mod fault;
 mod kind;
 mod message;
 
+pub use address::{Address, Target};
 pub use fault::{AddFault, FindFault};
 pub use kind::Kind;
 pub use message::{DEPTH_LIMIT, FIELD_LIMIT, Field, Message, VALUE_LIMIT, Value};

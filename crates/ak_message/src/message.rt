@@ -4,9 +4,10 @@ ghost use Rattle.ak_message.specs.Seen.{value_of, field_of, fields_of};
 ghost use Rattle.ak_message.specs.Fields.{added, add_fault, found_in, is_named, place_fault, field_named, new_field, with_value};
 ghost use Rattle.ak_message.specs.Finds.{Finds};
 
+use crate::address::Address;
 use crate::fault::{AddFault, FindFault};
 use crate::kind::Kind;
-use ak_base::{Bytes, Code, NoMemory, Text, is_word};
+use ak_base::{Bytes, Code, NoMemory, Raw, Text, is_word};
 use std::alloc::Global;
 use std::marker::Model;
 
@@ -23,9 +24,19 @@ pub const DEPTH_LIMIT: u32 = 16;
 #[cycle(message)]
 #[derive(Drop)]
 pub enum Value {
+    Bool(bool),
+    Int8(i8),
+    Int16(i16),
     Int32(i32),
+    Int64(i64),
+    UInt8(u8),
+    UInt16(u16),
+    UInt32(u32),
+    UInt64(u64),
     Text(Text),
     Message(Box<Message>),
+    Messenger(Address),
+    Raw(Raw),
 }
 
 /// The values of one name, all of one kind.
@@ -75,9 +86,19 @@ impl Value {
         ensures { result ≡ kind_of (value_of self.now) }
     {
         match self {
+            Value::Bool(_) => Kind::Bool,
+            Value::Int8(_) => Kind::Int8,
+            Value::Int16(_) => Kind::Int16,
             Value::Int32(_) => Kind::Int32,
+            Value::Int64(_) => Kind::Int64,
+            Value::UInt8(_) => Kind::UInt8,
+            Value::UInt16(_) => Kind::UInt16,
+            Value::UInt32(_) => Kind::UInt32,
+            Value::UInt64(_) => Kind::UInt64,
             Value::Text(_) => Kind::Text,
             Value::Message(_) => Kind::Message,
+            Value::Messenger(_) => Kind::Messenger,
+            Value::Raw(_) => Kind::Raw,
         }
     }
 

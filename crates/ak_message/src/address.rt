@@ -1,0 +1,15 @@
+/// Which handler of a looper a message is for.
+#[derive(Clone, Copy, Debug, PartialEq, Eq)]
+pub enum Target {
+    /// The preferred handler, or the looper where there is none.
+    Preferred,
+    /// The handler with this token.
+    Token(u64),
+}
+
+/// A looper, by its number in the run, and one of its handlers. After BeOS's BMessenger.
+#[derive(Clone, Copy, Debug, PartialEq, Eq)]
+pub struct Address {
+    pub looper: u32,
+    pub target: Target,
+}
