@@ -3,6 +3,7 @@ ghost use Rattle.ak_message.specs.Message.{kind_of, depth_of_value};
 ghost use Rattle.ak_message.specs.Seen.{value_of, field_of, fields_of};
 ghost use Rattle.ak_message.specs.Fields.{added, add_fault, found_in, is_named, place_fault, field_named, new_field, with_value};
 ghost use Rattle.ak_message.specs.Finds.{Finds};
+ghost use Rattle.ak_message.specs.Whole.{FitsValue};
 
 use crate::address::Address;
 use crate::fault::{AddFault, FindFault};
@@ -111,11 +112,55 @@ impl Value {
             _ => 0,
         }
     }
+
+    // What is true of every value: reading one shows it.
+    fn shows_that_it_fits(&self)
+        ensures { FitsValue (value_of self.now) }
+    {
+        match self {
+            Value::Bool(_) => {}
+            Value::Int8(number) => {
+                let _number = *number;
+            }
+            Value::Int16(number) => {
+                let _number = *number;
+            }
+            Value::Int32(number) => {
+                let _number = *number;
+            }
+            Value::Int64(number) => {
+                let _number = *number;
+            }
+            Value::UInt8(number) => {
+                let _number = *number;
+            }
+            Value::UInt16(number) => {
+                let _number = *number;
+            }
+            Value::UInt32(number) => {
+                let _number = *number;
+            }
+            Value::UInt64(number) => {
+                let _number = *number;
+            }
+            Value::Text(text) => {
+                let _bytes = text.as_bytes();
+            }
+            Value::Message(message) => {
+                let _code = message.what();
+            }
+            Value::Messenger(address) => address.shows_that_it_fits(),
+            Value::Raw(raw) => {
+                let _bytes = raw.as_bytes();
+            }
+        }
+    }
 }
 
 impl Message {
     ghost use Rattle.ak_message.specs.Message.{depth_of};
     ghost use Rattle.ak_message.specs.Fields.{IsMessage};
+    ghost use Rattle.ak_message.specs.Whole.{IsWhole};
 
     /// A message of this code, without fields. Takes no memory.
     pub fn new(alloc: Global, what: Code) -> Message
@@ -132,6 +177,7 @@ impl Message {
     pub fn what(&self) -> Code
         ensures value { result.0 ≡ self.now.what }
         ensures is_message { IsMessage self.now }
+        ensures is_whole { IsWhole self.now }
     {
         self.what
     }
@@ -161,6 +207,7 @@ impl Message {
             return Err(fault);
         }
         let depth = value.depth();
+        value.shows_that_it_fits();
         put(&mut self.fields, name, value)?;
         self.depth = self.depth.max(depth + 1);
         Ok(())
