@@ -1,12 +1,13 @@
-ghost use Rattle.std.specs.Prelude.{◌≡◌, [], length, position, Ok, Err, OnOk, OnErr, IfOk, option_map, IfSome, IfNone, IsOkUnless};
+ghost use Rattle.std.specs.Prelude.{◌≡◌, [], length, position, Ok, Err, OnOk, OnErr, IfOk, option_map, IfSome, IfNone, IsOkUnless, slice_get};
 ghost use Rattle.ak_message.specs.Message.{kind_of, depth_of_value};
-ghost use Rattle.ak_message.specs.Seen.{value_of, field_of, fields_of};
-ghost use Rattle.ak_message.specs.Fields.{added, add_fault, found_in, is_named, place_fault, field_named, new_field, with_value};
+ghost use Rattle.ak_message.specs.Seen.{value_of, field_of, fields_of, field_ref_of};
+ghost use Rattle.ak_message.specs.Fields.{added, add_fault, found_in, is_named, place_fault, field_named, new_field, with_value, specifier_count};
 ghost use Rattle.ak_message.specs.Finds.{Finds};
 ghost use Rattle.ak_message.specs.Whole.{FitsValue};
 
 use crate::address::Address;
 use crate::fault::{AddFault, FindFault};
+use crate::field_ref::FieldRef;
 use crate::kind::Kind;
 use ak_base::{Bytes, Code, NoMemory, Raw, Text, is_word};
 use std::alloc::Global;
@@ -244,6 +245,42 @@ impl Message {
             Some(value) => Ok(value),
             None => Err(FindFault::BadIndex),
         }
+    }
+
+    /// How many names it has, so how many fields: at most 64.
+    pub fn count_names(&self) -> u32
+        ensures { result ≡ length self.now.fields }
+    {
+        self.fields.len() as u32
+    }
+
+    /// Field `i`, in the order of adding. `None` past the last one.
+    pub fn field_at(&self, i: u32) -> Option<FieldRef<'_>>
+        ensures { option_map field_ref_of result ≡ slice_get self.now.fields i }
+    {
+        let field = self.fields.get(i as usize)?;
+        Some(FieldRef {
+            name: field.name.as_slice(),
+            kind: field.kind,
+            values: field.values.as_slice(),
+        })
+    }
+
+    /// How many specifiers it has: the values of the field `specifiers` of messages, at most 255.
+    pub fn specifiers(&self) -> u32
+        ensures { result ≡ specifier_count self.now.fields }
+    {
+        specifiers_among(&self.fields) as u32
+    }
+}
+
+// How many values the field `specifiers` of messages has.
+fn specifiers_among(fields: &[Field]) -> usize
+    ensures { result ≡ specifier_count (fields_of fields.now) }
+{
+    match field_named(fields, b"specifiers") {
+        Some(field) if field.kind == Kind::Message => field.values.len(),
+        _ => 0,
     }
 }
 
