@@ -1,4 +1,6 @@
 pub mod Adding
+pub mod Changing
 pub mod Fitting
 pub mod Keeping
+pub mod Remaining
 pub mod Specifiers

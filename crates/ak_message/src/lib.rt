@@ -10,7 +10,7 @@ mod kind;
 mod message;
 
 pub use address::{Address, Target};
-pub use fault::{AddFault, FindFault};
+pub use fault::{AddFault, FindFault, RemoveFault, ReplaceFault};
 pub use field_ref::FieldRef;
 pub use kind::Kind;
 pub use message::{DEPTH_LIMIT, FIELD_LIMIT, Field, Message, VALUE_LIMIT, Value};

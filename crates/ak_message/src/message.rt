@@ -13,6 +13,7 @@ use ak_base::{Bytes, Code, NoMemory, Raw, Text, is_word};
 use std::alloc::Global;
 use std::marker::Model;
 
+mod changes;
 mod copies;
 
 /// How many fields a message may have.

@@ -1,5 +1,5 @@
 -- The values of a field are no deeper than the field.
-use Rattle.std.proofs.Common.{ℕ, ◌+◌, ◌*◌, ◌≤◌, List, [], ◌∷◌, arith}
+use Rattle.std.proofs.Common.{◌+◌, ◌*◌, ◌≤◌, List, [], ◌∷◌, arith}
 use denote.Param.Weighed.{most}
 use Rattle.ak_message.specs.declared.message.Value.{Value}
 use Rattle.ak_message.specs.declared.message.Message.TheDeep.{deep-Value, size-Value}
