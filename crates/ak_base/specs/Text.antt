@@ -1,5 +1,5 @@
 -- What bytes are a text.
-use Rattle.std.specs.Prelude.{ℕ, ◌≤◌, List, length, Contains, IsUtf8}
+use Rattle.std.specs.Prelude.{ℕ, ◌≤◌, List, length, Contains, IsUtf8, slice_index, ◌<◌}
 
 -- at most 1,024 bytes, none of them zero
 abbrev pub IsTextBytes : List ℕ → Type 0
@@ -8,3 +8,7 @@ IsTextBytes bytes = (length bytes ≤ 1024) × ¬ (Contains bytes 0)
 -- and UTF-8
 abbrev pub IsText : List ℕ → Type 0
 IsText bytes = IsTextBytes bytes × IsUtf8 bytes
+
+-- a raw value: at most 1,024 bytes of any kind
+abbrev pub IsRaw : List ℕ → Type 0
+IsRaw bytes = (length bytes ≤ 1024) × ((i : ℕ) → slice_index bytes i < 256)

@@ -14,7 +14,9 @@ use Rattle.ak_message.specs.declared.fault.AddFault.TheVariants as add
 use Rattle.ak_message.specs.Kind.{is_same_kind, same_kind-is}
 use Rattle.ak_message.specs.Message.{ValueData, FieldData, MessageData, kind_of, depth_of, depth_of_value, depth_of_nested_values, depth_of_nested_fields, nested_values, nested_fields}
 use Rattle.ak_message.specs.Fields.{is_named, field_named, added, new_field, with_value, add_fault, place_fault, depth_fault, or_fault, IsField, IsMessage, specifier_count_in}
+use Rattle.ak_message.specs.Whole.{FitsValue, IsWhole}
 use Rattle.ak_message.proofs.Adding.{added-cases}
+use Rattle.ak_message.proofs.Fitting.{fits-added}
 
 -- ---- depth
 depth-push : (vs : List ValueData) (v : ValueData) → depth_of_nested_values (nested_values (vs ++ v ∷ [])) ≡ max (depth_of_nested_values (nested_values vs)) (depth_of_value v)
@@ -103,6 +105,7 @@ sound_after m name value h e =
           let place : place_fault (length m.fields) None (kind_of value) ≡ None = subst (λ o. place_fault (length m.fields) o (kind_of value) ≡ None) w.none places.0 in
           let room = passed (ltb (length m.fields) 64) None add.FieldLimit place in
           record {
+            code = h.code;
             every_field = rw w.after (All-push IsField m.fields _ h.every_field (new-is_field m name value h word.0));
             names_differ = rw w.after (all_pairs_push (λ f g. f.name ≢ g.name) m.fields _ h.names_differ (new_name m name value h w.none w.place));
             limit = rw w.after (grind (arith, tests, length-append m.fields (new_field name value ∷ []), room.0));
@@ -117,6 +120,7 @@ sound_after m name value h e =
           let names : (k : ℕ) (d : FieldData) → (get_or (set m.fields (position_or_len (is_named name) m.fields) (with_value w.field value)) k d).name ≡ (get_or m.fields k d).name
           = λ k d. name_at-set m.fields _ k _ d (ap (λ f. f.name) (sym (w.at d))) in
           record {
+            code = h.code;
             every_field = rw w.after (All-set IsField m.fields _ _ (grown-is_field m name value h w.field old same.0 room.0) h.every_field);
             names_differ = rw w.after (names_differ-set m.fields _ _ names h.names_differ);
             limit = rw w.after (omega (arith, length-set m.fields (position_or_len (is_named name) m.fields) (with_value w.field value), h.limit));
@@ -124,3 +128,6 @@ sound_after m name value h e =
             depth_within = shallow;
           }
     ]
+
+pub whole_after : (m : MessageData) (name : List ℕ) (value : ValueData) → IsWhole m → FitsValue value → add_fault m.fields name value ≡ None → IsWhole (record m { fields = added m.fields name value })
+whole_after m name value h fit e = (sound_after m name value h.0 e, fits-added m.fields name value h.1 fit)

@@ -12,9 +12,19 @@ use Rattle.ak_message.specs.Inside.{message_in, IsSound}
 use Rattle.ak_message.specs.Seen.{value_of, fields_of}
 
 child_size-of_value : (x : Value) → deep-Value x ≤ depth_of_value (value_of x) + 1
-child_size-of_value (v.Int32 n) = omega arith
-child_size-of_value (v.Text t) = omega arith
-child_size-of_value (v.Message m) = omega arith
+child_size-of_value (v.Bool x) = omega arith
+child_size-of_value (v.Int8 x) = omega arith
+child_size-of_value (v.Int16 x) = omega arith
+child_size-of_value (v.Int32 x) = omega arith
+child_size-of_value (v.Int64 x) = omega arith
+child_size-of_value (v.UInt8 x) = omega arith
+child_size-of_value (v.UInt16 x) = omega arith
+child_size-of_value (v.UInt32 x) = omega arith
+child_size-of_value (v.UInt64 x) = omega arith
+child_size-of_value (v.Text x) = omega arith
+child_size-of_value (v.Message x) = omega arith
+child_size-of_value (v.Messenger x) = omega arith
+child_size-of_value (v.Raw x) = omega arith
 
 child_size-of_values : (xs : List Value) → most deep-Value xs ≤ depth_of_nested_values (nested_values (map value_of xs)) + 1
 child_size-of_values [] = omega arith

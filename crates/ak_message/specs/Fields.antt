@@ -1,6 +1,6 @@
 -- The fields of a message: what an addition makes of them, why one is refused, and what is found.
-use Rattle.std.specs.Prelude.{◌≡◌, ◌≢◌, ℕ, ◌<◌, ◌≤◌, Bool, nat_lt, IsTrue, if◌then◌else◌, List, [], ◌∷◌, ◌++◌, length, codes, find, All, AllPairs, Option, None, Some, Result, Ok, Err, ok_or}
-use Rattle.std.specs.List.{slice_get}
+use Rattle.std.specs.Prelude.{◌≡◌, ◌≢◌, ℕ, ◌^◌, ◌<◌, ◌≤◌, Bool, nat_lt, IsTrue, if◌then◌else◌, List, [], ◌∷◌, ◌++◌, length, codes, find, remove, min, All, AllPairs, Option, None, Some, option_and_then, Result, Ok, Err, ok_or}
+use Rattle.std.specs.List.{slice_get, slice_set, cons_option}
 use Rattle.std.specs.Str.{bytes_eq}
 use Rattle.ak_base.specs.Word.{is_word}
 use Rattle.ak_message.specs.declared.kind.Kind.{Kind}
@@ -9,6 +9,10 @@ use Rattle.ak_message.specs.declared.fault.AddFault.{AddFault}
 use Rattle.ak_message.specs.declared.fault.AddFault.TheVariants as add
 use Rattle.ak_message.specs.declared.fault.FindFault.{FindFault}
 use Rattle.ak_message.specs.declared.fault.FindFault.TheVariants as missing
+use Rattle.ak_message.specs.declared.fault.ReplaceFault.{ReplaceFault}
+use Rattle.ak_message.specs.declared.fault.ReplaceFault.TheVariants as replace
+use Rattle.ak_message.specs.declared.fault.RemoveFault.{RemoveFault}
+use Rattle.ak_message.specs.declared.fault.RemoveFault.TheVariants as removal
 use Rattle.ak_message.specs.Kind.{is_same_kind}
 use Rattle.ak_message.specs.Message.{ValueData, FieldData, MessageData, kind_of, depth_of, depth_of_value}
 
@@ -89,6 +93,63 @@ abbrev pub AddedValuesAreFound : Type 0
 AddedValuesAreFound =
     (fields : List FieldData) (name : List ℕ) (value : ValueData) → add_fault fields name value ≡ None → IsFoundWhenAdded fields name value
 
+-- ---- changing
+-- the first field of that name becomes what `change` makes of it, or is gone where that is none
+abbrev pub changed : (FieldData → Option FieldData) → List FieldData → List ℕ → List FieldData
+changed change [] name = []
+changed change (f ∷ fs) name =
+    if is_named name f then cons_option (change f) fs else f ∷ changed change fs name
+
+abbrev pub with_values : FieldData → List ValueData → FieldData
+with_values f values = record { name = f.name; kind = f.kind; values = values }
+
+-- the value at that place of the field of that name is another one
+abbrev pub replaced : List FieldData → List ℕ → ℕ → ValueData → List FieldData
+replaced fields name index value = changed (λ f. Some (with_values f (slice_set f.values index value))) fields name
+
+abbrev pub replace_fault_in : Option FieldData → ℕ → ValueData → Option ReplaceFault
+replace_fault_in None index value = Some replace.NameNotFound
+replace_fault_in (Some f) index value =
+    if is_same_kind f.kind (kind_of value) then
+    (if nat_lt index (length f.values) then (if nat_lt (depth_of_value value) 16 then None else Some replace.TooDeep)
+    else Some replace.BadIndex)
+    else Some replace.BadType
+
+abbrev pub replace_fault : List FieldData → List ℕ → ℕ → ValueData → Option ReplaceFault
+replace_fault fields name index value = replace_fault_in (field_named fields name) index value
+
+-- ---- removing
+-- a field without values is none
+abbrev pub field_with : FieldData → List ValueData → Option FieldData
+field_with f [] = None
+field_with f (v ∷ vs) = Some (with_values f (v ∷ vs))
+
+-- the value at that place of the field of that name is gone, and with the last value the field
+abbrev pub removed_data : List FieldData → List ℕ → ℕ → List FieldData
+removed_data fields name index = changed (λ f. field_with f (remove f.values index)) fields name
+
+abbrev pub removed_name : List FieldData → List ℕ → List FieldData
+removed_name fields name = changed (λ _. None) fields name
+
+abbrev pub value_at : Option FieldData → ℕ → Option ValueData
+value_at o index = option_and_then (λ (f : FieldData). slice_get f.values index) o
+
+abbrev pub remove_fault_in : Option FieldData → ℕ → Option RemoveFault
+remove_fault_in None index = Some removal.NameNotFound
+remove_fault_in (Some f) index = if nat_lt index (length f.values) then None else Some removal.BadIndex
+
+-- of a value
+abbrev pub remove_fault : List FieldData → List ℕ → ℕ → Option RemoveFault
+remove_fault fields name index = remove_fault_in (field_named fields name) index
+
+abbrev pub name_fault_in : Option FieldData → Option RemoveFault
+name_fault_in None = Some removal.NameNotFound
+name_fault_in (Some _) = None
+
+-- of a whole field
+abbrev pub name_fault : List FieldData → List ℕ → Option RemoveFault
+name_fault fields name = name_fault_in (field_named fields name)
+
 -- ---- what is true of every message
 pub record IsField (f : FieldData) : Type 0 where
   pub word : IsTrue (is_word f.name)
@@ -105,8 +166,13 @@ abbrev pub specifier_count : List FieldData → ℕ
 specifier_count fields = specifier_count_in (field_named fields (codes "specifiers"))
 
 pub record IsMessage (m : MessageData) : Type 0 where
+  pub code : m.what < 2 ^ 32
   pub every_field : All IsField m.fields
   pub names_differ : AllPairs (λ f g. f.name ≢ g.name) m.fields
   pub limit : length m.fields ≤ 64
   pub popped_within : m.popped ≤ specifier_count m.fields
   pub depth_within : depth_of m ≤ 16
+
+-- the message with the fields that are left: no more specifiers are popped than there are
+abbrev pub with_fields_left : MessageData → List FieldData → MessageData
+with_fields_left m fields = record m { fields = fields; popped = min m.popped (specifier_count fields) }

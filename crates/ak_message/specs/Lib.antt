@@ -7,3 +7,4 @@ pub mod Message
 pub mod MessageCode
 pub mod MessageText
 pub mod Seen
+pub mod Whole

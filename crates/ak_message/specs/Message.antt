@@ -1,16 +1,27 @@
 -- What contracts see of a message: a record with real lists. What a message holds as a value is spelled by data types
 -- of its own, since a list of its own kind cannot stand in a data type; the functions below turn one into the other.
-use Rattle.std.specs.Prelude.{ℕ, ◌+◌, ℤ, max, List, [], ◌∷◌}
+use Rattle.std.specs.Prelude.{ℕ, ◌+◌, Bool, ℤ, max, List, [], ◌∷◌}
+use Rattle.ak_message.specs.declared.address.Address.{Address}
 use Rattle.ak_message.specs.declared.kind.Kind.{Kind}
 use Rattle.ak_message.specs.declared.kind.Kind.TheVariants as k
 
 mutual
   -- one value
   pub data ValueData : Type 0 where
+    bool_value : Bool → ValueData
+    int8_value : ℤ → ValueData
+    int16_value : ℤ → ValueData
     int32_value : ℤ → ValueData
+    int64_value : ℤ → ValueData
+    uint8_value : ℕ → ValueData
+    uint16_value : ℕ → ValueData
+    uint32_value : ℕ → ValueData
+    uint64_value : ℕ → ValueData
     text_value : List ℕ → ValueData
     -- its code, its fields, and how many specifiers are popped
     message_value : ℕ → NestedFields → ℕ → ValueData
+    messenger_value : Address → ValueData
+    raw_value : List ℕ → ValueData
 
   -- the values of a field of a message that is a value
   pub data NestedValues : Type 0 where
@@ -33,9 +44,19 @@ pub record MessageData : Type 0 where
   pub popped : ℕ
 
 abbrev pub kind_of : ValueData → Kind
+kind_of (bool_value _) = k.Bool
+kind_of (int8_value _) = k.Int8
+kind_of (int16_value _) = k.Int16
 kind_of (int32_value _) = k.Int32
+kind_of (int64_value _) = k.Int64
+kind_of (uint8_value _) = k.UInt8
+kind_of (uint16_value _) = k.UInt16
+kind_of (uint32_value _) = k.UInt32
+kind_of (uint64_value _) = k.UInt64
 kind_of (text_value _) = k.Text
 kind_of (message_value _ _ _) = k.Message
+kind_of (messenger_value _) = k.Messenger
+kind_of (raw_value _) = k.Raw
 
 -- ---- a message as a value, and back
 abbrev pub nested_values : List ValueData → NestedValues
@@ -65,8 +86,18 @@ message_of_nested what fields popped = record { what = what; fields = listed_fie
 -- ---- how deep messages stand in one another: 0 for a value that is no message, else one more than the deepest value
 abbrev mutual
   pub depth_of_value : ValueData → ℕ
+  depth_of_value (bool_value _) = 0
+  depth_of_value (int8_value _) = 0
+  depth_of_value (int16_value _) = 0
   depth_of_value (int32_value _) = 0
+  depth_of_value (int64_value _) = 0
+  depth_of_value (uint8_value _) = 0
+  depth_of_value (uint16_value _) = 0
+  depth_of_value (uint32_value _) = 0
+  depth_of_value (uint64_value _) = 0
   depth_of_value (text_value _) = 0
+  depth_of_value (messenger_value _) = 0
+  depth_of_value (raw_value _) = 0
   depth_of_value (message_value _ fs _) = depth_of_nested_fields fs + 1
 
   pub depth_of_nested_values : NestedValues → ℕ

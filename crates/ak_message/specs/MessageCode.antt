@@ -1,10 +1,13 @@
 -- How a proof tells messages apart: each has a code of its own, a tree of numbers.
-use Rattle.std.specs.Prelude.{◌≡◌, ℕ, zero, suc, ℤ, pos, negsuc, List, [], ◌∷◌, refl}
+use Rattle.std.specs.Prelude.{◌≡◌, ◌==◌, ℕ, zero, suc, Bool, true, false, if◌then◌else◌, ℤ, pos, negsuc, List, [], ◌∷◌, refl}
 use Rattle.std.specs.Coded.{Coded, code_by}
 use base.Stored.{Gv, gnil, gnum, gcons}
 use Rattle.std.proofs.Common.{sym, ◌∙◌, ap}
+use Rattle.ak_message.specs.declared.address.Address.{Address}
+use Rattle.ak_message.specs.declared.address.Target.{Target}
+use Rattle.ak_message.specs.declared.address.Target.TheVariants as target
 use Rattle.ak_message.specs.Kind.{code_of_kind, kind_at, kind_at-code}
-use Rattle.ak_message.specs.Message.{ValueData, int32_value, text_value, message_value, NestedValues, no_values, then_value, NestedFields, no_fields, then_field, FieldData, MessageData, nested_values, listed_values, nested_fields, listed_fields, value_of_message, message_of_nested}
+use Rattle.ak_message.specs.Message.{ValueData, bool_value, int8_value, int16_value, int32_value, int64_value, uint8_value, uint16_value, uint32_value, uint64_value, text_value, message_value, messenger_value, raw_value, NestedValues, no_values, then_value, NestedFields, no_fields, then_field, FieldData, MessageData, nested_values, listed_values, nested_fields, listed_fields, value_of_message, message_of_nested}
 
 abbrev number : Gv → ℕ
 number gnil = 0
@@ -50,12 +53,57 @@ bytes_at-code : (bs : List ℕ) → bytes_at (code_of_bytes bs) ≡ bs
 bytes_at-code [] = refl
 bytes_at-code (b ∷ bs) = ap (λ t. b ∷ t) (bytes_at-code bs)
 
+abbrev code_of_bool : Bool → Gv
+code_of_bool false = gnum 0
+code_of_bool true = gnum 1
+
+abbrev bool_at : Gv → Bool
+bool_at g = number g == 1
+
+bool_at-code : (b : Bool) → bool_at (code_of_bool b) ≡ b
+bool_at-code false = refl
+bool_at-code true = refl
+
+abbrev code_of_target : Target → Gv
+code_of_target target.Preferred = gcons (gnum 0) gnil
+code_of_target (target.Token n) = gcons (gnum 1) (gnum n)
+
+abbrev target_by : ℕ → ℕ → Target
+target_by zero n = target.Preferred
+target_by (suc _) n = target.Token n
+
+abbrev target_at : Gv → Target
+target_at g = target_by (number (first g)) (number (rest g))
+
+target_at-code : (t : Target) → target_at (code_of_target t) ≡ t
+target_at-code target.Preferred = refl
+target_at-code (target.Token n) = refl
+
+abbrev code_of_address : Address → Gv
+code_of_address a = gcons (gnum a.looper) (code_of_target a.target)
+
+abbrev address_at : Gv → Address
+address_at g = record { looper = number (first g); target = target_at (rest g) }
+
+address_at-code : (a : Address) → address_at (code_of_address a) ≡ a
+address_at-code a = ap (λ (t : Target). record { looper = a.looper; target = t }) (target_at-code a.target)
+
 -- ---- values: the number of the case, and then its parts
 abbrev mutual
   code_of_value : ValueData → Gv
-  code_of_value (int32_value z) = gcons (gnum 0) (code_of_int z)
-  code_of_value (text_value bs) = gcons (gnum 1) (code_of_bytes bs)
-  code_of_value (message_value what fs popped) = gcons (gnum 2) (gcons (gcons (gnum what) (gnum popped)) (code_of_fields fs))
+  code_of_value (bool_value x) = gcons (gnum 0) (code_of_bool x)
+  code_of_value (int8_value x) = gcons (gnum 1) (code_of_int x)
+  code_of_value (int16_value x) = gcons (gnum 2) (code_of_int x)
+  code_of_value (int32_value x) = gcons (gnum 3) (code_of_int x)
+  code_of_value (int64_value x) = gcons (gnum 4) (code_of_int x)
+  code_of_value (uint8_value x) = gcons (gnum 5) (gnum x)
+  code_of_value (uint16_value x) = gcons (gnum 6) (gnum x)
+  code_of_value (uint32_value x) = gcons (gnum 7) (gnum x)
+  code_of_value (uint64_value x) = gcons (gnum 8) (gnum x)
+  code_of_value (text_value x) = gcons (gnum 9) (code_of_bytes x)
+  code_of_value (message_value what fs popped) = gcons (gnum 10) (gcons (gcons (gnum what) (gnum popped)) (code_of_fields fs))
+  code_of_value (messenger_value x) = gcons (gnum 11) (code_of_address x)
+  code_of_value (raw_value x) = gcons (gnum 12) (code_of_bytes x)
 
   code_of_values : NestedValues → Gv
   code_of_values no_values = gnil
@@ -75,9 +123,20 @@ record Read : Type 0 where
   rest_fields : NestedFields
 
 abbrev value_by : ℕ → Gv → NestedFields → ValueData
-value_by zero g fs = int32_value (int_at g)
-value_by (suc zero) g fs = text_value (bytes_at g)
-value_by (suc (suc _)) g fs = message_value (number (first (first g))) fs (number (rest (first g)))
+value_by n g fs =
+    if n == 0 then bool_value (bool_at g)
+    else if n == 1 then int8_value (int_at g)
+    else if n == 2 then int16_value (int_at g)
+    else if n == 3 then int32_value (int_at g)
+    else if n == 4 then int64_value (int_at g)
+    else if n == 5 then uint8_value (number g)
+    else if n == 6 then uint16_value (number g)
+    else if n == 7 then uint32_value (number g)
+    else if n == 8 then uint64_value (number g)
+    else if n == 9 then text_value (bytes_at g)
+    else if n == 10 then message_value (number (first (first g))) fs (number (rest (first g)))
+    else if n == 11 then messenger_value (address_at g)
+    else raw_value (bytes_at g)
 
 abbrev nothing : Read
 nothing =
@@ -97,9 +156,19 @@ read (gcons a b) =
 
 mutual
   pub read-value : (v : ValueData) → (read (code_of_value v)).value ≡ v
-  read-value (int32_value z) = ap int32_value (int_at-code z)
-  read-value (text_value bs) = ap text_value (bytes_at-code bs)
+  read-value (bool_value x) = ap bool_value (bool_at-code x)
+  read-value (int8_value x) = ap int8_value (int_at-code x)
+  read-value (int16_value x) = ap int16_value (int_at-code x)
+  read-value (int32_value x) = ap int32_value (int_at-code x)
+  read-value (int64_value x) = ap int64_value (int_at-code x)
+  read-value (uint8_value x) = refl
+  read-value (uint16_value x) = refl
+  read-value (uint32_value x) = refl
+  read-value (uint64_value x) = refl
+  read-value (text_value x) = ap text_value (bytes_at-code x)
   read-value (message_value what fs popped) = ap (λ t. message_value what t popped) (read-fields fs)
+  read-value (messenger_value x) = ap messenger_value (address_at-code x)
+  read-value (raw_value x) = ap raw_value (bytes_at-code x)
 
   read-values : (vs : NestedValues) → (read (code_of_values vs)).values ≡ vs
   read-values no_values = refl
@@ -125,9 +194,8 @@ listed_fields-nested (f ∷ fs) =
     λ i. (record { name = f.name; kind = f.kind; values = listed_values-nested f.values i }) ∷ listed_fields-nested fs i
 
 abbrev message_at : ValueData → MessageData
-message_at (int32_value _) = message_of_nested 0 no_fields 0
-message_at (text_value _) = message_of_nested 0 no_fields 0
 message_at (message_value what fs popped) = message_of_nested what fs popped
+message_at _ = message_of_nested 0 no_fields 0
 
 pub message_at-value : (m : MessageData) → message_at (value_of_message m) ≡ m
 message_at-value m = λ i. record { what = m.what; fields = listed_fields-nested m.fields i; popped = m.popped }

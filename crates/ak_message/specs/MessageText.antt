@@ -1,37 +1,54 @@
 -- The printed text of a message, as 'RPLY' result=LONG:3 error=LONG:0
-use Rattle.std.specs.Prelude.{◌≡◌, ℕ, pos, negsuc, ◌+◌, ◌/◌, ◌%◌, ◌&&◌, ◌||◌, ◌==◌, nat_lt, nat_le, if◌then◌else◌, List, [], ◌∷◌, ◌++◌, codes, refl}
+use Rattle.std.specs.Prelude.{◌≡◌, ℕ, Bool, true, false, pos, negsuc, ◌&&◌, ◌||◌, ◌==◌, nat_lt, nat_le, if◌then◌else◌, List, [], ◌∷◌, ◌++◌, codes, refl}
 use Rattle.std.specs.List.{flat_map}
-use Rattle.std.specs.Fmt.{digits, signed_decimal}
-use Rattle.ak_base.specs.Code.{code_text}
+use Rattle.std.specs.Fmt.{digits, decimal, signed_decimal}
+use Rattle.ak_base.specs.Code.{code_text, hex_of}
+use Rattle.ak_message.specs.declared.address.Address.{Address}
+use Rattle.ak_message.specs.declared.address.Target.{Target}
+use Rattle.ak_message.specs.declared.address.Target.TheVariants as target
 use Rattle.ak_message.specs.declared.kind.Kind.TheVariants as k
 use Rattle.ak_message.specs.Kind.{kind_letters}
-use Rattle.ak_message.specs.Message.{ValueData, int32_value, text_value, message_value, NestedValues, no_values, then_value, NestedFields, no_fields, then_field, MessageData, kind_of, nested_fields}
-
--- a lower-case hex digit
-abbrev hex_digit : ℕ → ℕ
-hex_digit n = if nat_lt n 10 then 48 + n else 87 + n
-
--- two lower-case hex digits
-abbrev pub hex_byte : ℕ → List ℕ
-hex_byte b = hex_digit (b / 16) ∷ hex_digit (b % 16) ∷ []
+use Rattle.ak_message.specs.Message.{ValueData, bool_value, int8_value, int16_value, int32_value, int64_value, uint8_value, uint16_value, uint32_value, uint64_value, text_value, message_value, messenger_value, raw_value, NestedValues, no_values, then_value, NestedFields, no_fields, then_field, MessageData, kind_of, nested_fields}
 
 -- `"` and `\` have a `\` before them; a control byte is `\x` and two hex digits; every other byte stands as it is
 abbrev pub quoted_byte : ℕ → List ℕ
 quoted_byte b =
     if b == 34 || b == 92 then 92 ∷ b ∷ []
-    else if (nat_le 1 b && nat_lt b 32) || b == 127 then codes "\\x" ++ hex_byte b
+    else if (nat_le 1 b && nat_lt b 32) || b == 127 then codes "\\x" ++ hex_of b
     else b ∷ []
 
 -- in double quotes
 abbrev pub quoted : List ℕ → List ℕ
 quoted bytes = 34 ∷ flat_map quoted_byte bytes ++ 34 ∷ []
 
+abbrev bool_text : Bool → List ℕ
+bool_text true = codes "true"
+bool_text false = codes "false"
+
+-- the looper, a point, and `p` for the preferred handler or the token
+abbrev target_text : Target → List ℕ
+target_text target.Preferred = codes "p"
+target_text (target.Token n) = decimal n
+
+abbrev address_text : Address → List ℕ
+address_text a = decimal a.looper ++ 46 ∷ target_text a.target
+
 -- ---- a value is its kind's letters, a colon and its payload
 abbrev mutual
   pub payload_text : ValueData → List ℕ
-  payload_text (int32_value n) = signed_decimal n
-  payload_text (text_value bytes) = quoted bytes
+  payload_text (bool_value x) = bool_text x
+  payload_text (int8_value x) = signed_decimal x
+  payload_text (int16_value x) = signed_decimal x
+  payload_text (int32_value x) = signed_decimal x
+  payload_text (int64_value x) = signed_decimal x
+  payload_text (uint8_value x) = decimal x
+  payload_text (uint16_value x) = decimal x
+  payload_text (uint32_value x) = decimal x
+  payload_text (uint64_value x) = decimal x
+  payload_text (text_value x) = quoted x
   payload_text (message_value what fields _) = 123 ∷ code_text what ++ nested_fields_text fields ++ 125 ∷ []
+  payload_text (messenger_value x) = address_text x
+  payload_text (raw_value x) = flat_map hex_of x
 
   -- of values behind a first one
   pub more_values_text : NestedValues → List ℕ

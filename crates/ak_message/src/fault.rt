@@ -25,6 +25,28 @@ pub enum FindFault {
     BadIndex,
 }
 
+/// Why no value was replaced. They are tested in this order.
+#[derive(Clone, Copy, Debug, PartialEq, Eq)]
+pub enum ReplaceFault {
+    /// No field has that name.
+    NameNotFound,
+    /// The field of that name has another kind than the value.
+    BadType,
+    /// The field has not so many values.
+    BadIndex,
+    /// The value is a message that is 16 messages deep.
+    TooDeep,
+}
+
+/// Why nothing was removed. They are tested in this order.
+#[derive(Clone, Copy, Debug, PartialEq, Eq)]
+pub enum RemoveFault {
+    /// No field has that name.
+    NameNotFound,
+    /// The field has not so many values.
+    BadIndex,
+}
+
 impl From<NoMemory> for AddFault {
     ghost use Rattle.std.specs.Prelude.{◌≡◌};
     ghost use Rattle.ak_message.specs.declared.fault.AddFault.TheVariants as fault;

@@ -3,11 +3,15 @@
 //! Contracts see a message as a record of lists. Nothing here waits, and nothing is shared.
 #![tactic(auto)]
 
+mod address;
 mod fault;
+mod field_ref;
 mod kind;
 mod message;
 
-pub use fault::{AddFault, FindFault};
+pub use address::{Address, Target};
+pub use fault::{AddFault, FindFault, RemoveFault, ReplaceFault};
+pub use field_ref::FieldRef;
 pub use kind::Kind;
 pub use message::{
     DEPTH_LIMIT, FIELD_LIMIT, Field, Message, VALUE_LIMIT, Value, added_values_are_found,

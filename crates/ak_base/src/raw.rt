@@ -1,0 +1,94 @@
+ghost use Rattle.std.specs.Prelude.{◌≡◌, ◌<◌, ◌≤◌, ◌↔◌, length, IfOk, IsErrOf};
+ghost use Rattle.ak_base.specs.declared.raw.TheConstants.{RAW_LIMIT};
+
+use crate::no_memory::NoMemory;
+use std::alloc::{AllocError, Global};
+use std::marker::Model;
+
+/// The longest raw value, in bytes.
+pub const RAW_LIMIT: usize = 1024;
+
+/// Why bytes are no raw value, or could not be kept.
+#[derive(Clone, Copy, Debug, PartialEq, Eq)]
+pub enum RawFault {
+    /// Over 1,024 bytes.
+    TooLong,
+    NoMemory,
+}
+
+impl From<AllocError> for RawFault {
+    ghost use Rattle.std.specs.Prelude.{◌≡◌};
+    ghost use Rattle.ak_base.specs.declared.raw.RawFault.TheVariants.{NoMemory};
+
+    ghost from_gives = { λ _ e. e ≡ NoMemory };
+
+    fn from(_error: AllocError) -> RawFault {
+        RawFault::NoMemory
+    }
+}
+
+/// At most 1,024 bytes of any kind. Contracts see the bytes.
+#[derive(Debug, Drop)]
+pub struct Raw {
+    bytes: Vec<u8>,
+}
+
+impl Model for Raw {
+    ghost use Rattle.std.specs.Prelude.{List, ℕ};
+    ghost use Rattle.ak_base.specs.Text.{IsRaw};
+
+    ghost Value = { List ℕ };
+
+    ghost view = { λ r. r.bytes.items };
+
+    ghost invariant = { λ r. IsRaw r.bytes.items };
+}
+
+impl Raw {
+    ghost use Rattle.ak_base.specs.Text.{IsRaw};
+
+    /// The raw value of these bytes. The faults are tested in the order of `RawFault`.
+    pub fn from_bytes(alloc: Global, b: &[u8]) -> Result<Raw, RawFault>
+        ensures ok { IfOk result (λ r. r ≡ b.now) }
+        ensures too_long { IsErrOf result RawFault.TooLong ↔ (RAW_LIMIT < length b.now) }
+    {
+        if b.len() > RAW_LIMIT {
+            return Err(RawFault::TooLong);
+        }
+        Ok(Raw {
+            bytes: Vec::from_slice(alloc, b)?,
+        })
+    }
+
+    /// An equal value.
+    pub fn try_clone(&self) -> Result<Raw, NoMemory>
+        ensures { IfOk result (λ r. r ≡ self.now) }
+    {
+        Ok(Raw {
+            bytes: Vec::from_slice(*self.bytes.allocator(), self.bytes.as_slice())?,
+        })
+    }
+
+    pub fn as_bytes(&self) -> &[u8]
+        ensures value { result.now ≡ self.now }
+        ensures is_raw { IsRaw self.now }
+    {
+        self.bytes.as_slice()
+    }
+}
+
+#[cfg(test)]
+mod tests {
+    use super::*;
+    use std::test::Fail;
+
+    #[test]
+    fn raw_values_have_at_most_1024_bytes(rt: HostRuntime) -> Result<(), Fail> {
+        let long = vec![in rt.alloc(); 0xff; 1025]?;
+        let raw = Raw::from_bytes(rt.alloc(), &long[..1024])?;
+        assert_eq!(rt; raw.as_bytes(), &long[..1024]);
+        assert_eq!(rt; raw.try_clone()?.as_bytes(), raw.as_bytes());
+        assert_eq!(rt; Raw::from_bytes(rt.alloc(), &long).err(), Some(RawFault::TooLong));
+        Ok(())
+    }
+}

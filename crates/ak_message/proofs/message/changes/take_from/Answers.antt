@@ -1,0 +1,13 @@
+-- The field is there with fewer values, or its last value and the field are gone.
+use Rattle.std.proofs.Common.{arith}
+use Rattle.std.proofs.lemmas.Grind.{common_steps}
+use Rattle.ak_message.proofs.Changing.{removals}
+use Rattle.ak_message.proofs.message.changes.take_from.Goals as goal
+use Rattle.ak_message.proofs.message.changes.take_from.Goals.{then-is_empty, else-is_empty}
+
+pub returns-clause-some : goal.returns-clause-some
+returns-clause-some c =
+    elim c.if-is_empty.branch [
+      | then-is_empty w ↦ grind (arith, common_steps, removals)
+      | else-is_empty w ↦ grind (arith, common_steps, removals)
+    ]
