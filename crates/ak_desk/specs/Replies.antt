@@ -3,7 +3,7 @@ use Rattle.std.specs.Prelude.{ℕ, ℤ, ◌==◌, Bool, true, false, List, codes
 use Rattle.ak_base.specs.Code.{code_of}
 use Rattle.ak_message.specs.declared.kind.Kind.TheVariants as k
 use Rattle.ak_message.specs.declared.fault.FindFault.{FindFault}
-use Rattle.ak_message.specs.Message.{ValueData, MessageData, int32_value, text_value, message_value, message_of_nested}
+use Rattle.ak_message.specs.Message.{ValueData, MessageData, text_value, message_value, message_of_nested}
 use Rattle.ak_message.specs.Fields.{found_in}
 use Rattle.ak_desk.specs.Messages.{value_reply, no_reply, not_understood}
 use Rattle.ak_desk.specs.Rows.{value_of_row}
@@ -11,16 +11,12 @@ use Rattle.ak_desk.specs.Rows.{value_of_row}
 -- the text that was found
 abbrev pub text_found : Result ValueData FindFault → Option (List ℕ)
 text_found (Ok (text_value text)) = Some text
-text_found (Ok (int32_value _)) = None
-text_found (Ok (message_value _ _ _)) = None
-text_found (Err _) = None
+text_found _ = None
 
 -- the message that was found
 abbrev pub message_found : Result ValueData FindFault → Option MessageData
 message_found (Ok (message_value what nested popped)) = Some (message_of_nested what nested popped)
-message_found (Ok (int32_value _)) = None
-message_found (Ok (text_value _)) = None
-message_found (Err _) = None
+message_found _ = None
 
 abbrev pub is_missing : Result ValueData FindFault → Bool
 is_missing (Ok _) = false

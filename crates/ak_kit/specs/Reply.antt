@@ -2,7 +2,7 @@
 use Rattle.std.specs.Prelude.{◌≡◌, ◌⊎◌, ℕ, ℤ, List, [], ◌++◌, codes, Result, Ok, Err}
 use Rattle.std.specs.Fmt.{signed_decimal}
 use Rattle.ak_message.specs.declared.fault.FindFault.{FindFault}
-use Rattle.ak_message.specs.Message.{ValueData, MessageData, int32_value, text_value, message_value}
+use Rattle.ak_message.specs.Message.{ValueData, MessageData, int32_value}
 use Rattle.ak_desk.specs.Messages.{value_reply, no_reply, not_understood}
 
 -- with a value, or without a field
@@ -12,6 +12,4 @@ IsAnswer m = ((n : ℤ) × (m ≡ value_reply n)) ⊎ ((m ≡ no_reply) ⊎ (m �
 -- the text of a field, where a number was found
 abbrev pub number_text : List ℕ → Result ValueData FindFault → List ℕ
 number_text name (Ok (int32_value n)) = codes " " ++ name ++ codes "=LONG:" ++ signed_decimal n
-number_text name (Ok (text_value _)) = []
-number_text name (Ok (message_value _ _ _)) = []
-number_text name (Err _) = []
+number_text name _ = []

@@ -1,4 +1,6 @@
 use super::*;
+use crate::address::Target;
+use crate::fault::{RemoveFault, ReplaceFault};
 use std::test::Fail;
 
 fn number(message: &Message, name: &[u8], index: u32) -> Option<i32> {
@@ -13,6 +15,10 @@ fn boxed(alloc: Global, message: Message) -> Result<Value, AddFault> {
         Ok(message) => Ok(Value::Message(message)),
         Err(_) => Err(AddFault::NoMemory),
     }
+}
+
+fn text(alloc: Global, bytes: &[u8]) -> Result<Value, Fail> {
+    Ok(Value::Text(Text::from_bytes(alloc, bytes)?))
 }
 
 // Messages in one another, so many deep.
@@ -30,7 +36,7 @@ fn nested(alloc: Global, depth: u32) -> Result<Message, AddFault> {
 fn values_are_found(rt: HostRuntime) -> Result<(), Fail> {
     let alloc = rt.alloc();
     let mut message = Message::new(alloc, Code(7));
-    message.add(b"a", Value::Text(Text::from_bytes(alloc, b"x")?))?;
+    message.add(b"a", text(alloc, b"x")?)?;
     message.add(b"n", Value::Int32(-5))?;
     message.add(b"n", Value::Int32(6))?;
     assert_eq!(rt; message.what(), Code(7));
@@ -59,7 +65,7 @@ fn values_are_found(rt: HostRuntime) -> Result<(), Fail> {
 fn additions_are_refused(rt: HostRuntime) -> Result<(), Fail> {
     let alloc = rt.alloc();
     let mut message = Message::new(alloc, Code(1));
-    message.add(b"a", Value::Text(Text::from_bytes(alloc, b"x")?))?;
+    message.add(b"a", text(alloc, b"x")?)?;
     assert_eq!(rt; message.add(b"a", Value::Int32(5)), Err(AddFault::BadType));
     assert_eq!(rt; message.add(b"", Value::Int32(5)), Err(AddFault::BadName));
     assert_eq!(rt;
@@ -110,5 +116,174 @@ fn depth_is_limited(rt: HostRuntime) -> Result<(), Fail> {
         Ok(())
     );
     assert_eq!(rt; message.find(b"m", Kind::Message, 0).is_ok(), true);
+    Ok(())
+}
+
+fn sample(alloc: Global, kind: Kind) -> Result<Value, Fail> {
+    Ok(match kind {
+        Kind::Bool => Value::Bool(true),
+        Kind::Int8 => Value::Int8(-128),
+        Kind::Int16 => Value::Int16(-32768),
+        Kind::Int32 => Value::Int32(-5),
+        Kind::Int64 => Value::Int64(-6),
+        Kind::UInt8 => Value::UInt8(255),
+        Kind::UInt16 => Value::UInt16(65535),
+        Kind::UInt32 => Value::UInt32(7),
+        Kind::UInt64 => Value::UInt64(u64::MAX),
+        Kind::Text => text(alloc, b"xyz")?,
+        Kind::Message => boxed(alloc, Message::new(alloc, Code(9)))?,
+        Kind::Messenger => Value::Messenger(Address {
+            looper: 4,
+            target: Target::Token(8),
+        }),
+        Kind::Raw => Value::Raw(Raw::from_bytes(alloc, &[0xff, 0])?),
+    })
+}
+
+fn shown(value: &Value) -> i128 {
+    match value {
+        Value::Bool(x) => i128::from(*x),
+        Value::Int8(x) => i128::from(*x),
+        Value::Int16(x) => i128::from(*x),
+        Value::Int32(x) => i128::from(*x),
+        Value::Int64(x) => i128::from(*x),
+        Value::UInt8(x) => i128::from(*x),
+        Value::UInt16(x) => i128::from(*x),
+        Value::UInt32(x) => i128::from(*x),
+        Value::UInt64(x) => i128::from(*x),
+        Value::Text(x) => x.as_bytes().len() as i128,
+        Value::Message(x) => i128::from(x.what().0),
+        Value::Messenger(x) => i128::from(x.looper),
+        Value::Raw(x) => x.as_bytes().len() as i128,
+    }
+}
+
+#[test]
+fn every_kind_is_kept(rt: HostRuntime) -> Result<(), Fail> {
+    let alloc = rt.alloc();
+    let mut message = Message::new(alloc, Code(1));
+    let rows = [
+        ("bool", Kind::Bool, 1),
+        ("int8", Kind::Int8, -128),
+        ("int16", Kind::Int16, -32768),
+        ("int32", Kind::Int32, -5),
+        ("int64", Kind::Int64, -6),
+        ("uint8", Kind::UInt8, 255),
+        ("uint16", Kind::UInt16, 65535),
+        ("uint32", Kind::UInt32, 7),
+        ("uint64", Kind::UInt64, 18446744073709551615),
+        ("text", Kind::Text, 3),
+        ("message", Kind::Message, 9),
+        ("messenger", Kind::Messenger, 4),
+        ("raw", Kind::Raw, 2),
+    ];
+    for (name, kind, _) in rows {
+        message.add(name.as_bytes(), sample(alloc, kind)?)?;
+    }
+    let message = message.try_clone()?;
+    assert_eq!(rt; message.count_names(), 13);
+    for (i, (name, kind, number)) in rows.into_iter().enumerate() {
+        let value = message.find(name.as_bytes(), kind, 0)?;
+        assert_eq!(rt; value.kind(), kind);
+        assert_eq!(rt; shown(value), number);
+        let field = message.field_at(i as u32).ok_or("no field")?;
+        assert_eq!(rt; field.name, name.as_bytes());
+        assert_eq!(rt; field.kind, kind);
+        assert_eq!(rt; field.values.len(), 1);
+    }
+    assert_eq!(rt; message.field_at(13).is_none(), true);
+    Ok(())
+}
+
+#[test]
+fn values_are_replaced(rt: HostRuntime) -> Result<(), Fail> {
+    let alloc = rt.alloc();
+    let mut message = Message::new(alloc, Code(1));
+    message.add(b"a", text(alloc, b"x")?)?;
+    message.add(b"m", boxed(alloc, nested(alloc, 15)?)?)?;
+    for (name, index, value, fault) in [
+        ("a", 0, Value::Int32(5), ReplaceFault::BadType),
+        ("a", 1, Value::Int32(5), ReplaceFault::BadType),
+        ("a", 1, text(alloc, b"y")?, ReplaceFault::BadIndex),
+        ("b", 0, Value::Int32(5), ReplaceFault::NameNotFound),
+        (
+            "m",
+            1,
+            boxed(alloc, nested(alloc, 16)?)?,
+            ReplaceFault::BadIndex,
+        ),
+        (
+            "m",
+            0,
+            boxed(alloc, nested(alloc, 16)?)?,
+            ReplaceFault::TooDeep,
+        ),
+    ] {
+        assert_eq!(rt; message.replace(name.as_bytes(), index, value), Err(fault));
+    }
+    assert_eq!(rt; message.replace(b"a", 0, text(alloc, b"yz")?), Ok(()));
+    assert_eq!(rt; shown(message.find(b"a", Kind::Text, 0)?), 2);
+    assert_eq!(rt;
+        message.replace(b"m", 0, boxed(alloc, nested(alloc, 1)?)?),
+        Ok(())
+    );
+    // it is two deep now, so thirteen more may stand round it
+    let mut outer = nested(alloc, 14)?;
+    assert_eq!(rt; outer.add(b"n", boxed(alloc, message)?), Ok(()));
+    Ok(())
+}
+
+#[test]
+fn values_are_removed(rt: HostRuntime) -> Result<(), Fail> {
+    let alloc = rt.alloc();
+    let mut message = Message::new(alloc, Code(1));
+    for n in 1..4 {
+        message.add(b"n", Value::Int32(n))?;
+    }
+    assert_eq!(rt;
+        message.remove_data(b"b", 0),
+        Err(RemoveFault::NameNotFound)
+    );
+    assert_eq!(rt; message.remove_data(b"n", 3), Err(RemoveFault::BadIndex));
+    assert_eq!(rt; message.take_first(b"n", Kind::Text).is_none(), true);
+    let first = message.take_first(b"n", Kind::Int32).ok_or("no value")?;
+    assert_eq!(rt; shown(&first), 1);
+    assert_eq!(rt; message.remove_data(b"n", 1), Ok(()));
+    assert_eq!(rt; number(&message, b"n", 0), Some(2));
+    assert_eq!(rt; message.remove_data(b"n", 0), Ok(()));
+    assert_eq!(rt; message.count_names(), 0);
+    assert_eq!(rt; message.remove_name(b"n"), Err(RemoveFault::NameNotFound));
+    Ok(())
+}
+
+#[test]
+fn depth_falls_with_a_removal(rt: HostRuntime) -> Result<(), Fail> {
+    let alloc = rt.alloc();
+    let mut message = nested(alloc, 16)?;
+    assert_eq!(rt; message.remove_name(b"m"), Ok(()));
+    let mut outer = Message::new(alloc, Code(1));
+    assert_eq!(rt; outer.add(b"m", boxed(alloc, message)?), Ok(()));
+    Ok(())
+}
+
+#[test]
+fn popped_specifiers_are_kept_and_lowered(rt: HostRuntime) -> Result<(), Fail> {
+    let alloc = rt.alloc();
+    let mut message = Message::new(alloc, Code(1));
+    message.add(b"specifiers", boxed(alloc, Message::new(alloc, Code(2)))?)?;
+    message.add(b"specifiers", boxed(alloc, Message::new(alloc, Code(3)))?)?;
+    assert!(rt; message.specifiers() == 2);
+    message.set_popped(2);
+    let mut copy = message.try_clone()?;
+    assert_eq!(rt; message.remove_data(b"specifiers", 0), Ok(()));
+    assert_eq!(rt; message.popped(), 1);
+    assert_eq!(rt; message.remove_name(b"specifiers"), Ok(()));
+    assert_eq!(rt; message.popped(), 0);
+    copy.set_what(Code(5));
+    assert_eq!(rt; copy.popped(), 2);
+    copy.make_empty();
+    assert_eq!(rt; copy.popped(), 0);
+    assert_eq!(rt; copy.count_names(), 0);
+    assert_eq!(rt; copy.what(), Code(5));
     Ok(())
 }
