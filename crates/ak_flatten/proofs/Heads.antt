@@ -59,7 +59,7 @@ opening_takes left x fits e =
     let ab = Takes-then left magic a.0 (to_be_bytes w32 b.0.0) b.0.1 ta tb.0 in
     let ac = Takes-then left (magic ++ to_be_bytes w32 b.0.0) b.0.1 (to_be_bytes w32 c.0.0) c.0.1 ab tc.0 in
     let made : (ℕ × ℕ) × Left = ((b.0.0, c.0.0), c.0.1) in
-    subst (λ (y : (ℕ × ℕ) × Left). Takes left (opening_bytes y.0.0 y.0.1) y.1 × (y.0.0 < 2 ^ 32) × (y.0.1 ≤ 64)) (ok_is made x c.2) (ac, tb.1, tc.1)
+    subst (λ (y : (ℕ × ℕ) × Left). Takes left (opening_bytes y.0.0 y.0.1) y.1 × (y.0.0 < 2 ^ 32) × (y.0.1 ≤ 64)) {x = made} (ok_is made x c.2) (ac, tb.1, tc.1)
 
 pub opening_again : (p what count : ℕ) (rest : List ℕ) → what < 2 ^ 32 → count ≤ 64 → (q : ℕ) × (opening_at (at p (opening_bytes what count ++ rest)) ≡ Ok ((what, count), at q rest))
 unfolding opening_at
@@ -161,8 +161,8 @@ name_takes earlier left x fits e =
     let tb = bytes_take a.0.0 a.0.1 b.0 ta.fits b.1 in
     let ab = Takes-then left (a.0.0 ∷ []) a.0.1 b.0.0 b.0.1 ta tb.0 in
     let whole : Takes left (length b.0.0 ∷ b.0.0) b.0.1 = subst (λ (n : ℕ). Takes left (n ∷ b.0.0) b.0.1) (sym tb.1) ab in
-    let read : b.0 ≡ x = w.1 ∙ m.1 in
-    let new : is_some (field_named earlier b.0.0) ≡ false = not-true _ (subst (λ (y : List ℕ × Left). not (is_some (field_named earlier y.0)) ≡ true) (sym w.1) m.0) in
+    let read : b.0 ≡ x = ◌∙◌ {b = c.0} w.1 m.1 in
+    let new : is_some (field_named earlier b.0.0) ≡ false = not-true _ (subst (λ (y : List ℕ × Left). not (is_some (field_named earlier y.0)) ≡ true) {x = c.0} {y = b.0} (sym {b = c.0} w.1) m.0) in
     subst (λ (y : List ℕ × Left). Takes left (length y.0 ∷ y.0) y.1 × (is_word y.0 ≡ true) × (is_some (field_named earlier y.0) ≡ false)) read (whole, w.0, new)
 
 pub word_len : (name : List ℕ) → is_word name ≡ true → (1 ≤ length name) × (length name ≤ 64)

@@ -1,5 +1,5 @@
 -- The parts of a flat text: what is read from a front was written there, and what was written is read again.
-use Rattle.std.proofs.Common.{◌≡◌, ℕ, suc, ◌+◌, ◌^◌, ◌<◌, ◌≤◌, Bool, true, false, cond, ◌&&◌, leb, List, [], ◌∷◌, ◌++◌, length, get_or, take, drop, Option, Some, None, Result, Ok, Err, refl, sym, ap, subst, ◌∙◌, append_assoc, arith, inl, inr}
+use Rattle.std.proofs.Common.{◌≡◌, ℕ, suc, ◌+◌, ◌^◌, ◌<◌, ◌≤◌, Bool, true, false, cond, ◌&&◌, leb, List, [], ◌∷◌, ◌++◌, length, get_or, take, drop, Option, Some, None, Result, Ok, Err, refl, sym, ap, subst, ◌∙◌, append_assoc, arith, inl, inr, Fits}
 use Rattle.std.specs.Int.{Width, w8, w16, w32, w64, byte_len, from_be_bytes, to_be_bytes}
 use Rattle.std.proofs.lemmas.Bool.{cases_lt, leb-true, le-leb}
 use Rattle.std.proofs.lemmas.List.{take_at, drop_at, take-append-drop, length-append, length-take, get_or-drop, get_or-take, get_or_past}
@@ -71,6 +71,8 @@ pub record IsWide (w : Width) (limit : ℕ) : Type 0 where
   pub back : (bytes : List ℕ) → length bytes ≡ byte_len w → AreBytes bytes → to_be_bytes w (from_be_bytes w bytes) ≡ bytes
   pub again : (n : ℕ) → n < limit → from_be_bytes w (to_be_bytes w n) ≡ n
   pub below : (bytes : List ℕ) → AreBytes bytes → from_be_bytes w bytes < limit
+  pub fit : (n : ℕ) → n < limit → Fits w n
+  pub small : (n : ℕ) → Fits w n → n < limit
 
 pub wide16 : IsWide w16 (2 ^ 16)
 wide16 = record {
@@ -78,6 +80,8 @@ wide16 = record {
   back = λ bytes len fits. be_bytes_2 bytes _ len fits refl;
   again = λ n lt. from_be_bytes-to_be_bytes_2 n lt;
   below = λ bytes fits. omega (arith, fits 0, fits 1);
+  fit = λ n lt. record { fits = lt };
+  small = λ n f. f.fits;
 }
 
 pub wide32 : IsWide w32 (2 ^ 32)
@@ -86,6 +90,8 @@ wide32 = record {
   back = λ bytes len fits. be_bytes_4 bytes _ len fits refl;
   again = λ n lt. from_be_bytes-to_be_bytes_4 n lt;
   below = λ bytes fits. omega (arith, fits 0, fits 1, fits 2, fits 3);
+  fit = λ n lt. record { fits = lt };
+  small = λ n f. f.fits;
 }
 
 pub wide64 : IsWide w64 (2 ^ 64)
@@ -94,6 +100,8 @@ wide64 = record {
   back = λ bytes len fits. be_bytes_8 bytes _ len fits refl;
   again = λ n lt. from_be_bytes-to_be_bytes_8 n lt;
   below = λ bytes fits. omega (arith, fits 0, fits 1, fits 2, fits 3, fits 4, fits 5, fits 6, fits 7);
+  fit = λ n lt. record { fits = lt };
+  small = λ n f. f.fits;
 }
 
 pub number_takes : (w : Width) (limit : ℕ) → IsWide w limit → (left : Left) (x : ℕ × Left) → AreBytes left.bytes → number_at w left ≡ Ok x → Takes left (to_be_bytes w x.0) x.1 × (x.0 < limit)
@@ -116,7 +124,7 @@ number_again w limit wide p n rest lt =
     (b.0, rw (b.1, wide.again n lt) refl)
 
 -- a byte
-one_byte : (bytes : List ℕ) → length bytes ≡ 1 → bytes ≡ get_or bytes 0 0 ∷ []
+pub one_byte : (bytes : List ℕ) → length bytes ≡ 1 → bytes ≡ get_or bytes 0 0 ∷ []
 one_byte [] e = absurd (omega arith)
 one_byte (b ∷ []) e = refl
 one_byte (b ∷ c ∷ bytes) e = absurd (omega arith)
