@@ -1,3 +1,4 @@
 pub mod Parts
 pub mod Heads
 pub mod Values
+pub mod Messages

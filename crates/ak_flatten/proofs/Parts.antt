@@ -65,6 +65,12 @@ bytes_again p n text rest len =
     let long : leb n (length (text ++ rest)) ≡ true = le-leb _ _ (omega (arith, length-append text rest)) in
     (p + n, rw (long, take_at text rest n len, drop_at text rest n len) refl)
 
+-- the bytes of a front are bytes
+pub front_of : (left : Left) (front : List ℕ) (rest : Left) → AreBytes left.bytes → left.bytes ≡ front ++ rest.bytes → AreBytes front
+front_of left front rest fits parts =
+    let is : take (length front) left.bytes ≡ front = rw parts (take_at front rest.bytes (length front) refl) in
+    subst AreBytes is (AreBytes-take (length front) left.bytes fits)
+
 -- ---- numbers
 pub record IsWide (w : Width) (limit : ℕ) : Type 0 where
   pub len : (n : ℕ) → length (to_be_bytes w n) ≡ byte_len w
@@ -111,11 +117,7 @@ number_takes w limit wide left x fits e =
     let t = bytes_take (byte_len w) left b.0 fits b.1 in
     let front_fits : AreBytes b.0.0 = front_of left b.0.0 b.0.1 fits t.0.parts in
     let made : ℕ × Left = (from_be_bytes w b.0.0, b.0.1) in
-    subst (λ (y : ℕ × Left). Takes left (to_be_bytes w y.0) y.1 × (y.0 < limit)) (ok_is made x b.2) (rw (wide.back b.0.0 t.1 front_fits) t.0, wide.below b.0.0 front_fits) where
-      front_of : (left : Left) (front : List ℕ) (rest : Left) → AreBytes left.bytes → left.bytes ≡ front ++ rest.bytes → AreBytes front
-      front_of left front rest fits parts =
-          let is : take (length front) left.bytes ≡ front = rw parts (take_at front rest.bytes (length front) refl) in
-          subst AreBytes is (AreBytes-take (length front) left.bytes fits)
+    subst (λ (y : ℕ × Left). Takes left (to_be_bytes w y.0) y.1 × (y.0 < limit)) (ok_is made x b.2) (rw (wide.back b.0.0 t.1 front_fits) t.0, wide.below b.0.0 front_fits)
 
 pub number_again : (w : Width) (limit : ℕ) → IsWide w limit → (p n : ℕ) (rest : List ℕ) → n < limit → (q : ℕ) × (number_at w (at p (to_be_bytes w n ++ rest)) ≡ Ok (n, at q rest))
 unfolding number_at

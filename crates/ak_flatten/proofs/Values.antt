@@ -87,7 +87,7 @@ address_takes left a fits len e =
     let front : List ℕ = to_be_bytes w32 x.0.0 ++ y.0.0 ∷ to_be_bytes w64 z.0.0 in
     let none : z.0.1.bytes ≡ [] = nothing_left front z.0.1.bytes 13 (ap length (sym xz.parts) ∙ len) refl in
     let all : left.bytes ≡ front = xz.parts ∙ ap (λ (r : List ℕ). front ++ r) none ∙ append-nil front in
-    let spelled : address_bytes made ≡ left.bytes = ap (λ (t : List ℕ). to_be_bytes w32 x.0.0 ++ t) (target_takes y.0.0 z.0.0 m.0) ∙ sym all in
+    let spelled : address_bytes made ≡ left.bytes = ap (λ (t : List ℕ). to_be_bytes w32 x.0.0 ++ t) (target_takes y.0.0 z.0.0 m.0) ∙ sym {a = left.bytes} {b = front} all in
     subst (λ (b : Address). (address_bytes b ≡ left.bytes) × FitsAddress b) {x = made} m.1 (spelled, (tx.1, target_fits y.0.0 z.0.0 tz.1))
 
 pub address_again : (p : ℕ) (a : Address) → FitsAddress a → address_from (at p (address_bytes a)) ≡ Ok a
