@@ -2,3 +2,5 @@ pub mod Parts
 pub mod Heads
 pub mod Values
 pub mod Messages
+pub mod Unpopping
+pub mod LawsHold

@@ -67,9 +67,9 @@ target_takes kind token e =
 target_fits : (kind token : ℕ) → token < 2 ^ 64 → FitsTarget (target_from kind token)
 target_fits kind token lt = cond_both (eqb kind 0) target.Preferred (target.Token token) FitsTarget (λ _. tt) (λ _. lt)
 
-nothing_left : (front : List ℕ) (rest : List ℕ) (n : ℕ) → length (front ++ rest) ≡ n → length front ≡ n → rest ≡ []
-nothing_left front [] n whole len = refl
-nothing_left front (b ∷ rest) n whole len = absurd (omega (arith, length-append front (b ∷ rest)))
+nothing_left : (bytes front rest : List ℕ) (n : ℕ) → bytes ≡ front ++ rest → length bytes ≡ n → length front ≡ n → rest ≡ []
+nothing_left bytes front [] n parts whole len = refl
+nothing_left bytes front (b ∷ rest) n parts whole len = absurd (omega (arith, length-append front (b ∷ rest), ap length parts))
 
 pub address_takes : (left : Left) (a : Address) → AreBytes left.bytes → length left.bytes ≡ 13 → address_from left ≡ Ok a → (address_bytes a ≡ left.bytes) × FitsAddress a
 unfolding address_from
@@ -85,8 +85,8 @@ address_takes left a fits len e =
     let yz = Takes-then x.0.1 (y.0.0 ∷ []) y.0.1 (to_be_bytes w64 z.0.0) z.0.1 ty.0 tz.0 in
     let xz = Takes-then left (to_be_bytes w32 x.0.0) x.0.1 (y.0.0 ∷ to_be_bytes w64 z.0.0) z.0.1 tx.0 yz in
     let front : List ℕ = to_be_bytes w32 x.0.0 ++ y.0.0 ∷ to_be_bytes w64 z.0.0 in
-    let none : z.0.1.bytes ≡ [] = nothing_left front z.0.1.bytes 13 (ap length (sym xz.parts) ∙ len) refl in
-    let all : left.bytes ≡ front = xz.parts ∙ ap (λ (r : List ℕ). front ++ r) none ∙ append-nil front in
+    let none : z.0.1.bytes ≡ [] = nothing_left left.bytes front z.0.1.bytes 13 xz.parts len refl in
+    let all : left.bytes ≡ front = ◌∙◌ {b = front ++ z.0.1.bytes} {c = front} xz.parts (◌∙◌ {b = front ++ []} (ap (λ (r : List ℕ). front ++ r) none) (append-nil front)) in
     let spelled : address_bytes made ≡ left.bytes = ap (λ (t : List ℕ). to_be_bytes w32 x.0.0 ++ t) (target_takes y.0.0 z.0.0 m.0) ∙ sym {a = left.bytes} {b = front} all in
     subst (λ (b : Address). (address_bytes b ≡ left.bytes) × FitsAddress b) {x = made} m.1 (spelled, (tx.1, target_fits y.0.0 z.0.0 tz.1))
 
