@@ -14,7 +14,9 @@ use Rattle.ak_message.specs.declared.fault.AddFault.TheVariants as add
 use Rattle.ak_message.specs.Kind.{is_same_kind, same_kind-is}
 use Rattle.ak_message.specs.Message.{ValueData, FieldData, MessageData, kind_of, depth_of, depth_of_value, depth_of_nested_values, depth_of_nested_fields, nested_values, nested_fields}
 use Rattle.ak_message.specs.Fields.{is_named, field_named, added, new_field, with_value, add_fault, place_fault, depth_fault, or_fault, IsField, IsMessage, specifier_count_in}
+use Rattle.ak_message.specs.Whole.{FitsValue, IsWhole}
 use Rattle.ak_message.proofs.Adding.{added-cases}
+use Rattle.ak_message.proofs.Fitting.{fits-added}
 
 -- ---- depth
 depth-push : (vs : List ValueData) (v : ValueData) → depth_of_nested_values (nested_values (vs ++ v ∷ [])) ≡ max (depth_of_nested_values (nested_values vs)) (depth_of_value v)
@@ -126,3 +128,6 @@ sound_after m name value h e =
             depth_within = shallow;
           }
     ]
+
+pub whole_after : (m : MessageData) (name : List ℕ) (value : ValueData) → IsWhole m → FitsValue value → add_fault m.fields name value ≡ None → IsWhole (record m { fields = added m.fields name value })
+whole_after m name value h fit e = (sound_after m name value h.0 e, fits-added m.fields name value h.1 fit)

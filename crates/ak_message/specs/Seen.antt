@@ -3,6 +3,7 @@ use Rattle.std.specs.Prelude.{List, map}
 use Rattle.ak_message.specs.declared.message.Value.{Value}
 use Rattle.ak_message.specs.declared.message.Value.TheVariants as v
 use Rattle.ak_message.specs.declared.message.Field.{Field}
+use Rattle.ak_message.specs.declared.field_ref.FieldRef.{FieldRef}
 use Rattle.ak_message.specs.Message.{ValueData, bool_value, int8_value, int16_value, int32_value, int64_value, uint8_value, uint16_value, uint32_value, uint64_value, text_value, messenger_value, raw_value, FieldData, value_of_message}
 
 abbrev pub value_of : Value → ValueData
@@ -25,3 +26,7 @@ field_of f = record { name = f.name; kind = f.kind; values = map value_of f.valu
 
 abbrev pub fields_of : List Field → List FieldData
 fields_of fs = map field_of fs
+
+-- what a reader sees of a field
+abbrev pub field_ref_of : FieldRef → FieldData
+field_ref_of f = record { name = f.name.now; kind = f.kind; values = map value_of f.values.now }

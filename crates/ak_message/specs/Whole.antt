@@ -1,5 +1,5 @@
 -- A message that is sound at every depth: its own fields are, each value is in its kind's range, and so is each message in it.
-use Rattle.std.specs.Prelude.{ℕ, ◌^◌, ◌<◌, FitsSigned}
+use Rattle.std.specs.Prelude.{◌^◌, ◌<◌, FitsSigned}
 use Rattle.std.specs.Int.{w8, w16, w32, w64}
 use Rattle.ak_base.specs.Text.{IsText, IsRaw}
 use Rattle.ak_message.specs.declared.address.Address.{Address}

@@ -1,3 +1,5 @@
+ghost use Rattle.ak_message.specs.Whole.{FitsAddress};
+
 /// Which handler of a looper a message is for.
 #[derive(Clone, Copy, Debug, PartialEq, Eq)]
 pub enum Target {
@@ -12,4 +14,19 @@ pub enum Target {
 pub struct Address {
     pub looper: u32,
     pub target: Target,
+}
+
+impl Address {
+    // Its numbers are in their types' ranges: reading them shows it.
+    pub(crate) fn shows_that_it_fits(&self)
+        ensures { FitsAddress self.now }
+    {
+        let _looper = self.looper;
+        match self.target {
+            Target::Preferred => {}
+            Target::Token(token) => {
+                let _token = token;
+            }
+        }
+    }
 }

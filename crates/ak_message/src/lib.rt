@@ -5,10 +5,12 @@
 
 mod address;
 mod fault;
+mod field_ref;
 mod kind;
 mod message;
 
 pub use address::{Address, Target};
 pub use fault::{AddFault, FindFault};
+pub use field_ref::FieldRef;
 pub use kind::Kind;
 pub use message::{DEPTH_LIMIT, FIELD_LIMIT, Field, Message, VALUE_LIMIT, Value};

@@ -1,15 +1,19 @@
-ghost use Rattle.std.specs.Prelude.{◌≡◌, [], length, position, Ok, Err, OnOk, OnErr, IfOk, option_map, IfSome, IfNone, IsOkUnless};
+ghost use Rattle.std.specs.Prelude.{◌≡◌, ◌≤◌, [], length, position, Ok, Err, OnOk, OnErr, IfOk, option_map, IfSome, IfNone, IsOkUnless, slice_get};
 ghost use Rattle.ak_message.specs.Message.{kind_of, depth_of_value};
-ghost use Rattle.ak_message.specs.Seen.{value_of, field_of, fields_of};
-ghost use Rattle.ak_message.specs.Fields.{added, add_fault, found_in, is_named, place_fault, field_named, new_field, with_value};
+ghost use Rattle.ak_message.specs.Seen.{value_of, field_of, fields_of, field_ref_of};
+ghost use Rattle.ak_message.specs.Fields.{added, add_fault, found_in, is_named, place_fault, field_named, new_field, with_value, specifier_count};
 ghost use Rattle.ak_message.specs.Finds.{Finds};
+ghost use Rattle.ak_message.specs.Whole.{FitsValue};
 
 use crate::address::Address;
 use crate::fault::{AddFault, FindFault};
+use crate::field_ref::FieldRef;
 use crate::kind::Kind;
 use ak_base::{Bytes, Code, NoMemory, Raw, Text, is_word};
 use std::alloc::Global;
 use std::marker::Model;
+
+mod copies;
 
 /// How many fields a message may have.
 pub const FIELD_LIMIT: usize = 64;
@@ -111,11 +115,55 @@ impl Value {
             _ => 0,
         }
     }
+
+    // What is true of every value: reading one shows it.
+    fn shows_that_it_fits(&self)
+        ensures { FitsValue (value_of self.now) }
+    {
+        match self {
+            Value::Bool(_) => {}
+            Value::Int8(number) => {
+                let _number = *number;
+            }
+            Value::Int16(number) => {
+                let _number = *number;
+            }
+            Value::Int32(number) => {
+                let _number = *number;
+            }
+            Value::Int64(number) => {
+                let _number = *number;
+            }
+            Value::UInt8(number) => {
+                let _number = *number;
+            }
+            Value::UInt16(number) => {
+                let _number = *number;
+            }
+            Value::UInt32(number) => {
+                let _number = *number;
+            }
+            Value::UInt64(number) => {
+                let _number = *number;
+            }
+            Value::Text(text) => {
+                let _bytes = text.as_bytes();
+            }
+            Value::Message(message) => {
+                let _code = message.what();
+            }
+            Value::Messenger(address) => address.shows_that_it_fits(),
+            Value::Raw(raw) => {
+                let _bytes = raw.as_bytes();
+            }
+        }
+    }
 }
 
 impl Message {
     ghost use Rattle.ak_message.specs.Message.{depth_of};
     ghost use Rattle.ak_message.specs.Fields.{IsMessage};
+    ghost use Rattle.ak_message.specs.Whole.{IsWhole};
 
     /// A message of this code, without fields. Takes no memory.
     pub fn new(alloc: Global, what: Code) -> Message
@@ -132,6 +180,7 @@ impl Message {
     pub fn what(&self) -> Code
         ensures value { result.0 ≡ self.now.what }
         ensures is_message { IsMessage self.now }
+        ensures is_whole { IsWhole self.now }
     {
         self.what
     }
@@ -149,6 +198,30 @@ impl Message {
         self.depth
     }
 
+    /// Gives it another code.
+    pub fn set_what(&mut self, what: Code)
+        ensures { self.new ≡ record self.old { what = what.0 } }
+    {
+        self.what = what;
+    }
+
+    /// Pops so many of its specifiers, counted from the last.
+    pub fn set_popped(&mut self, n: u32)
+        requires { n ≤ specifier_count self.old.fields }
+        ensures { self.new ≡ record self.old { popped = n } }
+    {
+        self.popped = n;
+    }
+
+    /// Removes every field. Its code stays.
+    pub fn make_empty(&mut self)
+        ensures { self.new ≡ record self.old { fields = []; popped = 0 } }
+    {
+        self.fields.clear();
+        self.popped = 0;
+        self.depth = 1;
+    }
+
     /// Adds the value at the end of the field of that name, or in a new field at the end. The faults are
     /// tested in the order of `AddFault`. An `Err` changes nothing, and the value is dropped.
     pub fn add(&mut self, name: &[u8], value: Value) -> Result<(), AddFault>
@@ -161,6 +234,7 @@ impl Message {
             return Err(fault);
         }
         let depth = value.depth();
+        value.shows_that_it_fits();
         put(&mut self.fields, name, value)?;
         self.depth = self.depth.max(depth + 1);
         Ok(())
@@ -197,6 +271,42 @@ impl Message {
             Some(value) => Ok(value),
             None => Err(FindFault::BadIndex),
         }
+    }
+
+    /// How many names it has, so how many fields: at most 64.
+    pub fn count_names(&self) -> u32
+        ensures { result ≡ length self.now.fields }
+    {
+        self.fields.len() as u32
+    }
+
+    /// Field `i`, in the order of adding. `None` past the last one.
+    pub fn field_at(&self, i: u32) -> Option<FieldRef<'_>>
+        ensures { option_map field_ref_of result ≡ slice_get self.now.fields i }
+    {
+        let field = self.fields.get(i as usize)?;
+        Some(FieldRef {
+            name: field.name.as_slice(),
+            kind: field.kind,
+            values: field.values.as_slice(),
+        })
+    }
+
+    /// How many specifiers it has: the values of the field `specifiers` of messages, at most 255.
+    pub fn specifiers(&self) -> u32
+        ensures { result ≡ specifier_count self.now.fields }
+    {
+        specifiers_among(&self.fields) as u32
+    }
+}
+
+// How many values the field `specifiers` of messages has.
+fn specifiers_among(fields: &[Field]) -> usize
+    ensures { result ≡ specifier_count (fields_of fields.now) }
+{
+    match field_named(fields, b"specifiers") {
+        Some(field) if field.kind == Kind::Message => field.values.len(),
+        _ => 0,
     }
 }
 
@@ -288,119 +398,4 @@ impl Field {
 }
 
 #[cfg(test)]
-mod tests {
-    use super::*;
-    use std::test::Fail;
-
-    fn number(message: &Message, name: &[u8], index: u32) -> Option<i32> {
-        match message.find(name, Kind::Int32, index) {
-            Ok(Value::Int32(n)) => Some(*n),
-            _ => None,
-        }
-    }
-
-    fn boxed(alloc: Global, message: Message) -> Result<Value, AddFault> {
-        match Box::new(alloc, message) {
-            Ok(message) => Ok(Value::Message(message)),
-            Err(_) => Err(AddFault::NoMemory),
-        }
-    }
-
-    // Messages in one another, so many deep.
-    fn nested(alloc: Global, depth: u32) -> Result<Message, AddFault> {
-        let mut message = Message::new(alloc, Code(1));
-        for _ in 1..depth {
-            let mut outer = Message::new(alloc, Code(1));
-            outer.add(b"m", boxed(alloc, message)?)?;
-            message = outer;
-        }
-        Ok(message)
-    }
-
-    #[test]
-    fn values_are_found(rt: HostRuntime) -> Result<(), Fail> {
-        let alloc = rt.alloc();
-        let mut message = Message::new(alloc, Code(7));
-        message.add(b"a", Value::Text(Text::from_bytes(alloc, b"x")?))?;
-        message.add(b"n", Value::Int32(-5))?;
-        message.add(b"n", Value::Int32(6))?;
-        assert_eq!(rt; message.what(), Code(7));
-        assert_eq!(rt; message.popped(), 0);
-        assert_eq!(rt; number(&message, b"n", 0), Some(-5));
-        assert_eq!(rt; number(&message, b"n", 1), Some(6));
-        match message.find(b"a", Kind::Text, 0)? {
-            Value::Text(text) => assert_eq!(rt; text.as_str(), "x"),
-            _ => assert!(rt; false),
-        }
-        for (name, kind, index, fault) in [
-            ("a", Kind::Int32, 7, FindFault::BadType),
-            ("b", Kind::Int32, 0, FindFault::NameNotFound),
-            ("a", Kind::Text, 1, FindFault::BadIndex),
-            ("n", Kind::Int32, 2, FindFault::BadIndex),
-        ] {
-            assert_eq!(rt;
-                message.find(name.as_bytes(), kind, index).err(),
-                Some(fault)
-            );
-        }
-        Ok(())
-    }
-
-    #[test]
-    fn additions_are_refused(rt: HostRuntime) -> Result<(), Fail> {
-        let alloc = rt.alloc();
-        let mut message = Message::new(alloc, Code(1));
-        message.add(b"a", Value::Text(Text::from_bytes(alloc, b"x")?))?;
-        assert_eq!(rt; message.add(b"a", Value::Int32(5)), Err(AddFault::BadType));
-        assert_eq!(rt; message.add(b"", Value::Int32(5)), Err(AddFault::BadName));
-        assert_eq!(rt;
-            message.add(b"a b", Value::Int32(5)),
-            Err(AddFault::BadName)
-        );
-        Ok(())
-    }
-
-    #[test]
-    fn fields_and_values_are_limited(rt: HostRuntime) -> Result<(), Fail> {
-        let alloc = rt.alloc();
-        let mut message = Message::new(alloc, Code(1));
-        for name in b'0'..b'0' + 10 {
-            for more in b'a'..b'a' + 6 {
-                message.add(&[name, more], Value::Int32(1))?;
-            }
-        }
-        for name in [b"a", b"b", b"c", b"d"] {
-            message.add(name, Value::Int32(1))?;
-        }
-        assert_eq!(rt;
-            message.add(b"e", Value::Int32(1)),
-            Err(AddFault::FieldLimit)
-        );
-        for n in 1..255 {
-            message.add(b"a", Value::Int32(n))?;
-        }
-        assert_eq!(rt;
-            message.add(b"a", Value::Int32(1)),
-            Err(AddFault::FieldLimit)
-        );
-        assert_eq!(rt; number(&message, b"a", 254), Some(254));
-        Ok(())
-    }
-
-    #[test]
-    fn depth_is_limited(rt: HostRuntime) -> Result<(), Fail> {
-        let alloc = rt.alloc();
-        let deepest = nested(alloc, 16)?;
-        let mut message = Message::new(alloc, Code(1));
-        assert_eq!(rt;
-            message.add(b"m", boxed(alloc, deepest)?),
-            Err(AddFault::TooDeep)
-        );
-        assert_eq!(rt;
-            message.add(b"m", boxed(alloc, nested(alloc, 15)?)?),
-            Ok(())
-        );
-        assert_eq!(rt; message.find(b"m", Kind::Message, 0).is_ok(), true);
-        Ok(())
-    }
-}
+mod tests;

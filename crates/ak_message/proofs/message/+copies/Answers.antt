@@ -1,0 +1,14 @@
+-- The values of a field are no deeper than the field.
+use Rattle.std.proofs.Common.{ℕ, ◌+◌, ◌*◌, ◌≤◌, List, [], ◌∷◌, arith}
+use denote.Param.Weighed.{most}
+use Rattle.ak_message.specs.declared.message.Value.{Value}
+use Rattle.ak_message.specs.declared.message.Message.TheDeep.{deep-Value, size-Value}
+use Rattle.ak_message.proofs.message.+copies.Goals as goal
+
+deepest-values : (xs : List Value) → most (λ x. size-Value x) xs ≤ 3 * most deep-Value xs + 1
+deepest-values [] = omega arith
+deepest-values (x ∷ xs) = omega (arith, deepest-values xs)
+
+pub Field::try_clone-copied_values-requires : goal.Field::try_clone-copied_values-requires
+Field::try_clone-copied_values-requires t c =
+    (rw c.deref.ensures.value (omega (arith, c.decreases, deepest-values c.args.self.now.values.items)), tt)
