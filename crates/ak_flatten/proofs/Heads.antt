@@ -81,7 +81,7 @@ kind_of_code-Some : (code : ℕ) (kind : Kind) → kind_of_code code ≡ Some ki
 kind_of_code-Some code kind e =
     next code 0x424f4f4c k.Bool kind _ refl e (λ e. next code 0x42595445 k.Int8 kind _ refl e (λ e. next code 0x53485254 k.Int16 kind _ refl e (λ e. next code 0x4c4f4e47 k.Int32 kind _ refl e (λ e. next code 0x4c4c4e47 k.Int64 kind _ refl e (λ e. next code 0x55425954 k.UInt8 kind _ refl e (λ e. next code 0x55534854 k.UInt16 kind _ refl e (λ e. next code 0x554c4e47 k.UInt32 kind _ refl e (λ e. next code 0x554c4c47 k.UInt64 kind _ refl e (λ e. next code 0x43535452 k.Text kind _ refl e (λ e. next code 0x4d534747 k.Message kind _ refl e (λ e. next code 0x4d534e47 k.Messenger kind _ refl e (λ e. next code 0x52415754 k.Raw kind _ refl e (λ e. absurd cc)))))))))))))
 
-code-letters : (kind : Kind) → to_be_bytes w32 (code_of_kind kind) ≡ kind_letters kind
+pub code-letters : (kind : Kind) → to_be_bytes w32 (code_of_kind kind) ≡ kind_letters kind
 code-letters k.Bool = refl
 code-letters k.Int8 = refl
 code-letters k.Int16 = refl

@@ -4,3 +4,4 @@ pub mod Values
 pub mod Messages
 pub mod Unpopping
 pub mod LawsHold
+pub mod Lengths

@@ -20,7 +20,7 @@ use Rattle.ak_flatten.specs.Format.{is_length}
 use Rattle.ak_flatten.specs.Laws.{AreBytes}
 use Rattle.ak_flatten.specs.Popped.{IsUnpoppedValue, AreUnpoppedValues, AreUnpoppedFields, IsUnpopped}
 use Rattle.ak_flatten.specs.Reading.{Left, ◌>>=◌, where_true, bytes_at, number_at, kind_at, name_at, value_count_at, value_len_at, value_from, value_at, values_at, field_at, fields_at, opening_at, message_from}
-use Rattle.ak_flatten.specs.Spelling.{value_bytes, values_bytes, fields_bytes, value_count, field_count, opening_bytes, spelling}
+use Rattle.ak_flatten.specs.Spelling.{value_bytes, values_bytes, fields_bytes, field_bytes, value_count, field_count, opening_bytes, spelling}
 use Rattle.ak_flatten.proofs.Parts.{bind_ok, test_ok, ok_is, at, Takes, Takes-then, bytes_take, bytes_again, front_of}
 use Rattle.ak_flatten.proofs.Heads.{opening_takes, opening_again, kind_takes, kind_again, name_takes, name_again, value_count_takes, value_count_again, value_len_takes, value_len_again}
 use Rattle.ak_flatten.proofs.Values.{IsReadValue, IsReadMessage, MessageTakes, MessageAgain, value_takes, value_again, value-is_length}
@@ -79,9 +79,6 @@ pub record AreReadFields (levels : ℕ) (fs : List FieldData) : Type 0 where
 
 abbrev pub one_value_bytes : ValueData → List ℕ
 one_value_bytes v = to_be_bytes w16 (length (value_bytes v)) ++ value_bytes v
-
-abbrev pub field_bytes : FieldData → List ℕ
-field_bytes f = kind_letters f.kind ++ length f.name ∷ f.name ++ value_count (nested_values f.values) ∷ values_bytes (nested_values f.values)
 
 -- ---- reading takes what was spelled
 module _ (message : Left → Result MessageData FlatFault) (levels : ℕ) (taken : MessageTakes message levels) where

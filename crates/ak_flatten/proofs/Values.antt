@@ -71,6 +71,13 @@ nothing_left : (bytes front rest : List ℕ) (n : ℕ) → bytes ≡ front ++ re
 nothing_left bytes front [] n parts whole len = refl
 nothing_left bytes front (b ∷ rest) n parts whole len = absurd (omega (arith, length-append front (b ∷ rest), ap length parts))
 
+address_parts : (looper kind token : ℕ) (left rest : Left) → left.bytes ≡ (to_be_bytes w32 looper ++ kind ∷ to_be_bytes w64 token) ++ rest.bytes → length left.bytes ≡ 13 → is_target kind token ≡ true → looper < 2 ^ 32 → token < 2 ^ 64 → (address_bytes (record { looper = looper; target = target_from kind token }) ≡ left.bytes) × FitsAddress (record { looper = looper; target = target_from kind token })
+address_parts looper kind token left rest parts len target looper_fits token_fits =
+    let front : List ℕ = to_be_bytes w32 looper ++ kind ∷ to_be_bytes w64 token in
+    let none : rest.bytes ≡ [] = nothing_left left.bytes front rest.bytes 13 parts len refl in
+    let all : left.bytes ≡ front = parts ∙ ap (λ (r : List ℕ). front ++ r) none ∙ append-nil front in
+    (ap (λ (t : List ℕ). to_be_bytes w32 looper ++ t) (target_takes kind token target) ∙ sym all, (looper_fits, target_fits kind token token_fits))
+
 pub address_takes : (left : Left) (a : Address) → AreBytes left.bytes → length left.bytes ≡ 13 → address_from left ≡ Ok a → (address_bytes a ≡ left.bytes) × FitsAddress a
 unfolding address_from
 address_takes left a fits len e =
@@ -84,11 +91,7 @@ address_takes left a fits len e =
     let tz = number_takes w64 (2 ^ 64) wide64 y.0.1 z.0 ty.0.fits z.1 in
     let yz = Takes-then x.0.1 (y.0.0 ∷ []) y.0.1 (to_be_bytes w64 z.0.0) z.0.1 ty.0 tz.0 in
     let xz = Takes-then left (to_be_bytes w32 x.0.0) x.0.1 (y.0.0 ∷ to_be_bytes w64 z.0.0) z.0.1 tx.0 yz in
-    let front : List ℕ = to_be_bytes w32 x.0.0 ++ y.0.0 ∷ to_be_bytes w64 z.0.0 in
-    let none : z.0.1.bytes ≡ [] = nothing_left left.bytes front z.0.1.bytes 13 xz.parts len refl in
-    let all : left.bytes ≡ front = ◌∙◌ {b = front ++ z.0.1.bytes} {c = front} xz.parts (◌∙◌ {b = front ++ []} (ap (λ (r : List ℕ). front ++ r) none) (append-nil front)) in
-    let spelled : address_bytes made ≡ left.bytes = ap (λ (t : List ℕ). to_be_bytes w32 x.0.0 ++ t) (target_takes y.0.0 z.0.0 m.0) ∙ sym {a = left.bytes} {b = front} all in
-    subst (λ (b : Address). (address_bytes b ≡ left.bytes) × FitsAddress b) {x = made} m.1 (spelled, (tx.1, target_fits y.0.0 z.0.0 tz.1))
+    subst (λ (b : Address). (address_bytes b ≡ left.bytes) × FitsAddress b) {x = made} m.1 (address_parts x.0.0 y.0.0 z.0.0 left z.0.1 xz.parts len m.0 tx.1 tz.1)
 
 pub address_again : (p : ℕ) (a : Address) → FitsAddress a → address_from (at p (address_bytes a)) ≡ Ok a
 unfolding address_from

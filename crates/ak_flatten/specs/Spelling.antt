@@ -6,7 +6,7 @@ use Rattle.ak_message.specs.declared.address.Target.{Target}
 use Rattle.ak_message.specs.declared.address.Target.TheVariants as target
 use Rattle.ak_message.specs.declared.kind.Kind.TheVariants as k
 use Rattle.ak_message.specs.Kind.{kind_letters}
-use Rattle.ak_message.specs.Message.{ValueData, bool_value, int8_value, int16_value, int32_value, int64_value, uint8_value, uint16_value, uint32_value, uint64_value, text_value, message_value, messenger_value, raw_value, NestedValues, no_values, then_value, NestedFields, no_fields, then_field, MessageData, value_of_message}
+use Rattle.ak_message.specs.Message.{ValueData, bool_value, int8_value, int16_value, int32_value, int64_value, uint8_value, uint16_value, uint32_value, uint64_value, text_value, message_value, messenger_value, raw_value, NestedValues, no_values, then_value, NestedFields, no_fields, then_field, FieldData, MessageData, nested_values, value_of_message}
 use Rattle.ak_flatten.specs.Format.{magic}
 
 -- 0 and zeros for the preferred handler, 1 and the token for another one
@@ -59,6 +59,10 @@ abbrev mutual
   fields_bytes no_fields = []
   fields_bytes (then_field name kind vs fs) =
       kind_letters kind ++ length name ∷ name ++ value_count vs ∷ values_bytes vs ++ fields_bytes fs
+
+-- one field
+abbrev pub field_bytes : FieldData → List ℕ
+field_bytes f = kind_letters f.kind ++ length f.name ∷ f.name ++ value_count (nested_values f.values) ∷ values_bytes (nested_values f.values)
 
 -- the flat text
 abbrev pub spelling : MessageData → List ℕ

@@ -4,5 +4,9 @@
 #![tactic(auto)]
 
 mod fault;
+mod length;
+mod writing;
 
 pub use fault::{FlatFault, FlatKind, FlattenFault, UnflattenFault};
+pub use length::flat_len;
+pub use writing::{FLAT_LIMIT, flatten};
