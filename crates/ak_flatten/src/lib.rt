@@ -4,6 +4,8 @@
 #![tactic(auto)]
 
 mod fault;
+mod head;
+mod input;
 mod laws;
 mod length;
 mod writing;
