@@ -1,14 +1,15 @@
 -- The bytes of one value: what they are read as is spelled so, and a value's bytes are read as the value.
 use Rattle.std.proofs.Common.{◌≡◌, ℕ, zero, suc, ◌+◌, ◌^◌, ◌<◌, ◌≤◌, Bool, true, false, cond, not, ◌&&◌, ◌||◌, eqb, leb, ℤ, List, [], ◌∷◌, ◌++◌, length, get_or, Contains, Result, Ok, Err, refl, sym, ap, subst, ◌∙◌, append_assoc, arith, inl, inr, Fits}
-use Rattle.std.specs.Prelude.{FitsSigned}
+use Rattle.std.specs.Prelude.{FitsSigned, IsUtf8}
 use Rattle.std.specs.Int.{Width, w8, w16, w32, w64, byte_len, from_be_bytes, to_be_bytes, cast_signed, cast_unsigned}
 use Rattle.std.specs.List.{list_any}
 use Rattle.std.specs.Str.{is_utf8}
 use Rattle.std.proofs.Math.Facts.{sfits_to_z, Fits-of_z, of_z-to_z}
-use Rattle.std.proofs.lemmas.Bool.{leb-true, le-leb, eqb-true, eq-eqb, and_parts, and_from, or_cases, or_parts, cond_both, cases_eq, or_from, not-true, not_from_false, ne_eqb}
+use Rattle.std.proofs.lemmas.Bool.{leb-true, le-leb, eqb-true, eq-eqb, and_parts, and_from, and_left, and_right, not_from_true, false_from_ne_true, true_from_ne_false, or_cases, or_parts, cond_both, cases_eq, or_from, not-true, not_from_false, ne_eqb}
 use Rattle.std.proofs.lemmas.Int.{to_z-of_z}
 use Rattle.std.proofs.lemmas.List.{append-nil, length-append}
 use Rattle.std.proofs.lemmas.Str.{IsUtf8-from_is_utf8, is_utf8-from_IsUtf8}
+use Rattle.ak_base.specs.Text.{IsText}
 use Rattle.ak_message.specs.declared.address.Address.{Address}
 use Rattle.ak_message.specs.declared.address.Target.{Target}
 use Rattle.ak_message.specs.declared.address.Target.TheVariants as target
@@ -72,6 +73,16 @@ zero_in : (bytes : List ℕ) → (Contains bytes 0 → ⊥) → list_any (λ b. 
 zero_in [] none = refl
 zero_in (b ∷ bytes) none =
     or_from _ _ (ne_eqb b 0 (λ e. none (0, omega arith, e))) (zero_in bytes (λ c. none (suc c.0, omega (arith, c.1), c.2)))
+
+pub text_is : (bytes : List ℕ) → IsText bytes → is_text bytes ≡ true
+text_is bytes h = and_from _ _ (is_utf8-from_IsUtf8 bytes h.1) (not_from_false _ (zero_in bytes h.0.1))
+
+pub not_utf8_text : (bytes : List ℕ) → (IsUtf8 bytes → ⊥) → is_text bytes ≡ false
+not_utf8_text bytes none = and_left _ _ (false_from_ne_true (is_utf8 bytes) (λ e. none (IsUtf8-from_is_utf8 bytes e)))
+
+pub zero_text : (bytes : List ℕ) → Contains bytes 0 → is_text bytes ≡ false
+zero_text bytes some =
+    and_right _ _ (not_from_true _ (true_from_ne_false (list_any (λ b. eqb b 0) bytes) (λ e. no_zero bytes e some)))
 
 -- ---- addresses
 target_takes : (kind token : ℕ) → is_target kind token ≡ true → target_bytes (target_from kind token) ≡ kind ∷ to_be_bytes w64 token
@@ -282,8 +293,7 @@ module _ (message : Left → Result MessageData FlatFault) (levels : ℕ) (again
   value_again place (uint64_value n) fits unpopped shallow short =
       let a = unsigned_again w64 (2 ^ 64) wide64 place n fits in rw a.1 refl
   value_again place (text_value bytes) fits unpopped shallow short =
-      let b : is_text bytes ≡ true = and_from _ _ (is_utf8-from_IsUtf8 bytes fits.1) (not_from_false _ (zero_in bytes fits.0.1)) in
-      rw b refl
+      rw (text_is bytes fits) refl
   value_again place (message_value what fs popped) fits unpopped shallow short =
       let m : MessageData = message_of_nested what fs popped in
       let same : value_of_message m ≡ message_value what fs popped = ap (λ (x : NestedFields). message_value what x popped) (nested_fields-listed fs) in

@@ -3,7 +3,7 @@
 ghost use Rattle.std.specs.Prelude.{◌≡◌, ◌+◌, ◌<◌, ◌≤◌, length, true, false, is_some, None, IfOk, OnOk};
 ghost use Rattle.ak_base.specs.Word as word;
 ghost use Rattle.ak_message.specs.Fields.{added, add_fault, field_named};
-ghost use Rattle.ak_message.specs.Message.{value_of_message};
+ghost use Rattle.ak_message.specs.Message.{kind_of, depth_of, depth_of_value, value_of_message};
 ghost use Rattle.ak_message.specs.Seen.{value_of};
 ghost use Rattle.ak_flatten.specs.Building.{fields_added, field_added, values_added};
 ghost use Rattle.ak_flatten.specs.Format.{is_length};
@@ -26,9 +26,10 @@ fn text(alloc: Global, input: Input) -> Result<Text, UnflattenFault>
     match Text::from_bytes(alloc, input.bytes) {
         Ok(text) => Ok(text),
         Err(TextFault::NoMemory) => Err(UnflattenFault::NoMemory),
-        Err(TextFault::TooLong | TextFault::NotUtf8 | TextFault::Zero) => {
-            Err(UnflattenFault::Bad(input.fault(FlatKind::BadValue)))
-        }
+        // The bytes are not too many.
+        Err(TextFault::TooLong) => unreachable!(),
+        Err(TextFault::NotUtf8) => Err(UnflattenFault::Bad(input.fault(FlatKind::BadValue))),
+        Err(TextFault::Zero) => Err(UnflattenFault::Bad(input.fault(FlatKind::BadValue))),
     }
 }
 
@@ -70,7 +71,8 @@ fn boxed(alloc: Global, message: Message) -> Result<Value, NoMemory>
 #[tactic(auto, unfolding(crate::specs::Reading::message_from))]
 pub(crate) fn message(alloc: Global, levels: u32, input: Input) -> Result<Message, UnflattenFault>
     requires { levels ≤ 16 }
-    ensures { Gives (λ m. m) result (reads.message_from levels (left_of input.entry)) }
+    ensures reads { Gives (λ m. m) result (reads.message_from levels (left_of input.entry)) }
+    ensures depth { IfOk result (λ m. depth_of m ≤ levels) }
 {
     if levels == 0 {
         return Err(UnflattenFault::Bad(input.fault(FlatKind::TooDeep)));
@@ -100,7 +102,9 @@ fn fields<'a>(
 ) -> Result<(Message, Input<'a>), UnflattenFault>
     requires levels { levels ≤ 15 }
     requires room { length message.fields + count ≤ 64 }
-    ensures { Gives (λ x. (x.0, left_of x.1)) result (fields_added (reads.message_from levels) message count (left_of input.entry)) }
+    requires depth { depth_of message ≤ levels + 1 }
+    ensures reads { Gives (λ x. (x.0, left_of x.1)) result (fields_added (reads.message_from levels) message count (left_of input.entry)) }
+    ensures depth { IfOk result (λ x. depth_of x.0 ≤ levels + 1) }
 {
     let mut message = message;
     let mut rest = input;
@@ -121,7 +125,9 @@ fn field<'a>(
 ) -> Result<(Message, Input<'a>), UnflattenFault>
     requires levels { levels ≤ 15 }
     requires room { length message.fields < 64 }
-    ensures { Gives (λ x. (x.0, left_of x.1)) result (field_added (reads.message_from levels) message (left_of input.entry)) }
+    requires depth { depth_of message ≤ levels + 1 }
+    ensures reads { Gives (λ x. (x.0, left_of x.1)) result (field_added (reads.message_from levels) message (left_of input.entry)) }
+    ensures depth { IfOk result (λ x. depth_of x.0 ≤ levels + 1) }
 {
     let (kind, input) = head::kind(input)?;
     let (name, input) = head::name(&message, input)?;
@@ -144,7 +150,9 @@ fn values<'a>(
     requires room { length message.fields < 64 }
     requires word { word.is_word name.now ≡ true }
     requires new { is_some (field_named message.fields name.now) ≡ false }
-    ensures { Gives (λ x. (x.0, left_of x.1)) result (values_added (reads.message_from levels) message name.now kind count (left_of input.entry)) }
+    requires depth { depth_of message ≤ levels + 1 }
+    ensures reads { Gives (λ x. (x.0, left_of x.1)) result (values_added (reads.message_from levels) message name.now kind count (left_of input.entry)) }
+    ensures depth { IfOk result (λ x. depth_of x.0 ≤ levels + 1) }
 {
     let mut message = message;
     let mut rest = input;
@@ -166,7 +174,9 @@ fn value<'a>(
     input: Input<'a>,
 ) -> Result<(Value, Input<'a>), UnflattenFault>
     requires { levels ≤ 15 }
-    ensures { Gives (λ x. (value_of x.0, left_of x.1)) result (reads.value_at (reads.message_from levels) kind (left_of input.entry)) }
+    ensures reads { Gives (λ x. (value_of x.0, left_of x.1)) result (reads.value_at (reads.message_from levels) kind (left_of input.entry)) }
+    ensures kind { IfOk result (λ x. kind_of (value_of x.0) ≡ kind) }
+    ensures depth { IfOk result (λ x. depth_of_value (value_of x.0) ≤ levels) }
 {
     let (len, input) = head::value_len(kind, input)?;
     let (bytes, rest) = input.split(len as usize)?;
@@ -179,7 +189,9 @@ fn value<'a>(
 fn value_from(alloc: Global, levels: u32, kind: Kind, input: Input) -> Result<Value, UnflattenFault>
     requires levels { levels ≤ 15 }
     requires len { is_length kind (length input.bytes.now) ≡ true }
-    ensures { Gives value_of result (reads.value_from (reads.message_from levels) kind (left_of input.entry)) }
+    ensures reads { Gives value_of result (reads.value_from (reads.message_from levels) kind (left_of input.entry)) }
+    ensures kind { IfOk result (λ v. kind_of (value_of v) ≡ kind) }
+    ensures depth { IfOk result (λ v. depth_of_value (value_of v) ≤ levels) }
 {
     match kind {
         Kind::Bool => Ok(Value::Bool(bool_of(input)?)),

@@ -1,5 +1,6 @@
 -- A message is measured by how deep messages may still stand in it.
-use Rattle.std.proofs.Common.{◌+◌, ◌*◌}
+use Rattle.std.proofs.Common.{◌+◌, ◌*◌, ◌≤◌}
+use Rattle.ak_message.specs.Message.{depth_of}
 use Rattle.ak_flatten.specs.Reading.{message_from}
 use Rattle.ak_flatten.specs.Seen.{left_of}
 use Rattle.ak_flatten.proofs.Growing.{IsGrowing, IsReading}
@@ -24,8 +25,15 @@ abbrev pub decreases-value_from : goal.decreases-value_from
 decreases-value_from l = 6 * l.levels + 1
 
 abbrev pub invariant-fields-loop : goal.invariant-fields-loop
-invariant-fields-loop l = IsReading (message_from l.levels) l.fn.message l.count (left_of l.input) l.counter l.message (left_of l.rest)
+invariant-fields-loop l =
+    record {
+      reading : IsReading (message_from l.levels) l.fn.message l.count (left_of l.input) l.counter l.message (left_of l.rest);
+      shallow : depth_of l.message ≤ l.levels + 1;
+    }
 
 abbrev pub invariant-values-loop : goal.invariant-values-loop
 invariant-values-loop l =
-    IsGrowing (message_from l.levels) l.fn.message l.name l.kind l.count (left_of l.input) l.counter l.message (left_of l.rest)
+    record {
+      growing : IsGrowing (message_from l.levels) l.fn.message l.name l.kind l.count (left_of l.input) l.counter l.message (left_of l.rest);
+      shallow : depth_of l.message ≤ l.levels + 1;
+    }
