@@ -1,3 +1,4 @@
+pub mod Building
 pub mod Format
 pub mod Laws
 pub mod Popped

@@ -1,6 +1,7 @@
 //! Reads the parts of a flat text that are no values: each reader answers what it read and what is left.
 
-ghost use Rattle.std.specs.Prelude.{◌≡◌, true, false, is_some, IfSome, IfNone, IfOk};
+ghost use Rattle.std.specs.Prelude.{◌≡◌, ◌≤◌, true, false, is_some, IfSome, IfNone, IfOk};
+ghost use Rattle.ak_base.specs.Word as word;
 ghost use Rattle.ak_message.specs.Kind.{kind_of_code};
 ghost use Rattle.ak_message.specs.Fields.{field_named};
 ghost use Rattle.ak_flatten.specs.Format.{is_length};
@@ -28,7 +29,8 @@ fn magic(input: Input) -> Result<Input, FlatFault>
 
 #[tactic(auto, unfolding(crate::specs::Reading::field_count_at))]
 fn field_count(input: Input) -> Result<(u32, Input), FlatFault>
-    ensures { Reads (λ x. (x.0, left_of x.1)) result (reads.field_count_at (left_of input.entry)) }
+    ensures reads { Reads (λ x. (x.0, left_of x.1)) result (reads.field_count_at (left_of input.entry)) }
+    ensures count { IfOk result (λ x. x.0 ≤ 64) }
 {
     let (count, rest) = input.number32()?;
     if count > FIELD_LIMIT as u32 {
@@ -40,7 +42,8 @@ fn field_count(input: Input) -> Result<(u32, Input), FlatFault>
 /// What stands before the fields of a message: its code, and their number.
 #[tactic(auto, unfolding(crate::specs::Reading::opening_at))]
 pub(crate) fn opening(input: Input) -> Result<((u32, u32), Input), FlatFault>
-    ensures { Reads (λ x. (x.0, left_of x.1)) result (reads.opening_at (left_of input.entry)) }
+    ensures reads { Reads (λ x. (x.0, left_of x.1)) result (reads.opening_at (left_of input.entry)) }
+    ensures count { IfOk result (λ x. x.0.1 ≤ 64) }
 {
     let rest = magic(input)?;
     let (what, rest) = rest.number32()?;
@@ -98,7 +101,9 @@ pub(crate) fn name<'a>(
     message: &Message,
     input: Input<'a>,
 ) -> Result<(&'a [u8], Input<'a>), FlatFault>
-    ensures { Reads (λ x. (x.0.now, left_of x.1)) result (reads.name_at message.now.fields (left_of input.entry)) }
+    ensures reads { Reads (λ x. (x.0.now, left_of x.1)) result (reads.name_at message.now.fields (left_of input.entry)) }
+    ensures word { IfOk result (λ x. word.is_word x.0.now ≡ true) }
+    ensures new { IfOk result (λ x. is_some (field_named message.now.fields x.0.now) ≡ false) }
 {
     let (len, input) = name_len(input)?;
     let (name, rest) = input.split(len as usize)?;
@@ -124,7 +129,8 @@ fn has_field(message: &Message, name: &[u8]) -> bool
 /// How many values a field has.
 #[tactic(auto, unfolding(crate::specs::Reading::value_count_at))]
 pub(crate) fn value_count(input: Input) -> Result<(u8, Input), FlatFault>
-    ensures { Reads (λ x. (x.0, left_of x.1)) result (reads.value_count_at (left_of input.entry)) }
+    ensures reads { Reads (λ x. (x.0, left_of x.1)) result (reads.value_count_at (left_of input.entry)) }
+    ensures some { IfOk result (λ x. 1 ≤ x.0) }
 {
     let (count, rest) = input.number8()?;
     if count < 1 {

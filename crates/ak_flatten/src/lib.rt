@@ -8,6 +8,7 @@ mod head;
 mod input;
 mod laws;
 mod length;
+mod reading;
 mod writing;
 
 pub use fault::{FlatFault, FlatKind, FlattenFault, UnflattenFault};
