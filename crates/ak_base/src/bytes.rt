@@ -1,4 +1,4 @@
-ghost use Rattle.std.specs.Prelude.{◌≡◌, [], ◌∷◌, ◌++◌, length, OnOk, OnErr};
+ghost use Rattle.std.specs.Prelude.{◌≡◌, [], ◌∷◌, ◌++◌, length, IfOk, OnOk, OnErr};
 
 use crate::no_memory::NoMemory;
 use std::alloc::Global;
@@ -26,6 +26,15 @@ impl Bytes {
         Bytes {
             items: Vec::new(alloc),
         }
+    }
+
+    /// No bytes, and memory for so many.
+    pub fn with_capacity(alloc: Global, capacity: usize) -> Result<Bytes, NoMemory>
+        ensures { IfOk result (λ b. b ≡ []) }
+    {
+        Ok(Bytes {
+            items: Vec::with_capacity(alloc, capacity)?,
+        })
     }
 
     /// Adds one byte at the end. An `Err` changes nothing.
@@ -79,6 +88,9 @@ mod tests {
         assert_eq!(rt; out.as_slice(), b"abc".as_slice());
         out.clear();
         assert_eq!(rt; out.as_slice(), b"".as_slice());
+        let mut out = Bytes::with_capacity(rt.alloc(), 2)?;
+        out.extend(b"abc")?;
+        assert_eq!(rt; out.as_slice(), b"abc".as_slice());
         Ok(())
     }
 }

@@ -1,0 +1,75 @@
+use ak_base::NoMemory;
+
+/// What is wrong with bytes that are no flat text.
+#[derive(Clone, Copy, Debug, PartialEq, Eq)]
+pub enum FlatKind {
+    /// They are over 4,096. This is tested first, on all the bytes alone.
+    TooLong,
+    /// A part passes the end of the bytes, or of the value that it stands in.
+    Truncated,
+    /// A message does not begin with `AKM1`.
+    Magic,
+    /// A message has over 64 fields.
+    FieldCount,
+    /// A type code is that of no kind.
+    BadType,
+    /// A name is no word.
+    BadName,
+    /// An earlier field of the message has the name.
+    RepeatedName,
+    /// A field has no value.
+    NoValues,
+    /// A value has another length than its kind allows.
+    BadLength,
+    /// The bytes of a value are none of its kind.
+    BadValue,
+    /// A message would stand in 16 others.
+    TooDeep,
+    /// Bytes stand after the last field of a message.
+    Trailing,
+}
+
+/// The first fault from left to right, and at which byte: counted from 0 in all the bytes.
+#[derive(Clone, Copy, Debug, PartialEq, Eq)]
+pub struct FlatFault {
+    pub place: u32,
+    pub kind: FlatKind,
+}
+
+/// Why a message was not flattened.
+#[derive(Clone, Copy, Debug, PartialEq, Eq)]
+pub enum FlattenFault {
+    /// Its flat text has over 4,096 bytes.
+    TooLong,
+    NoMemory,
+}
+
+/// Why no message was read.
+#[derive(Clone, Copy, Debug, PartialEq, Eq)]
+pub enum UnflattenFault {
+    /// The bytes are no flat text.
+    Bad(FlatFault),
+    NoMemory,
+}
+
+impl From<NoMemory> for FlattenFault {
+    ghost use Rattle.std.specs.Prelude.{◌≡◌};
+    ghost use Rattle.ak_flatten.specs.declared.fault.FlattenFault.TheVariants as fault;
+
+    ghost from_gives = { λ _ e. e ≡ fault.NoMemory };
+
+    fn from(_error: NoMemory) -> FlattenFault {
+        FlattenFault::NoMemory
+    }
+}
+
+impl From<NoMemory> for UnflattenFault {
+    ghost use Rattle.std.specs.Prelude.{◌≡◌};
+    ghost use Rattle.ak_flatten.specs.declared.fault.UnflattenFault.TheVariants as fault;
+
+    ghost from_gives = { λ _ e. e ≡ fault.NoMemory };
+
+    fn from(_error: NoMemory) -> UnflattenFault {
+        UnflattenFault::NoMemory
+    }
+}

@@ -1,0 +1,12 @@
+//! A message as flat text, and back. Each message has one flat text, at most 4,096 bytes, which holds its
+//! code and its fields, and not how many of its specifiers are popped. Of bytes that are no flat text the
+//! first fault from left to right is told, with its place. Nothing here waits, and nothing is shared.
+#![tactic(auto)]
+
+mod fault;
+mod length;
+mod writing;
+
+pub use fault::{FlatFault, FlatKind, FlattenFault, UnflattenFault};
+pub use length::flat_len;
+pub use writing::{FLAT_LIMIT, flatten};

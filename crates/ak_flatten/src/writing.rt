@@ -1,0 +1,97 @@
+ghost use Rattle.std.specs.Prelude.{◌≡◌, ◌++◌, ◌<◌, ◌≤◌, ◌↔◌, length, IfOk, IsErrOf, OnOk};
+ghost use Rattle.ak_message.specs.Seen.{value_of, field_ref_of};
+ghost use Rattle.ak_flatten.specs.Spelling.{spelling, value_bytes, field_bytes, address_bytes};
+
+use crate::fault::FlattenFault;
+use crate::length::{flat_len, value_len};
+use ak_base::{Bytes, NoMemory};
+use ak_message::{Address, FieldRef, Message, Target, Value};
+use std::alloc::Global;
+
+/// The longest flat text, in bytes.
+pub const FLAT_LIMIT: u64 = 4096;
+
+/// The message's flat text, unless that has over 4,096 bytes. How many specifiers are popped isn't written.
+pub fn flatten(alloc: Global, message: &Message) -> Result<Bytes, FlattenFault>
+    ensures ok { IfOk result (λ bytes. bytes ≡ spelling message.now) }
+    ensures too_long { IsErrOf result FlattenFault.TooLong ↔ (4096 < length (spelling message.now)) }
+{
+    let len = flat_len(message);
+    if len > FLAT_LIMIT {
+        return Err(FlattenFault::TooLong);
+    }
+    let mut out = Bytes::with_capacity(alloc, len as usize)?;
+    put_message(&mut out, message)?;
+    Ok(out)
+}
+
+#[cycle(messages)]
+fn put_message(out: &mut Bytes, message: &Message) -> Result<(), NoMemory>
+    requires { length (spelling message.now) ≤ 4096 }
+    ensures { OnOk result (out.new ≡ out.old ++ spelling message.now) }
+{
+    let count = message.count_names();
+    out.extend(b"AKM1")?;
+    out.extend(&message.what().0.to_be_bytes())?;
+    out.extend(&count.to_be_bytes())?;
+    for i in 0..count {
+        if let Some(field) = message.field_at(i) {
+            put_field(out, &field)?;
+        }
+    }
+    Ok(())
+}
+
+#[cycle(messages)]
+fn put_field(out: &mut Bytes, field: &FieldRef) -> Result<(), NoMemory>
+    requires name { length field.now.name.now ≤ 64 }
+    requires values { length field.now.values.now ≤ 255 }
+    requires short { length (field_bytes (field_ref_of field.now)) ≤ 4096 }
+    ensures { OnOk result (out.new ≡ out.old ++ field_bytes (field_ref_of field.now)) }
+{
+    out.extend(&field.kind.code().0.to_be_bytes())?;
+    out.push(field.name.len() as u8)?;
+    out.extend(field.name)?;
+    out.push(field.values.len() as u8)?;
+    for value in field.values {
+        out.extend(&(value_len(value) as u16).to_be_bytes())?;
+        put_value(out, value)?;
+    }
+    Ok(())
+}
+
+#[cycle(messages)]
+fn put_value(out: &mut Bytes, value: &Value) -> Result<(), NoMemory>
+    requires { length (value_bytes (value_of value.now)) ≤ 4096 }
+    ensures { OnOk result (out.new ≡ out.old ++ value_bytes (value_of value.now)) }
+{
+    match value {
+        Value::Bool(x) => out.push(u8::from(*x))?,
+        Value::Int8(x) => out.extend(&x.to_be_bytes())?,
+        Value::Int16(x) => out.extend(&x.to_be_bytes())?,
+        Value::Int32(x) => out.extend(&x.to_be_bytes())?,
+        Value::Int64(x) => out.extend(&x.to_be_bytes())?,
+        Value::UInt8(x) => out.push(*x)?,
+        Value::UInt16(x) => out.extend(&x.to_be_bytes())?,
+        Value::UInt32(x) => out.extend(&x.to_be_bytes())?,
+        Value::UInt64(x) => out.extend(&x.to_be_bytes())?,
+        Value::Text(x) => out.extend(x.as_bytes())?,
+        Value::Message(x) => put_message(out, x)?,
+        Value::Messenger(x) => put_address(out, x)?,
+        Value::Raw(x) => out.extend(x.as_bytes())?,
+    }
+    Ok(())
+}
+
+fn put_address(out: &mut Bytes, address: &Address) -> Result<(), NoMemory>
+    ensures { OnOk result (out.new ≡ out.old ++ address_bytes address.now) }
+{
+    out.extend(&address.looper.to_be_bytes())?;
+    let (kind, token) = match address.target {
+        Target::Preferred => (0, 0),
+        Target::Token(token) => (1, token),
+    };
+    out.push(kind)?;
+    out.extend(&token.to_be_bytes())?;
+    Ok(())
+}
