@@ -96,6 +96,8 @@ code-letters k.Message = refl
 code-letters k.Messenger = refl
 code-letters k.Raw = refl
 
+pub ruleset letters = (code-letters)
+
 code_below : (kind : Kind) → code_of_kind kind < 2 ^ 32
 code_below k.Bool = omega arith
 code_below k.Int8 = omega arith

@@ -5,3 +5,4 @@ pub mod Messages
 pub mod Unpopping
 pub mod LawsHold
 pub mod Lengths
+pub mod Writings

@@ -20,7 +20,7 @@ use Rattle.ak_flatten.specs.Format.{is_length}
 use Rattle.ak_flatten.specs.Laws.{AreBytes}
 use Rattle.ak_flatten.specs.Popped.{IsUnpoppedValue, AreUnpoppedValues, AreUnpoppedFields, IsUnpopped}
 use Rattle.ak_flatten.specs.Reading.{Left, ◌>>=◌, where_true, bytes_at, number_at, kind_at, name_at, value_count_at, value_len_at, value_from, value_at, values_at, field_at, fields_at, opening_at, message_from}
-use Rattle.ak_flatten.specs.Spelling.{value_bytes, values_bytes, fields_bytes, field_bytes, value_count, field_count, opening_bytes, spelling}
+use Rattle.ak_flatten.specs.Spelling.{value_bytes, sized_bytes, values_bytes, fields_bytes, field_bytes, value_count, field_count, opening_bytes, spelling}
 use Rattle.ak_flatten.proofs.Parts.{bind_ok, test_ok, ok_is, at, Takes, Takes-then, bytes_take, bytes_again, front_of}
 use Rattle.ak_flatten.proofs.Heads.{opening_takes, opening_again, kind_takes, kind_again, name_takes, name_again, value_count_takes, value_count_again, value_len_takes, value_len_again}
 use Rattle.ak_flatten.proofs.Values.{IsReadValue, IsReadMessage, MessageTakes, MessageAgain, value_takes, value_again, value-is_length}
@@ -77,12 +77,9 @@ pub record AreReadFields (levels : ℕ) (fs : List FieldData) : Type 0 where
   pub unpopped : AreUnpoppedFields (nested_fields fs)
   pub shallow : depth_of_nested_fields (nested_fields fs) ≤ levels
 
-abbrev pub one_value_bytes : ValueData → List ℕ
-one_value_bytes v = to_be_bytes w16 (length (value_bytes v)) ++ value_bytes v
-
 -- ---- reading takes what was spelled
 module _ (message : Left → Result MessageData FlatFault) (levels : ℕ) (taken : MessageTakes message levels) where
-  pub value_at_takes : (kind : Kind) (left : Left) (x : ValueData × Left) → AreBytes left.bytes → value_at message kind left ≡ Ok x → Takes left (one_value_bytes x.0) x.1 × IsReadValue levels kind x.0
+  pub value_at_takes : (kind : Kind) (left : Left) (x : ValueData × Left) → AreBytes left.bytes → value_at message kind left ≡ Ok x → Takes left (sized_bytes x.0) x.1 × IsReadValue levels kind x.0
   unfolding value_at
   value_at_takes kind left x fits e =
       let a = bind_ok (value_len_at kind left) (λ len. bytes_at len.0 len.1 >>= λ bytes. value_from message kind (at len.1.place bytes.0) >>= λ value. Ok (value, bytes.1)) x e in
@@ -94,9 +91,9 @@ module _ (message : Left → Result MessageData FlatFault) (levels : ℕ) (taken
       let tc = value_takes message levels taken kind (at a.0.1.place b.0.0) c.0 front_fits (subst (λ (n : ℕ). is_length kind n ≡ true) (sym tb.1) ta.1) c.1 in
       let ab = Takes-then left (to_be_bytes w16 a.0.0) a.0.1 b.0.0 b.0.1 ta.0 tb.0 in
       let counted : Takes left (to_be_bytes w16 (length b.0.0) ++ b.0.0) b.0.1 = subst (λ (n : ℕ). Takes left (to_be_bytes w16 n ++ b.0.0) b.0.1) (sym tb.1) ab in
-      let spelled : Takes left (one_value_bytes c.0) b.0.1 = subst (λ (t : List ℕ). Takes left (to_be_bytes w16 (length t) ++ t) b.0.1) {x = b.0.0} {y = value_bytes c.0} (sym tc.0) counted in
+      let spelled : Takes left (sized_bytes c.0) b.0.1 = subst (λ (t : List ℕ). Takes left (to_be_bytes w16 (length t) ++ t) b.0.1) {x = b.0.0} {y = value_bytes c.0} (sym tc.0) counted in
       let made : ValueData × Left = (c.0, b.0.1) in
-      subst (λ (y : ValueData × Left). Takes left (one_value_bytes y.0) y.1 × IsReadValue levels kind y.0) {x = made} (ok_is made x c.2) (spelled, tc.1)
+      subst (λ (y : ValueData × Left). Takes left (sized_bytes y.0) y.1 × IsReadValue levels kind y.0) {x = made} (ok_is made x c.2) (spelled, tc.1)
 
   record TakesValues (kind : Kind) (n : ℕ) (earlier : List ValueData) (left : Left) (x : List ValueData × Left) : Type 0 where
     more : List ValueData
@@ -118,7 +115,7 @@ module _ (message : Left → Result MessageData FlatFault) (levels : ℕ) (taken
         more = a.0.0 ∷ r.more;
         together = r.together ∙ append_assoc earlier (a.0.0 ∷ []) r.more;
         many = ap suc r.many;
-        takes = Takes-then left (one_value_bytes a.0.0) a.0.1 (values_bytes (nested_values r.more)) x.1 t.0 r.takes;
+        takes = Takes-then left (sized_bytes a.0.0) a.0.1 (values_bytes (nested_values r.more)) x.1 t.0 r.takes;
         read = record { same = (t.1.same, r.read.same); fits = (t.1.fits, r.read.fits); unpopped = (t.1.unpopped, r.read.unpopped); shallow = omega (arith, t.1.shallow, r.read.shallow) };
       }
 
@@ -213,7 +210,7 @@ message_takes (suc levels) le left m fits e =
 
 -- ---- what is spelled is read again
 module _ (message : Left → Result MessageData FlatFault) (levels : ℕ) (again : MessageAgain message levels) where
-  value_at_again : (p : ℕ) (v : ValueData) (rest : List ℕ) → FitsValue v → IsUnpoppedValue v → depth_of_value v ≤ levels → length (value_bytes v) < 2 ^ 16 → (q : ℕ) × (value_at message (kind_of v) (at p (one_value_bytes v ++ rest)) ≡ Ok (v, at q rest))
+  value_at_again : (p : ℕ) (v : ValueData) (rest : List ℕ) → FitsValue v → IsUnpoppedValue v → depth_of_value v ≤ levels → length (value_bytes v) < 2 ^ 16 → (q : ℕ) × (value_at message (kind_of v) (at p (sized_bytes v ++ rest)) ≡ Ok (v, at q rest))
   unfolding value_at
   value_at_again p v rest fits unpopped shallow short =
       let apart = append_assoc (to_be_bytes w16 (length (value_bytes v))) (value_bytes v) rest in
@@ -226,11 +223,11 @@ module _ (message : Left → Result MessageData FlatFault) (levels : ℕ) (again
   unfolding values_at
   values_again kind [] earlier p rest read short = (p, ap (λ (t : List ValueData). Ok (t, at p rest)) (sym (append-nil earlier)))
   values_again kind (v ∷ vs) earlier p rest read short =
-      let apart : values_bytes (nested_values (v ∷ vs)) ++ rest ≡ one_value_bytes v ++ (values_bytes (nested_values vs) ++ rest) = append_assoc (one_value_bytes v) (values_bytes (nested_values vs)) rest in
-      let long = length-append (one_value_bytes v) (values_bytes (nested_values vs)) in
+      let apart : values_bytes (nested_values (v ∷ vs)) ++ rest ≡ sized_bytes v ++ (values_bytes (nested_values vs) ++ rest) = append_assoc (sized_bytes v) (values_bytes (nested_values vs)) rest in
+      let long = length-append (sized_bytes v) (values_bytes (nested_values vs)) in
       let first_long = length-append (to_be_bytes w16 (length (value_bytes v))) (value_bytes v) in
       let a = value_at_again p v (values_bytes (nested_values vs) ++ rest) read.fits.0 read.unpopped.0 (omega (arith, read.shallow)) (omega arith) in
-      let same : value_at message kind (at p (one_value_bytes v ++ (values_bytes (nested_values vs) ++ rest))) ≡ Ok (v, at a.0 (values_bytes (nested_values vs) ++ rest)) = subst (λ (k : Kind). value_at message k (at p (one_value_bytes v ++ (values_bytes (nested_values vs) ++ rest))) ≡ Ok (v, at a.0 (values_bytes (nested_values vs) ++ rest))) read.same.0 a.1 in
+      let same : value_at message kind (at p (sized_bytes v ++ (values_bytes (nested_values vs) ++ rest))) ≡ Ok (v, at a.0 (values_bytes (nested_values vs) ++ rest)) = subst (λ (k : Kind). value_at message k (at p (sized_bytes v ++ (values_bytes (nested_values vs) ++ rest))) ≡ Ok (v, at a.0 (values_bytes (nested_values vs) ++ rest))) read.same.0 a.1 in
       let b = values_again kind vs (earlier ++ v ∷ []) a.0 rest (record { same = read.same.1; fits = read.fits.1; unpopped = read.unpopped.1; shallow = omega (arith, read.shallow) }) (omega arith) in
       let together = append_assoc earlier (v ∷ []) vs in
       (b.0, ap (λ (t : List ℕ). values_at message kind (suc (length vs)) earlier (at p t)) apart ∙ rw same b.1 ∙ ap (λ (t : List ValueData). Ok (t, at b.0 rest)) together)

@@ -4,6 +4,7 @@ use Rattle.std.specs.Int.{w8, w16, w32, w64, to_be_bytes, cast_unsigned}
 use Rattle.ak_message.specs.declared.address.Address.{Address}
 use Rattle.ak_message.specs.declared.address.Target.{Target}
 use Rattle.ak_message.specs.declared.address.Target.TheVariants as target
+use Rattle.ak_message.specs.declared.kind.Kind.{Kind}
 use Rattle.ak_message.specs.declared.kind.Kind.TheVariants as k
 use Rattle.ak_message.specs.Kind.{kind_letters}
 use Rattle.ak_message.specs.Message.{ValueData, bool_value, int8_value, int16_value, int32_value, int64_value, uint8_value, uint16_value, uint32_value, uint64_value, text_value, message_value, messenger_value, raw_value, NestedValues, no_values, then_value, NestedFields, no_fields, then_field, FieldData, MessageData, nested_values, value_of_message}
@@ -59,6 +60,14 @@ abbrev mutual
   fields_bytes no_fields = []
   fields_bytes (then_field name kind vs fs) =
       kind_letters kind ++ length name ∷ name ++ value_count vs ∷ values_bytes vs ++ fields_bytes fs
+
+-- one value behind its length
+abbrev pub sized_bytes : ValueData → List ℕ
+sized_bytes v = to_be_bytes w16 (length (value_bytes v)) ++ value_bytes v
+
+-- what stands before the values of a field
+abbrev pub head_bytes : Kind → List ℕ → ℕ → List ℕ
+head_bytes kind name count = kind_letters kind ++ length name ∷ name ++ count ∷ []
 
 -- one field
 abbrev pub field_bytes : FieldData → List ℕ

@@ -4,9 +4,14 @@
 #![tactic(auto)]
 
 mod fault;
+mod laws;
 mod length;
 mod writing;
 
 pub use fault::{FlatFault, FlatKind, FlattenFault, UnflattenFault};
+pub use laws::{one_spelling, spelled_or_faulty, written_is_read};
 pub use length::flat_len;
 pub use writing::{FLAT_LIMIT, flatten};
+
+#[cfg(test)]
+mod tests;

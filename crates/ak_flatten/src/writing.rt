@@ -1,10 +1,10 @@
 ghost use Rattle.std.specs.Prelude.{◌≡◌, ◌++◌, ◌<◌, ◌≤◌, ◌↔◌, length, IfOk, IsErrOf, OnOk};
 ghost use Rattle.ak_message.specs.Seen.{value_of, field_ref_of};
-ghost use Rattle.ak_flatten.specs.Spelling.{spelling, value_bytes, field_bytes, address_bytes};
+ghost use Rattle.ak_flatten.specs.Spelling.{spelling, opening_bytes, field_bytes, head_bytes, sized_bytes, value_bytes, address_bytes};
 
 use crate::fault::FlattenFault;
 use crate::length::{flat_len, value_len};
-use ak_base::{Bytes, NoMemory};
+use ak_base::{Bytes, Code, NoMemory};
 use ak_message::{Address, FieldRef, Message, Target, Value};
 use std::alloc::Global;
 
@@ -31,14 +31,22 @@ fn put_message(out: &mut Bytes, message: &Message) -> Result<(), NoMemory>
     ensures { OnOk result (out.new ≡ out.old ++ spelling message.now) }
 {
     let count = message.count_names();
-    out.extend(b"AKM1")?;
-    out.extend(&message.what().0.to_be_bytes())?;
-    out.extend(&count.to_be_bytes())?;
+    put_opening(out, message.what(), count)?;
     for i in 0..count {
         if let Some(field) = message.field_at(i) {
             put_field(out, &field)?;
         }
     }
+    Ok(())
+}
+
+// What stands before the fields.
+fn put_opening(out: &mut Bytes, what: Code, count: u32) -> Result<(), NoMemory>
+    ensures { OnOk result (out.new ≡ out.old ++ opening_bytes what.0 count) }
+{
+    out.extend(b"AKM1")?;
+    out.extend(&what.0.to_be_bytes())?;
+    out.extend(&count.to_be_bytes())?;
     Ok(())
 }
 
@@ -49,19 +57,40 @@ fn put_field(out: &mut Bytes, field: &FieldRef) -> Result<(), NoMemory>
     requires short { length (field_bytes (field_ref_of field.now)) ≤ 4096 }
     ensures { OnOk result (out.new ≡ out.old ++ field_bytes (field_ref_of field.now)) }
 {
-    out.extend(&field.kind.code().0.to_be_bytes())?;
-    out.push(field.name.len() as u8)?;
-    out.extend(field.name)?;
-    out.push(field.values.len() as u8)?;
+    put_head(out, field)?;
     for value in field.values {
-        out.extend(&(value_len(value) as u16).to_be_bytes())?;
         put_value(out, value)?;
     }
     Ok(())
 }
 
+// What stands before the values.
+#[tactic(auto, using(crate::proofs::Heads::letters))]
+fn put_head(out: &mut Bytes, field: &FieldRef) -> Result<(), NoMemory>
+    requires name { length field.now.name.now ≤ 64 }
+    requires values { length field.now.values.now ≤ 255 }
+    ensures { OnOk result (out.new ≡ out.old ++ head_bytes field.now.kind field.now.name.now (length field.now.values.now)) }
+{
+    out.extend(&field.kind.code().0.to_be_bytes())?;
+    out.push(field.name.len() as u8)?;
+    out.extend(field.name)?;
+    out.push(field.values.len() as u8)?;
+    Ok(())
+}
+
 #[cycle(messages)]
 fn put_value(out: &mut Bytes, value: &Value) -> Result<(), NoMemory>
+    requires { length (value_bytes (value_of value.now)) ≤ 4096 }
+    ensures { OnOk result (out.new ≡ out.old ++ sized_bytes (value_of value.now)) }
+{
+    out.extend(&(value_len(value) as u16).to_be_bytes())?;
+    put_bytes(out, value)?;
+    Ok(())
+}
+
+// A value without its length.
+#[cycle(messages)]
+fn put_bytes(out: &mut Bytes, value: &Value) -> Result<(), NoMemory>
     requires { length (value_bytes (value_of value.now)) ≤ 4096 }
     ensures { OnOk result (out.new ≡ out.old ++ value_bytes (value_of value.now)) }
 {

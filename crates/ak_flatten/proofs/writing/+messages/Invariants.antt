@@ -7,13 +7,16 @@ use Rattle.ak_flatten.specs.Spelling.{spelling, values_bytes, fields_bytes, fiel
 use Rattle.ak_flatten.proofs.writing.+messages.Given as goal
 
 abbrev pub decreases-put_field : goal.decreases-put_field
-decreases-put_field l = 3 * depth_of_nested_values (nested_values (map value_of l.field.now.values.now)) + 2
+decreases-put_field l = 4 * depth_of_nested_values (nested_values (map value_of l.field.now.values.now)) + 3
 
 abbrev pub decreases-put_message : goal.decreases-put_message
-decreases-put_message l = 3 * depth_of l.message.now
+decreases-put_message l = 4 * depth_of l.message.now
 
 abbrev pub decreases-put_value : goal.decreases-put_value
-decreases-put_value l = 3 * depth_of_value (value_of l.value.now) + 1
+decreases-put_value l = 4 * depth_of_value (value_of l.value.now) + 2
+
+abbrev pub decreases-put_bytes : goal.decreases-put_bytes
+decreases-put_bytes l = 4 * depth_of_value (value_of l.value.now) + 1
 
 abbrev pub invariant-put_field-loop-value : goal.invariant-put_field-loop-value
 invariant-put_field-loop-value l =
