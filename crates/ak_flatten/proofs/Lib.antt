@@ -6,3 +6,4 @@ pub mod Unpopping
 pub mod LawsHold
 pub mod Lengths
 pub mod Writings
+pub mod Growing

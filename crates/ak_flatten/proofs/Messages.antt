@@ -35,7 +35,7 @@ field_count-nested [] = refl
 field_count-nested (f ∷ fs) = omega (arith, field_count-nested fs)
 
 -- ---- names
-not_head : (f : FieldData) (fs : List FieldData) (name : List ℕ) (b : Bool) → is_named name f ≡ b → is_some (cond b (Some f) (field_named fs name)) ≡ false → (b ≡ false) × (is_some (field_named fs name) ≡ false)
+pub not_head : (f : FieldData) (fs : List FieldData) (name : List ℕ) (b : Bool) → is_named name f ≡ b → is_some (cond b (Some f) (field_named fs name)) ≡ false → (b ≡ false) × (is_some (field_named fs name) ≡ false)
 not_head f fs name true same none = absurd cc
 not_head f fs name false other none = (refl, none)
 

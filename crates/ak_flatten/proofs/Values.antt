@@ -1,14 +1,15 @@
 -- The bytes of one value: what they are read as is spelled so, and a value's bytes are read as the value.
 use Rattle.std.proofs.Common.{◌≡◌, ℕ, zero, suc, ◌+◌, ◌^◌, ◌<◌, ◌≤◌, Bool, true, false, cond, not, ◌&&◌, ◌||◌, eqb, leb, ℤ, List, [], ◌∷◌, ◌++◌, length, get_or, Contains, Result, Ok, Err, refl, sym, ap, subst, ◌∙◌, append_assoc, arith, inl, inr, Fits}
-use Rattle.std.specs.Prelude.{FitsSigned}
+use Rattle.std.specs.Prelude.{FitsSigned, IsUtf8}
 use Rattle.std.specs.Int.{Width, w8, w16, w32, w64, byte_len, from_be_bytes, to_be_bytes, cast_signed, cast_unsigned}
 use Rattle.std.specs.List.{list_any}
 use Rattle.std.specs.Str.{is_utf8}
 use Rattle.std.proofs.Math.Facts.{sfits_to_z, Fits-of_z, of_z-to_z}
-use Rattle.std.proofs.lemmas.Bool.{leb-true, le-leb, eqb-true, eq-eqb, and_parts, and_from, or_cases, or_parts, cond_both, cases_eq, or_from, not-true, not_from_false, ne_eqb}
+use Rattle.std.proofs.lemmas.Bool.{leb-true, le-leb, eqb-true, eq-eqb, and_parts, and_from, and_left, and_right, not_from_true, false_from_ne_true, true_from_ne_false, or_cases, or_parts, cond_both, cases_eq, or_from, not-true, not_from_false, ne_eqb}
 use Rattle.std.proofs.lemmas.Int.{to_z-of_z}
 use Rattle.std.proofs.lemmas.List.{append-nil, length-append}
 use Rattle.std.proofs.lemmas.Str.{IsUtf8-from_is_utf8, is_utf8-from_IsUtf8}
+use Rattle.ak_base.specs.Text.{IsText}
 use Rattle.ak_message.specs.declared.address.Address.{Address}
 use Rattle.ak_message.specs.declared.address.Target.{Target}
 use Rattle.ak_message.specs.declared.address.Target.TheVariants as target
@@ -23,22 +24,44 @@ use Rattle.ak_flatten.specs.declared.fault.FlatKind.TheVariants as fault
 use Rattle.ak_flatten.specs.Format.{is_length}
 use Rattle.ak_flatten.specs.Laws.{AreBytes}
 use Rattle.ak_flatten.specs.Popped.{IsUnpoppedValue, AreUnpoppedFields, IsUnpopped}
-use Rattle.ak_flatten.specs.Reading.{Left, ◌>>=◌, where_true, number_at, is_text, target_from, is_target, address_from, value_from}
+use Rattle.ak_flatten.specs.Reading.{Left, ◌>>=◌, where_true, number_at, is_text, bool_from, text_from, target_from, is_target, address_from, value_from}
 use Rattle.ak_flatten.specs.Spelling.{bool_bytes, target_bytes, address_bytes, value_bytes, spelling}
 use Rattle.ak_flatten.proofs.Parts.{bind_ok, test_ok, ok_is, at, Takes, Takes-then, IsWide, wide16, wide32, wide64, number_takes, number_again, byte_takes, byte_again, one_byte}
 
+nothing_left : (bytes front rest : List ℕ) (n : ℕ) → bytes ≡ front ++ rest → length bytes ≡ n → length front ≡ n → rest ≡ []
+nothing_left bytes front [] n parts whole len = refl
+nothing_left bytes front (b ∷ rest) n parts whole len = absurd (omega (arith, length-append front (b ∷ rest), ap length parts))
+
+all_of : (left rest : Left) (text : List ℕ) (n : ℕ) → Takes left text rest → length left.bytes ≡ n → length text ≡ n → text ≡ left.bytes
+all_of left rest text n taken whole len =
+    let none = nothing_left left.bytes text rest.bytes n taken.parts whole len in
+    sym (taken.parts ∙ ap (λ (r : List ℕ). text ++ r) none ∙ append-nil text)
+
 -- ---- numbers, of bytes that are as many as the number has
-unsigned_back : (w : Width) (limit : ℕ) → IsWide w limit → (bytes : List ℕ) → AreBytes bytes → length bytes ≡ byte_len w → (to_be_bytes w (from_be_bytes w bytes) ≡ bytes) × (from_be_bytes w bytes < limit)
-unsigned_back w limit wide bytes fits len = (wide.back bytes len fits, wide.below bytes fits)
+unsigned_back : (w : Width) (limit : ℕ) → IsWide w limit → (left : Left) (x : ℕ × Left) → AreBytes left.bytes → length left.bytes ≡ byte_len w → number_at w left ≡ Ok x → (to_be_bytes w x.0 ≡ left.bytes) × (x.0 < limit)
+unsigned_back w limit wide left x fits len e =
+    let t = number_takes w limit wide left x fits e in
+    (all_of left x.1 (to_be_bytes w x.0) (byte_len w) t.0 len (wide.len x.0), t.1)
 
-signed_back : (w : Width) (limit : ℕ) → IsWide w limit → (bytes : List ℕ) → AreBytes bytes → length bytes ≡ byte_len w → (to_be_bytes w (cast_unsigned w (cast_signed w (from_be_bytes w bytes))) ≡ bytes) × FitsSigned w (cast_signed w (from_be_bytes w bytes))
-signed_back w limit wide bytes fits len =
-    let below = wide.fit (from_be_bytes w bytes) (wide.below bytes fits) in
-    (ap (to_be_bytes w) (of_z-to_z below) ∙ wide.back bytes len fits, sfits_to_z below)
+signed_back : (w : Width) (limit : ℕ) → IsWide w limit → (left : Left) (x : ℕ × Left) → AreBytes left.bytes → length left.bytes ≡ byte_len w → number_at w left ≡ Ok x → (to_be_bytes w (cast_unsigned w (cast_signed w x.0)) ≡ left.bytes) × FitsSigned w (cast_signed w x.0)
+signed_back w limit wide left x fits len e =
+    let u = unsigned_back w limit wide left x fits len e in
+    let below = wide.fit x.0 u.1 in
+    (ap (to_be_bytes w) (of_z-to_z below) ∙ u.0, sfits_to_z below)
 
-signed_again : (w : Width) (limit : ℕ) → IsWide w limit → (z : ℤ) → FitsSigned w z → cast_signed w (from_be_bytes w (to_be_bytes w (cast_unsigned w z))) ≡ z
-signed_again w limit wide z fits =
-    ap (cast_signed w) (wide.again (cast_unsigned w z) (wide.small _ (Fits-of_z fits))) ∙ to_z-of_z w z fits
+byte_back : (left : Left) (x : ℕ × Left) → AreBytes left.bytes → length left.bytes ≡ 1 → number_at w8 left ≡ Ok x → (x.0 ∷ [] ≡ left.bytes) × (x.0 < 256)
+byte_back left x fits len e =
+    let t = byte_takes left x fits e in (all_of left x.1 (x.0 ∷ []) 1 t.0 len refl, t.1)
+
+unsigned_again : (w : Width) (limit : ℕ) → IsWide w limit → (p n : ℕ) → n < limit → (q : ℕ) × (number_at w (at p (to_be_bytes w n)) ≡ Ok (n, at q []))
+unsigned_again w limit wide p n lt =
+    let a = number_again w limit wide p n [] lt in
+    (a.0, ap (λ (t : List ℕ). number_at w (at p t)) (sym (append-nil (to_be_bytes w n))) ∙ a.1)
+
+signed_again : (w : Width) (limit : ℕ) → IsWide w limit → (p : ℕ) (z : ℤ) → FitsSigned w z → (n : ℕ) × (q : ℕ) × (number_at w (at p (to_be_bytes w (cast_unsigned w z))) ≡ Ok (n, at q [])) × (cast_signed w n ≡ z)
+signed_again w limit wide p z fits =
+    let a = unsigned_again w limit wide p (cast_unsigned w z) (wide.small _ (Fits-of_z fits)) in
+    (cast_unsigned w z, a.0, a.1, to_z-of_z w z fits)
 
 -- ---- texts
 no_zero : (bytes : List ℕ) → list_any (λ b. eqb b 0) bytes ≡ false → Contains bytes 0 → ⊥
@@ -50,6 +73,16 @@ zero_in : (bytes : List ℕ) → (Contains bytes 0 → ⊥) → list_any (λ b. 
 zero_in [] none = refl
 zero_in (b ∷ bytes) none =
     or_from _ _ (ne_eqb b 0 (λ e. none (0, omega arith, e))) (zero_in bytes (λ c. none (suc c.0, omega (arith, c.1), c.2)))
+
+pub text_is : (bytes : List ℕ) → IsText bytes → is_text bytes ≡ true
+text_is bytes h = and_from _ _ (is_utf8-from_IsUtf8 bytes h.1) (not_from_false _ (zero_in bytes h.0.1))
+
+pub not_utf8_text : (bytes : List ℕ) → (IsUtf8 bytes → ⊥) → is_text bytes ≡ false
+not_utf8_text bytes none = and_left _ _ (false_from_ne_true (is_utf8 bytes) (λ e. none (IsUtf8-from_is_utf8 bytes e)))
+
+pub zero_text : (bytes : List ℕ) → Contains bytes 0 → is_text bytes ≡ false
+zero_text bytes some =
+    and_right _ _ (not_from_true _ (true_from_ne_false (list_any (λ b. eqb b 0) bytes) (λ e. no_zero bytes e some)))
 
 -- ---- addresses
 target_takes : (kind token : ℕ) → is_target kind token ≡ true → target_bytes (target_from kind token) ≡ kind ∷ to_be_bytes w64 token
@@ -66,10 +99,6 @@ target_takes kind token e =
 
 target_fits : (kind token : ℕ) → token < 2 ^ 64 → FitsTarget (target_from kind token)
 target_fits kind token lt = cond_both (eqb kind 0) target.Preferred (target.Token token) FitsTarget (λ _. tt) (λ _. lt)
-
-nothing_left : (bytes front rest : List ℕ) (n : ℕ) → bytes ≡ front ++ rest → length bytes ≡ n → length front ≡ n → rest ≡ []
-nothing_left bytes front [] n parts whole len = refl
-nothing_left bytes front (b ∷ rest) n parts whole len = absurd (omega (arith, length-append front (b ∷ rest), ap length parts))
 
 address_parts : (looper kind token : ℕ) (left rest : Left) → left.bytes ≡ (to_be_bytes w32 looper ++ kind ∷ to_be_bytes w64 token) ++ rest.bytes → length left.bytes ≡ 13 → is_target kind token ≡ true → looper < 2 ^ 32 → token < 2 ^ 64 → (address_bytes (record { looper = looper; target = target_from kind token }) ≡ left.bytes) × FitsAddress (record { looper = looper; target = target_from kind token })
 address_parts looper kind token left rest parts len target looper_fits token_fits =
@@ -150,6 +179,19 @@ bool_back n e =
       zero_case : n ≡ 0 → bool_bytes (eqb n 1) ≡ n ∷ []
       zero_case is = subst (λ (k : ℕ). bool_bytes (eqb k 1) ≡ k ∷ []) (sym is) refl
 
+bool_takes : (left : Left) (b : Bool) → AreBytes left.bytes → length left.bytes ≡ 1 → bool_from left ≡ Ok b → bool_bytes b ≡ left.bytes
+unfolding bool_from
+bool_takes left b fits len e =
+    let a = bind_ok (number_at w8 left) (λ n. where_true (leb n.0 1) fault.BadValue left (eqb n.0 1)) b e in
+    let s = byte_back left a.0 fits len a.1 in
+    let t = test_ok (leb a.0.0 1) fault.BadValue left (eqb a.0.0 1) b a.2 in
+    ap bool_bytes (sym t.1) ∙ bool_back a.0.0 t.0 ∙ s.0
+
+bool_again : (p : ℕ) (b : Bool) → bool_from (at p (bool_bytes b)) ≡ Ok b
+unfolding bool_from
+bool_again p false = let a = byte_again p 0 [] in rw a.1 refl
+bool_again p true = let a = byte_again p 1 [] in rw a.1 refl
+
 -- what was made is what came
 came : (levels : ℕ) (kind : Kind) (left : Left) (made v : ValueData) → made ≡ v → (value_bytes made ≡ left.bytes) × IsReadValue levels kind made → (value_bytes v ≡ left.bytes) × IsReadValue levels kind v
 came levels kind left made v is h = subst (λ (x : ValueData). (value_bytes x ≡ left.bytes) × IsReadValue levels kind x) {x = made} is h
@@ -158,38 +200,47 @@ module _ (message : Left → Result MessageData FlatFault) (levels : ℕ) (taken
   pub value_takes : (kind : Kind) (left : Left) (v : ValueData) → AreBytes left.bytes → is_length kind (length left.bytes) ≡ true → value_from message kind left ≡ Ok v → (value_bytes v ≡ left.bytes) × IsReadValue levels kind v
   unfolding value_from
   value_takes k.Bool left v fits len e =
-      let b = get_or left.bytes 0 0 in
-      let t = test_ok (leb b 1) fault.BadValue left (bool_value (eqb b 1)) v e in
-      came levels k.Bool left (bool_value (eqb b 1)) v t.1 (bool_back b t.0 ∙ sym (one_byte left.bytes (eqb-true _ _ len)), record { same = refl; fits = tt; unpopped = tt; shallow = omega arith })
+      let a = bind_ok (bool_from left) (λ b. Ok (bool_value b)) v e in
+      let t = bool_takes left a.0 fits (eqb-true _ _ len) a.1 in
+      came levels k.Bool left (bool_value a.0) v (ok_is _ _ a.2) (t, record { same = refl; fits = tt; unpopped = tt; shallow = omega arith })
   value_takes k.Int8 left v fits len e =
-      let b = get_or left.bytes 0 0 in
-      let fit : Fits w8 b = record { fits = fits 0 } in
-      came levels k.Int8 left (int8_value (cast_signed w8 b)) v (ok_is _ _ e) (ap (λ (n : ℕ). n ∷ []) (of_z-to_z fit) ∙ sym (one_byte left.bytes (eqb-true _ _ len)), record { same = refl; fits = sfits_to_z fit; unpopped = tt; shallow = omega arith })
+      let b = bind_ok (number_at w8 left) (λ n. Ok (int8_value (cast_signed w8 n.0))) v e in
+      let s = byte_back left b.0 fits (eqb-true _ _ len) b.1 in
+      let fit : Fits w8 b.0.0 = record { fits = s.1 } in
+      came levels k.Int8 left (int8_value (cast_signed w8 b.0.0)) v (ok_is _ _ b.2) (ap (λ (n : ℕ). n ∷ []) (of_z-to_z fit) ∙ s.0, record { same = refl; fits = sfits_to_z fit; unpopped = tt; shallow = omega arith })
   value_takes k.Int16 left v fits len e =
-      let s = signed_back w16 (2 ^ 16) wide16 left.bytes fits (eqb-true _ _ len) in
-      came levels k.Int16 left (int16_value (cast_signed w16 (from_be_bytes w16 left.bytes))) v (ok_is _ _ e) (s.0, record { same = refl; fits = s.1; unpopped = tt; shallow = omega arith })
+      let b = bind_ok (number_at w16 left) (λ n. Ok (int16_value (cast_signed w16 n.0))) v e in
+      let s = signed_back w16 (2 ^ 16) wide16 left b.0 fits (eqb-true _ _ len) b.1 in
+      came levels k.Int16 left (int16_value (cast_signed w16 b.0.0)) v (ok_is _ _ b.2) (s.0, record { same = refl; fits = s.1; unpopped = tt; shallow = omega arith })
   value_takes k.Int32 left v fits len e =
-      let s = signed_back w32 (2 ^ 32) wide32 left.bytes fits (eqb-true _ _ len) in
-      came levels k.Int32 left (int32_value (cast_signed w32 (from_be_bytes w32 left.bytes))) v (ok_is _ _ e) (s.0, record { same = refl; fits = s.1; unpopped = tt; shallow = omega arith })
+      let b = bind_ok (number_at w32 left) (λ n. Ok (int32_value (cast_signed w32 n.0))) v e in
+      let s = signed_back w32 (2 ^ 32) wide32 left b.0 fits (eqb-true _ _ len) b.1 in
+      came levels k.Int32 left (int32_value (cast_signed w32 b.0.0)) v (ok_is _ _ b.2) (s.0, record { same = refl; fits = s.1; unpopped = tt; shallow = omega arith })
   value_takes k.Int64 left v fits len e =
-      let s = signed_back w64 (2 ^ 64) wide64 left.bytes fits (eqb-true _ _ len) in
-      came levels k.Int64 left (int64_value (cast_signed w64 (from_be_bytes w64 left.bytes))) v (ok_is _ _ e) (s.0, record { same = refl; fits = s.1; unpopped = tt; shallow = omega arith })
+      let b = bind_ok (number_at w64 left) (λ n. Ok (int64_value (cast_signed w64 n.0))) v e in
+      let s = signed_back w64 (2 ^ 64) wide64 left b.0 fits (eqb-true _ _ len) b.1 in
+      came levels k.Int64 left (int64_value (cast_signed w64 b.0.0)) v (ok_is _ _ b.2) (s.0, record { same = refl; fits = s.1; unpopped = tt; shallow = omega arith })
   value_takes k.UInt8 left v fits len e =
-      let b = get_or left.bytes 0 0 in
-      came levels k.UInt8 left (uint8_value b) v (ok_is _ _ e) (sym (one_byte left.bytes (eqb-true _ _ len)), record { same = refl; fits = fits 0; unpopped = tt; shallow = omega arith })
+      let b = bind_ok (number_at w8 left) (λ n. Ok (uint8_value n.0)) v e in
+      let s = byte_back left b.0 fits (eqb-true _ _ len) b.1 in
+      came levels k.UInt8 left (uint8_value b.0.0) v (ok_is _ _ b.2) (s.0, record { same = refl; fits = s.1; unpopped = tt; shallow = omega arith })
   value_takes k.UInt16 left v fits len e =
-      let s = unsigned_back w16 (2 ^ 16) wide16 left.bytes fits (eqb-true _ _ len) in
-      came levels k.UInt16 left (uint16_value (from_be_bytes w16 left.bytes)) v (ok_is _ _ e) (s.0, record { same = refl; fits = s.1; unpopped = tt; shallow = omega arith })
+      let b = bind_ok (number_at w16 left) (λ n. Ok (uint16_value n.0)) v e in
+      let s = unsigned_back w16 (2 ^ 16) wide16 left b.0 fits (eqb-true _ _ len) b.1 in
+      came levels k.UInt16 left (uint16_value b.0.0) v (ok_is _ _ b.2) (s.0, record { same = refl; fits = s.1; unpopped = tt; shallow = omega arith })
   value_takes k.UInt32 left v fits len e =
-      let s = unsigned_back w32 (2 ^ 32) wide32 left.bytes fits (eqb-true _ _ len) in
-      came levels k.UInt32 left (uint32_value (from_be_bytes w32 left.bytes)) v (ok_is _ _ e) (s.0, record { same = refl; fits = s.1; unpopped = tt; shallow = omega arith })
+      let b = bind_ok (number_at w32 left) (λ n. Ok (uint32_value n.0)) v e in
+      let s = unsigned_back w32 (2 ^ 32) wide32 left b.0 fits (eqb-true _ _ len) b.1 in
+      came levels k.UInt32 left (uint32_value b.0.0) v (ok_is _ _ b.2) (s.0, record { same = refl; fits = s.1; unpopped = tt; shallow = omega arith })
   value_takes k.UInt64 left v fits len e =
-      let s = unsigned_back w64 (2 ^ 64) wide64 left.bytes fits (eqb-true _ _ len) in
-      came levels k.UInt64 left (uint64_value (from_be_bytes w64 left.bytes)) v (ok_is _ _ e) (s.0, record { same = refl; fits = s.1; unpopped = tt; shallow = omega arith })
+      let b = bind_ok (number_at w64 left) (λ n. Ok (uint64_value n.0)) v e in
+      let s = unsigned_back w64 (2 ^ 64) wide64 left b.0 fits (eqb-true _ _ len) b.1 in
+      came levels k.UInt64 left (uint64_value b.0.0) v (ok_is _ _ b.2) (s.0, record { same = refl; fits = s.1; unpopped = tt; shallow = omega arith })
   value_takes k.Text left v fits len e =
-      let t = test_ok (is_text left.bytes) fault.BadValue left (text_value left.bytes) v e in
+      let a = bind_ok (text_from left) (λ t. Ok (text_value t)) v e in
+      let t = test_ok (is_text left.bytes) fault.BadValue left left.bytes a.0 a.1 in
       let b = and_parts (is_utf8 left.bytes) (not (list_any (λ b. eqb b 0) left.bytes)) t.0 in
-      came levels k.Text left (text_value left.bytes) v t.1 (refl, record { same = refl; fits = ((leb-true _ _ len, no_zero left.bytes (not-true _ b.1)), IsUtf8-from_is_utf8 left.bytes b.0); unpopped = tt; shallow = omega arith })
+      came levels k.Text left (text_value left.bytes) v (ap (λ (x : List ℕ). text_value x) t.1 ∙ ok_is _ _ a.2) (refl, record { same = refl; fits = ((leb-true _ _ len, no_zero left.bytes (not-true _ b.1)), IsUtf8-from_is_utf8 left.bytes b.0); unpopped = tt; shallow = omega arith })
   value_takes k.Message left v fits len e =
       let b = bind_ok (message left) (λ m. Ok (value_of_message m)) v e in
       let t = taken left b.0 fits b.1 in
@@ -225,19 +276,24 @@ value-is_length (raw_value bytes) fits = le-leb _ _ fits.0
 module _ (message : Left → Result MessageData FlatFault) (levels : ℕ) (again : MessageAgain message levels) where
   pub value_again : (place : ℕ) (v : ValueData) → FitsValue v → IsUnpoppedValue v → depth_of_value v ≤ levels → length (value_bytes v) < 2 ^ 16 → value_from message (kind_of v) (at place (value_bytes v)) ≡ Ok v
   unfolding value_from
-  value_again place (bool_value false) fits unpopped shallow short = refl
-  value_again place (bool_value true) fits unpopped shallow short = refl
-  value_again place (int8_value z) fits unpopped shallow short = ap (λ (x : ℤ). Ok (int8_value x)) (to_z-of_z w8 z fits)
-  value_again place (int16_value z) fits unpopped shallow short = ap (λ (x : ℤ). Ok (int16_value x)) (signed_again w16 (2 ^ 16) wide16 z fits)
-  value_again place (int32_value z) fits unpopped shallow short = ap (λ (x : ℤ). Ok (int32_value x)) (signed_again w32 (2 ^ 32) wide32 z fits)
-  value_again place (int64_value z) fits unpopped shallow short = ap (λ (x : ℤ). Ok (int64_value x)) (signed_again w64 (2 ^ 64) wide64 z fits)
-  value_again place (uint8_value n) fits unpopped shallow short = refl
-  value_again place (uint16_value n) fits unpopped shallow short = ap (λ (x : ℕ). Ok (uint16_value x)) (wide16.again n fits)
-  value_again place (uint32_value n) fits unpopped shallow short = ap (λ (x : ℕ). Ok (uint32_value x)) (wide32.again n fits)
-  value_again place (uint64_value n) fits unpopped shallow short = ap (λ (x : ℕ). Ok (uint64_value x)) (wide64.again n fits)
+  value_again place (bool_value b) fits unpopped shallow short = rw (bool_again place b) refl
+  value_again place (int8_value z) fits unpopped shallow short =
+      let a = byte_again place (cast_unsigned w8 z) [] in rw a.1 (ap (λ (x : ℤ). Ok (int8_value x)) (to_z-of_z w8 z fits))
+  value_again place (int16_value z) fits unpopped shallow short =
+      let a = signed_again w16 (2 ^ 16) wide16 place z fits in rw a.2 (ap (λ (x : ℤ). Ok (int16_value x)) a.3)
+  value_again place (int32_value z) fits unpopped shallow short =
+      let a = signed_again w32 (2 ^ 32) wide32 place z fits in rw a.2 (ap (λ (x : ℤ). Ok (int32_value x)) a.3)
+  value_again place (int64_value z) fits unpopped shallow short =
+      let a = signed_again w64 (2 ^ 64) wide64 place z fits in rw a.2 (ap (λ (x : ℤ). Ok (int64_value x)) a.3)
+  value_again place (uint8_value n) fits unpopped shallow short = let a = byte_again place n [] in rw a.1 refl
+  value_again place (uint16_value n) fits unpopped shallow short =
+      let a = unsigned_again w16 (2 ^ 16) wide16 place n fits in rw a.1 refl
+  value_again place (uint32_value n) fits unpopped shallow short =
+      let a = unsigned_again w32 (2 ^ 32) wide32 place n fits in rw a.1 refl
+  value_again place (uint64_value n) fits unpopped shallow short =
+      let a = unsigned_again w64 (2 ^ 64) wide64 place n fits in rw a.1 refl
   value_again place (text_value bytes) fits unpopped shallow short =
-      let b : is_text bytes ≡ true = and_from _ _ (is_utf8-from_IsUtf8 bytes fits.1) (not_from_false _ (zero_in bytes fits.0.1)) in
-      rw b refl
+      rw (text_is bytes fits) refl
   value_again place (message_value what fs popped) fits unpopped shallow short =
       let m : MessageData = message_of_nested what fs popped in
       let same : value_of_message m ≡ message_value what fs popped = ap (λ (x : NestedFields). message_value what x popped) (nested_fields-listed fs) in

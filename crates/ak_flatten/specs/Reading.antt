@@ -1,5 +1,5 @@
 -- Reading a flat text from left to right, with the first fault that is met.
-use Rattle.std.specs.Prelude.{ℕ, zero, suc, ◌+◌, Bool, not, ◌&&◌, ◌||◌, ◌==◌, nat_lt, nat_le, if◌then◌else◌, List, [], ◌∷◌, ◌++◌, length, take, drop, slice_index, Option, Some, None, is_some, Result, Ok, Err}
+use Rattle.std.specs.Prelude.{ℕ, zero, suc, ◌+◌, Bool, not, ◌&&◌, ◌||◌, ◌==◌, nat_lt, nat_le, if◌then◌else◌, List, [], ◌∷◌, ◌++◌, length, take, drop, Option, Some, None, is_some, Result, Ok, Err}
 use Rattle.std.specs.Int.{Width, w8, w16, w32, w64, byte_len, from_be_bytes, cast_signed}
 use Rattle.std.specs.List.{list_any}
 use Rattle.std.specs.Str.{bytes_eq, is_utf8}
@@ -104,19 +104,26 @@ address_from left = do
   token ← number_at w64 kind.1
   where_true (is_target kind.0 token.0) fault.BadValue left (record { looper = looper.0; target = target_from kind.0 token.0 })
 
+unfoldable pub bool_from : Left → Result Bool FlatFault
+bool_from left = do
+  n ← number_at w8 left
+  where_true (nat_le n.0 1) fault.BadValue left (n.0 == 1)
+
+abbrev pub text_from : Left → Result (List ℕ) FlatFault
+text_from left = where_true (is_text left.bytes) fault.BadValue left left.bytes
+
 -- the value that all that is left writes; a message in it is read by `message`
 unfoldable pub value_from : (Left → Result MessageData FlatFault) → Kind → Left → Result ValueData FlatFault
-value_from message k.Bool left =
-    where_true (nat_le (slice_index left.bytes 0) 1) fault.BadValue left (bool_value (slice_index left.bytes 0 == 1))
-value_from message k.Int8 left = Ok (int8_value (cast_signed w8 (slice_index left.bytes 0)))
-value_from message k.Int16 left = Ok (int16_value (cast_signed w16 (from_be_bytes w16 left.bytes)))
-value_from message k.Int32 left = Ok (int32_value (cast_signed w32 (from_be_bytes w32 left.bytes)))
-value_from message k.Int64 left = Ok (int64_value (cast_signed w64 (from_be_bytes w64 left.bytes)))
-value_from message k.UInt8 left = Ok (uint8_value (slice_index left.bytes 0))
-value_from message k.UInt16 left = Ok (uint16_value (from_be_bytes w16 left.bytes))
-value_from message k.UInt32 left = Ok (uint32_value (from_be_bytes w32 left.bytes))
-value_from message k.UInt64 left = Ok (uint64_value (from_be_bytes w64 left.bytes))
-value_from message k.Text left = where_true (is_text left.bytes) fault.BadValue left (text_value left.bytes)
+value_from message k.Bool left = bool_from left >>= λ b. Ok (bool_value b)
+value_from message k.Int8 left = number_at w8 left >>= λ n. Ok (int8_value (cast_signed w8 n.0))
+value_from message k.Int16 left = number_at w16 left >>= λ n. Ok (int16_value (cast_signed w16 n.0))
+value_from message k.Int32 left = number_at w32 left >>= λ n. Ok (int32_value (cast_signed w32 n.0))
+value_from message k.Int64 left = number_at w64 left >>= λ n. Ok (int64_value (cast_signed w64 n.0))
+value_from message k.UInt8 left = number_at w8 left >>= λ n. Ok (uint8_value n.0)
+value_from message k.UInt16 left = number_at w16 left >>= λ n. Ok (uint16_value n.0)
+value_from message k.UInt32 left = number_at w32 left >>= λ n. Ok (uint32_value n.0)
+value_from message k.UInt64 left = number_at w64 left >>= λ n. Ok (uint64_value n.0)
+value_from message k.Text left = text_from left >>= λ t. Ok (text_value t)
 value_from message k.Message left = message left >>= λ m. Ok (value_of_message m)
 value_from message k.Messenger left = address_from left >>= λ a. Ok (messenger_value a)
 value_from message k.Raw left = Ok (raw_value left.bytes)

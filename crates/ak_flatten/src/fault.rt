@@ -73,3 +73,14 @@ impl From<NoMemory> for UnflattenFault {
         UnflattenFault::NoMemory
     }
 }
+
+impl From<FlatFault> for UnflattenFault {
+    ghost use Rattle.std.specs.Prelude.{◌≡◌};
+    ghost use Rattle.ak_flatten.specs.declared.fault.UnflattenFault.TheVariants as fault;
+
+    ghost from_gives = { λ f e. e ≡ fault.Bad f };
+
+    fn from(fault: FlatFault) -> UnflattenFault {
+        UnflattenFault::Bad(fault)
+    }
+}

@@ -4,8 +4,11 @@
 #![tactic(auto)]
 
 mod fault;
+mod head;
+mod input;
 mod laws;
 mod length;
+mod reading;
 mod writing;
 
 pub use fault::{FlatFault, FlatKind, FlattenFault, UnflattenFault};
