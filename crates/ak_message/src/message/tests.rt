@@ -200,36 +200,17 @@ fn values_are_replaced(rt: HostRuntime) -> Result<(), Fail> {
     let alloc = rt.alloc();
     let mut message = Message::new(alloc, Code(1));
     message.add(b"a", text(alloc, b"x")?)?;
-    message.add(b"m", boxed(alloc, nested(alloc, 15)?)?)?;
-    for (name, index, value, fault) in [
-        ("a", 0, Value::Int32(5), ReplaceFault::BadType),
-        ("a", 1, Value::Int32(5), ReplaceFault::BadType),
-        ("a", 1, text(alloc, b"y")?, ReplaceFault::BadIndex),
-        ("b", 0, Value::Int32(5), ReplaceFault::NameNotFound),
-        (
-            "m",
-            1,
-            boxed(alloc, nested(alloc, 16)?)?,
-            ReplaceFault::BadIndex,
-        ),
-        (
-            "m",
-            0,
-            boxed(alloc, nested(alloc, 16)?)?,
-            ReplaceFault::TooDeep,
-        ),
+    for (name, index, kind, fault) in [
+        ("a", 0, Kind::Int32, ReplaceFault::BadType),
+        ("a", 1, Kind::Int32, ReplaceFault::BadType),
+        ("a", 1, Kind::Text, ReplaceFault::BadIndex),
+        ("b", 0, Kind::Int32, ReplaceFault::NameNotFound),
     ] {
+        let value = sample(alloc, kind)?;
         assert_eq!(rt; message.replace(name.as_bytes(), index, value), Err(fault));
     }
-    assert_eq!(rt; message.replace(b"a", 0, text(alloc, b"yz")?), Ok(()));
-    assert_eq!(rt; shown(message.find(b"a", Kind::Text, 0)?), 2);
-    assert_eq!(rt;
-        message.replace(b"m", 0, boxed(alloc, nested(alloc, 1)?)?),
-        Ok(())
-    );
-    // it is two deep now, so thirteen more may stand round it
-    let mut outer = nested(alloc, 14)?;
-    assert_eq!(rt; outer.add(b"n", boxed(alloc, message)?), Ok(()));
+    message.replace(b"a", 0, sample(alloc, Kind::Text)?)?;
+    assert_eq!(rt; shown(message.find(b"a", Kind::Text, 0)?), 3);
     Ok(())
 }
 
@@ -257,12 +238,17 @@ fn values_are_removed(rt: HostRuntime) -> Result<(), Fail> {
 }
 
 #[test]
-fn depth_falls_with_a_removal(rt: HostRuntime) -> Result<(), Fail> {
+fn depth_falls_with_a_change(rt: HostRuntime) -> Result<(), Fail> {
     let alloc = rt.alloc();
     let mut message = nested(alloc, 16)?;
-    assert_eq!(rt; message.remove_name(b"m"), Ok(()));
+    let deep = boxed(alloc, nested(alloc, 16)?)?;
+    assert_eq!(rt; message.replace(b"m", 0, deep), Err(ReplaceFault::TooDeep));
+    message.replace(b"m", 0, boxed(alloc, nested(alloc, 14)?)?)?;
     let mut outer = Message::new(alloc, Code(1));
-    assert_eq!(rt; outer.add(b"m", boxed(alloc, message)?), Ok(()));
+    outer.add(b"m", boxed(alloc, message)?)?;
+    outer.remove_name(b"m")?;
+    let mut outermost = nested(alloc, 15)?;
+    outermost.add(b"m", boxed(alloc, outer)?)?;
     Ok(())
 }
 
