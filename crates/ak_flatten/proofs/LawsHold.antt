@@ -1,13 +1,17 @@
 -- The laws of flat text.
 use Rattle.std.proofs.Common.{◌≡◌, ℕ, ◌^◌, ◌<◌, ◌≤◌, Bool, true, false, cond, leb, ◌⊎◌, List, length, Option, Some, Result, Ok, Err, refl, sym, ap, subst, ◌∙◌, arith, inl, inr}
+use Rattle.std.specs.Prelude.{IfOk, IfErr}
 use Rattle.std.specs.Result.{result_err}
 use Rattle.std.proofs.lemmas.Bool.{le-leb, leb-true}
 use Rattle.ak_message.specs.Message.{MessageData}
 use Rattle.ak_flatten.specs.declared.fault.FlatFault.{FlatFault}
 use Rattle.ak_flatten.specs.declared.fault.FlatKind.TheVariants as fault
-use Rattle.ak_flatten.specs.Laws.{Spells, first_fault, AreBytes, OneSpelling, SpelledOrFaulty, WrittenIsRead}
+use Rattle.ak_flatten.specs.declared.fault.UnflattenFault.{UnflattenFault}
+use Rattle.ak_flatten.specs.declared.fault.UnflattenFault.TheVariants as unflatten
+use Rattle.ak_flatten.specs.Laws.{Spells, IsFirstFault, first_fault, AreBytes, OneSpelling, SpelledOrFaulty, WrittenIsRead}
 use Rattle.ak_flatten.specs.Popped.{unpopped}
 use Rattle.ak_flatten.specs.Reading.{message_from, read_message}
+use Rattle.ak_flatten.specs.Seen.{Fails, Gives}
 use Rattle.ak_flatten.specs.Spelling.{spelling}
 use Rattle.ak_flatten.proofs.Parts.{at, ok_is}
 use Rattle.ak_flatten.proofs.Values.{IsReadMessage}
@@ -48,3 +52,26 @@ spelled_or_faulty_holds bytes fits =
 pub written_is_read_holds : WrittenIsRead
 written_is_read_holds m whole limit =
     record { whole = whole-unpopped m whole; unpopped = is_unpopped m; spelled = sym (spelling-unpopped m); limit = limit }
+
+-- ---- what an answer that agrees with reading says
+pub read_spelled : (bytes : List ℕ) (r : Result MessageData UnflattenFault) → AreBytes bytes → Gives (λ m. m) r (read_message bytes) → IfOk r (λ m. Spells bytes m)
+read_spelled bytes (Ok m) fits given = read_is_spelled bytes m fits given
+read_spelled bytes (Err e) fits given = tt
+
+pub read_only : (bytes : List ℕ) (r : Result MessageData UnflattenFault) → Gives (λ m. m) r (read_message bytes) → (m : MessageData) → Spells bytes m → Gives (λ x. x) r (Ok m)
+read_only bytes r given m s = subst (λ (read : Result MessageData FlatFault). Gives (λ x. x) r read) (spelled_is_read bytes m s) given
+
+is_first : (bytes : List ℕ) (e : UnflattenFault) → Fails e (read_message bytes) → IsFirstFault bytes e
+is_first bytes unflatten.NoMemory given = tt
+is_first bytes (unflatten.Bad f) given = ap (λ (r : Result MessageData FlatFault). result_err r) given
+
+pub read_fault : (bytes : List ℕ) (r : Result MessageData UnflattenFault) → Gives (λ m. m) r (read_message bytes) → IfErr r (λ e. IsFirstFault bytes e)
+read_fault bytes (Ok m) given = tt
+read_fault bytes (Err e) given = is_first bytes e given
+
+err_of : (r : Result MessageData FlatFault) (f : FlatFault) → result_err r ≡ Some f → r ≡ Err f
+err_of (Ok m) f e = absurd cc
+err_of (Err d) f e = let same : d ≡ f = cc in ap (λ (x : FlatFault). Err x) same
+
+pub read_refused : (bytes : List ℕ) (r : Result MessageData UnflattenFault) → Gives (λ m. m) r (read_message bytes) → (f : FlatFault) → first_fault bytes ≡ Some f → Gives (λ x. x) r (Err f)
+read_refused bytes r given f e = subst (λ (read : Result MessageData FlatFault). Gives (λ x. x) r read) (err_of (read_message bytes) f e) given

@@ -4,6 +4,8 @@ use Rattle.std.specs.Result.{result_err}
 use Rattle.ak_message.specs.Message.{MessageData}
 use Rattle.ak_message.specs.Whole.{IsWhole}
 use Rattle.ak_flatten.specs.declared.fault.FlatFault.{FlatFault}
+use Rattle.ak_flatten.specs.declared.fault.UnflattenFault.{UnflattenFault}
+use Rattle.ak_flatten.specs.declared.fault.UnflattenFault.TheVariants as fault
 use Rattle.ak_flatten.specs.Popped.{IsUnpopped, unpopped}
 use Rattle.ak_flatten.specs.Reading.{read_message}
 use Rattle.ak_flatten.specs.Spelling.{spelling}
@@ -18,6 +20,11 @@ pub record Spells (bytes : List ℕ) (m : MessageData) : Type 0 where
 -- the first fault of bytes, none of a flat text
 abbrev pub first_fault : List ℕ → Option FlatFault
 first_fault bytes = result_err (read_message bytes)
+
+-- an answer's fault is the first one of the bytes, unless memory ran out
+abbrev pub IsFirstFault : List ℕ → UnflattenFault → Type 0
+IsFirstFault bytes fault.NoMemory = Unit {0}
+IsFirstFault bytes (fault.Bad f) = first_fault bytes ≡ Some f
 
 abbrev pub AreBytes : List ℕ → Type 0
 AreBytes bytes = (i : ℕ) → slice_index bytes i < 256

@@ -14,6 +14,7 @@ mod writing;
 pub use fault::{FlatFault, FlatKind, FlattenFault, UnflattenFault};
 pub use laws::{one_spelling, spelled_or_faulty, written_is_read};
 pub use length::flat_len;
+pub use reading::unflatten;
 pub use writing::{FLAT_LIMIT, flatten};
 
 #[cfg(test)]

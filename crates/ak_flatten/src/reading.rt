@@ -1,21 +1,48 @@
 //! Reads messages, their fields and their values. Each message value is read from its own bytes alone.
 
-ghost use Rattle.std.specs.Prelude.{◌≡◌, ◌+◌, ◌<◌, ◌≤◌, length, true, false, is_some, None, IfOk, OnOk};
+ghost use Rattle.std.specs.Prelude.{◌≡◌, ◌+◌, ◌<◌, ◌≤◌, length, true, false, is_some, Some, None, Ok, Err, IfOk, IfErr, OnOk};
 ghost use Rattle.ak_base.specs.Word as word;
 ghost use Rattle.ak_message.specs.Fields.{added, add_fault, field_named};
-ghost use Rattle.ak_message.specs.Message.{kind_of, depth_of, depth_of_value, value_of_message};
+ghost use Rattle.ak_message.specs.Message.{MessageData, kind_of, depth_of, depth_of_value, value_of_message};
 ghost use Rattle.ak_message.specs.Seen.{value_of};
 ghost use Rattle.ak_flatten.specs.Building.{fields_added, field_added, values_added};
 ghost use Rattle.ak_flatten.specs.Format.{is_length};
+ghost use Rattle.ak_flatten.specs.declared.fault.FlatFault.{FlatFault};
+ghost use Rattle.ak_flatten.specs.Laws.{Spells, IsFirstFault, first_fault};
 ghost use Rattle.ak_flatten.specs.Reading as reads;
 ghost use Rattle.ak_flatten.specs.Seen.{Gives, Reads, left_of};
 
 use crate::fault::{FlatFault, FlatKind, UnflattenFault};
 use crate::head;
 use crate::input::Input;
+use crate::writing::FLAT_LIMIT;
 use ak_base::{Code, NoMemory, Raw, RawFault, Text, TextFault};
-use ak_message::{AddFault, Kind, Message, Value};
+use ak_message::{AddFault, DEPTH_LIMIT, Kind, Message, Value};
 use std::alloc::Global;
+
+/// The message that the bytes are the flat text of, with nothing popped at any depth. Of bytes that are no
+/// flat text the first fault from left to right.
+pub fn unflatten(alloc: Global, bytes: &[u8]) -> Result<Message, UnflattenFault>
+    ensures spelled { IfOk result (λ m. Spells bytes.now m) }
+    ensures only { (m : MessageData) → Spells bytes.now m → Gives (λ x. x) result (Ok m) }
+    ensures fault { IfErr result (IsFirstFault bytes.now) }
+    ensures refused { (f : FlatFault) → first_fault bytes.now ≡ Some f → Gives (λ x. x) result (Err f) }
+{
+    read(alloc, bytes)
+}
+
+#[tactic(auto, unfolding(crate::specs::Reading::read_message))]
+fn read(alloc: Global, bytes: &[u8]) -> Result<Message, UnflattenFault>
+    ensures { Gives (λ m. m) result (reads.read_message bytes.now) }
+{
+    if bytes.len() > FLAT_LIMIT {
+        return Err(UnflattenFault::Bad(FlatFault {
+            place: FLAT_LIMIT as u32,
+            kind: FlatKind::TooLong,
+        }));
+    }
+    message(alloc, DEPTH_LIMIT, Input { place: 0, bytes })
+}
 
 // ---- values that are no message
 
@@ -69,7 +96,7 @@ fn boxed(alloc: Global, message: Message) -> Result<Value, NoMemory>
 /// All that is left as a message in which messages stand at most so many deep, itself counted.
 #[cycle(messages)]
 #[tactic(auto, unfolding(crate::specs::Reading::message_from))]
-pub(crate) fn message(alloc: Global, levels: u32, input: Input) -> Result<Message, UnflattenFault>
+fn message(alloc: Global, levels: u32, input: Input) -> Result<Message, UnflattenFault>
     requires { levels ≤ 16 }
     ensures reads { Gives (λ m. m) result (reads.message_from levels (left_of input.entry)) }
     ensures depth { IfOk result (λ m. depth_of m ≤ levels) }

@@ -9,7 +9,7 @@ use ak_message::{Address, FieldRef, Message, Target, Value};
 use std::alloc::Global;
 
 /// The longest flat text, in bytes.
-pub const FLAT_LIMIT: u64 = 4096;
+pub const FLAT_LIMIT: usize = 4096;
 
 /// The message's flat text, unless that has over 4,096 bytes. How many specifiers are popped isn't written.
 pub fn flatten(alloc: Global, message: &Message) -> Result<Bytes, FlattenFault>
@@ -17,7 +17,7 @@ pub fn flatten(alloc: Global, message: &Message) -> Result<Bytes, FlattenFault>
     ensures too_long { IsErrOf result FlattenFault.TooLong ↔ (4096 < length (spelling message.now)) }
 {
     let len = flat_len(message);
-    if len > FLAT_LIMIT {
+    if len > FLAT_LIMIT as u64 {
         return Err(FlattenFault::TooLong);
     }
     let mut out = Bytes::with_capacity(alloc, len as usize)?;
