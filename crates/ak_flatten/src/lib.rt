@@ -18,4 +18,6 @@ pub use reading::unflatten;
 pub use writing::{FLAT_LIMIT, flatten};
 
 #[cfg(test)]
+mod cuts;
+#[cfg(test)]
 mod tests;

@@ -1,0 +1,128 @@
+// Flat texts that are cut, and flat texts at the limit.
+
+use super::*;
+use ak_base::{Bytes, Code, Text};
+use ak_message::{Message, Value};
+use std::alloc::Global;
+use std::test::Fail;
+
+// A message of several kinds and depths: a Bool, two Int32, a Text, a message with a Text and a message, a
+// Messenger, and a Raw.
+const WHOLE: [u8; 141] =
+    *b"AKM1RPLY\0\0\0\x06BOOL\x01b\x01\0\x01\x01LONG\x01n\x02\0\x04\0\0\0\x03\0\x04\xff\xff\xff\xffCSTR\x01t\x01\0\x02hiMSGG\x01m\x01\0\x2fAKM1\0\0\0\x01\0\0\0\x02CSTR\x01p\x01\0\x05CountMSGG\x01i\x01\0\x0cAKM1\0\0\0\x02\0\0\0\0MSNG\x01a\x01\0\x0d\0\0\0\x02\x01\0\0\0\0\0\0\0\x07RAWT\x01r\x01\0\x02\xff\0";
+
+// Where its parts begin. The message in it is one part, since its end is known before it is read.
+const PLACES: [u32; 41] = [
+    0, 4, 8, // the magic, the code, the number of fields
+    12, 16, 17, 18, 19, 21, // b
+    22, 26, 27, 28, 29, 31, 35, 37, // n
+    41, 45, 46, 47, 48, 50, // t
+    52, 56, 57, 58, 59, 61, // m
+    108, 112, 113, 114, 115, 117, // a
+    130, 134, 135, 136, 137, 139, // r
+];
+
+// Where the parts of the message in it begin, where one message stands around that.
+const INNER_PLACES: [u32; 15] = [
+    21, 25, 29, // the magic, the code, the number of fields
+    33, 37, 38, 39, 40, 42, // p
+    47, 51, 52, 53, 54, 56, // i
+];
+
+// Where the parts of the message in that one begin, where two stand around it.
+const INNERMOST_PLACES: [u32; 3] = [42, 46, 50];
+
+// The last of the places that is at most `n`.
+fn last_before(places: &[u32], n: u32) -> Option<u32> {
+    let mut last = None;
+    for place in places {
+        if *place <= n {
+            last = Some(*place);
+        }
+    }
+    last
+}
+
+// A flat text with one message in it, which has these bytes and this length.
+fn around(alloc: Global, len: u16, bytes: &[u8]) -> Result<Bytes, Fail> {
+    let mut outer = Bytes::new(alloc);
+    outer.extend(b"AKM1PGET\0\0\0\x01MSGG\x01m\x01")?;
+    outer.extend(&len.to_be_bytes())?;
+    outer.extend(bytes)?;
+    Ok(outer)
+}
+
+// Where the bytes are found to be cut, if that is their first fault.
+fn cut_at(alloc: Global, bytes: &[u8]) -> Option<u32> {
+    match unflatten(alloc, bytes) {
+        Err(
+            UnflattenFault::Bad(
+                FlatFault {
+                    place,
+                    kind: FlatKind::Truncated,
+                },
+            ),
+        ) => Some(place),
+        _ => None,
+    }
+}
+
+#[test]
+fn a_cut_text_is_truncated_at_the_part_that_is_cut(rt: HostRuntime) -> Result<(), Fail> {
+    let alloc = rt.alloc();
+    let read = unflatten(alloc, &WHOLE)?;
+    assert_eq!(rt; flatten(alloc, &read)?.as_slice(), WHOLE.as_slice());
+    for n in 0..141u32 {
+        let cut = &WHOLE[..n as usize];
+        assert_eq!(rt; cut_at(alloc, cut), last_before(&PLACES, n));
+    }
+    let inner = &WHOLE[61..108];
+    for n in 0..47u16 {
+        let cut = around(alloc, n, &inner[..n as usize])?;
+        let want = last_before(&INNER_PLACES, 21 + u32::from(n));
+        assert_eq!(rt; cut_at(alloc, cut.as_slice()), want);
+    }
+    let innermost = &inner[35..];
+    for n in 0..12u16 {
+        let cut = around(alloc, n, &innermost[..n as usize])?;
+        let cut = around(alloc, 21 + n, cut.as_slice())?;
+        let want = last_before(&INNERMOST_PLACES, 42 + u32::from(n));
+        assert_eq!(rt; cut_at(alloc, cut.as_slice()), want);
+    }
+    Ok(())
+}
+
+#[test]
+fn a_flat_text_has_at_most_4096_bytes(rt: HostRuntime) -> Result<(), Fail> {
+    let alloc = rt.alloc();
+    let long = [b'x'; 1024];
+    let text = Text::from_bytes(alloc, &long)?;
+    let mut message = Message::new(alloc, Code::GET);
+    message.add(b"t", Value::Text(text.try_clone()?))?;
+    message.add(b"t", Value::Text(text.try_clone()?))?;
+    message.add(b"t", Value::Text(text))?;
+    assert_eq!(rt; flat_len(&message), 3097);
+    assert_eq!(rt; flatten(alloc, &message)?.as_slice().len(), 3097);
+    for (n, len, fits) in [
+        (997u32, 4096, true),
+        (998, 4097, false),
+        (1024, 4123, false),
+    ] {
+        let text = Text::from_bytes(alloc, &long[..n as usize])?;
+        message.add(b"t", Value::Text(text))?;
+        assert_eq!(rt; flat_len(&message), len);
+        match flatten(alloc, &message) {
+            Ok(bytes) => {
+                assert!(rt; fits);
+                let read = unflatten(alloc, bytes.as_slice())?;
+                assert_eq!(rt; flatten(alloc, &read)?.as_slice(), bytes.as_slice());
+            }
+            Err(fault) => {
+                assert!(rt; !fits);
+                assert_eq!(rt; fault, FlattenFault::TooLong);
+            }
+        }
+        message.remove_data(b"t", 3)?;
+    }
+    Ok(())
+}
