@@ -88,7 +88,10 @@ mod tests {
         let raw = Raw::from_bytes(rt.alloc(), &long[..1024])?;
         assert_eq!(rt; raw.as_bytes(), &long[..1024]);
         assert_eq!(rt; raw.try_clone()?.as_bytes(), raw.as_bytes());
-        assert_eq!(rt; Raw::from_bytes(rt.alloc(), &long).err(), Some(RawFault::TooLong));
+        assert_eq!(rt;
+            Raw::from_bytes(rt.alloc(), &long).err(),
+            Some(RawFault::TooLong)
+        );
         Ok(())
     }
 }
