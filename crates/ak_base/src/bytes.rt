@@ -1,4 +1,4 @@
-ghost use Rattle.std.specs.Prelude.{◌≡◌, [], ◌∷◌, ◌++◌, length, IfOk, OnOk, OnErr};
+ghost use Rattle.std.specs.Prelude.{◌≡◌, [], ◌∷◌, ◌++◌, ◌+◌, ◌≤◌, length, take, drop, IfOk, OnOk, OnErr};
 
 use crate::no_memory::NoMemory;
 use std::alloc::Global;
@@ -55,6 +55,21 @@ impl Bytes {
         Ok(())
     }
 
+    /// How many bytes.
+    pub fn len(&self) -> usize
+        ensures { result ≡ length self.now }
+    {
+        self.items.len()
+    }
+
+    /// Puts a piece at a place, over as many bytes that stand there.
+    pub fn overwrite(&mut self, place: usize, piece: &[u8])
+        requires { place + length piece.now ≤ length self.old }
+        ensures { self.new ≡ take place self.old ++ piece.now ++ drop (place + length piece.now) self.old }
+    {
+        self.items[place..place + piece.len()].copy_from_slice(piece);
+    }
+
     // What holds the bytes' memory, for calls that build a piece before they add it.
     pub(crate) fn allocator(&self) -> Global {
         *self.items.allocator()
@@ -86,6 +101,9 @@ mod tests {
         out.extend(b"bc")?;
         out.extend(b"")?;
         assert_eq!(rt; out.as_slice(), b"abc".as_slice());
+        out.overwrite(1, b"xy");
+        assert_eq!(rt; out.as_slice(), b"axy".as_slice());
+        assert_eq!(rt; out.len(), 3);
         out.clear();
         assert_eq!(rt; out.as_slice(), b"".as_slice());
         let mut out = Bytes::with_capacity(rt.alloc(), 2)?;

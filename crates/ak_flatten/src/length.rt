@@ -42,7 +42,7 @@ fn field_len(field: &FieldRef) -> u64
 }
 
 #[cycle(lengths)]
-pub(crate) fn value_len(value: &Value) -> u64
+fn value_len(value: &Value) -> u64
     ensures { result ≡ min (length (value_bytes (value_of value.now))) (2 ^ 64 - 1) }
 {
     match value {

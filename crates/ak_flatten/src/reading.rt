@@ -108,7 +108,7 @@ fn message(alloc: Global, levels: u32, input: Input) -> Result<Message, Unflatte
     let (message, rest) = fields(
         alloc,
         levels - 1,
-        Message::new(alloc, Code(what)),
+        Message::with_capacity(alloc, Code(what), count as usize)?,
         count,
         start,
     )?;

@@ -3,7 +3,7 @@ ghost use Rattle.ak_message.specs.Seen.{value_of, field_ref_of};
 ghost use Rattle.ak_flatten.specs.Spelling.{spelling, opening_bytes, field_bytes, head_bytes, sized_bytes, value_bytes, address_bytes};
 
 use crate::fault::FlattenFault;
-use crate::length::{flat_len, value_len};
+use crate::length::flat_len;
 use ak_base::{Bytes, Code, NoMemory};
 use ak_message::{Address, FieldRef, Message, Target, Value};
 use std::alloc::Global;
@@ -83,8 +83,12 @@ fn put_value(out: &mut Bytes, value: &Value) -> Result<(), NoMemory>
     requires { length (value_bytes (value_of value.now)) ≤ 4096 }
     ensures { OnOk result (out.new ≡ out.old ++ sized_bytes (value_of value.now)) }
 {
-    out.extend(&(value_len(value) as u16).to_be_bytes())?;
+    // The length is written over once the value stands, so that none is computed twice.
+    let place = out.len();
+    out.extend(&[0, 0])?;
     put_bytes(out, value)?;
+    let len = (out.len() - place - 2) as u16;
+    out.overwrite(place, &len.to_be_bytes());
     Ok(())
 }
 

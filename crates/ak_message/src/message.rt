@@ -178,6 +178,18 @@ impl Message {
         }
     }
 
+    /// A message of this code, without fields, and memory for so many.
+    pub fn with_capacity(alloc: Global, what: Code, fields: usize) -> Result<Message, NoMemory>
+        ensures { IfOk result (λ m. m ≡ record { what = what.0; fields = []; popped = 0 }) }
+    {
+        Ok(Message {
+            what,
+            fields: Vec::with_capacity(alloc, fields)?,
+            popped: 0,
+            depth: 1,
+        })
+    }
+
     pub fn what(&self) -> Code
         ensures value { result.0 ≡ self.now.what }
         ensures is_message { IsMessage self.now }
@@ -383,9 +395,10 @@ impl Field {
         ensures { IfOk result (λ f. field_of f ≡ new_field name.now (value_of value)) }
     {
         let kind = value.kind();
-        let mut bytes = Bytes::new(alloc);
+        let mut bytes = Bytes::with_capacity(alloc, name.len())?;
         bytes.extend(name)?;
-        let mut values = Vec::new(alloc);
+        // Most fields have one value, so room is made for no more.
+        let mut values = Vec::with_capacity(alloc, 1)?;
         values.push(value)?;
         Ok(Field {
             name: bytes,

@@ -41,6 +41,9 @@ fn values_are_found(rt: HostRuntime) -> Result<(), Fail> {
     message.add(b"n", Value::Int32(6))?;
     assert_eq!(rt; message.what(), Code(7));
     assert_eq!(rt; message.popped(), 0);
+    let roomy = Message::with_capacity(alloc, Code(8), 3)?;
+    assert_eq!(rt; roomy.what(), Code(8));
+    assert_eq!(rt; roomy.count_names(), 0);
     assert_eq!(rt; number(&message, b"n", 0), Some(-5));
     assert_eq!(rt; number(&message, b"n", 1), Some(6));
     match message.find(b"a", Kind::Text, 0)? {

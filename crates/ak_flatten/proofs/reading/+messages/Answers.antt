@@ -51,14 +51,14 @@ pub message-returns-in_err-message-clause-reads : goal.message-returns-in_err-me
 message-returns-in_err-message-clause-reads t c =
     let p = err_from_is_err_and c.from_residual-in_err-message.result c.from_residual-in_err-message.ensures.1 in
     let steps = message_steps c.args.levels c.in_ok-what.what c.in_ok-what.count (left_of c.args.input) (left_of c.in_ok-what.start) (omega (arith, c.if-levels-eq0.false)) c.in_ok-what.ensures.reads in
-    rw (p.1, p.2) (message_fails c.in_err-message.field-0.0 _ _ steps (rw c.new.ensures at c.in_err-message.ensures.reads))
+    rw (p.1, p.2) (message_fails c.in_err-message.field-0.0 _ _ steps (rw c.in_ok-with_capacity.ensures at c.in_err-message.ensures.reads))
 
 pub message-returns-then-not-is_empty-clause-reads : goal.message-returns-then-not-is_empty-clause-reads
 message-returns-then-not-is_empty-clause-reads t c =
     let steps = message_steps c.args.levels c.in_ok-what.what c.in_ok-what.count (left_of c.args.input) (left_of c.in_ok-what.start) (omega (arith, c.if-levels-eq0.false)) c.in_ok-what.ensures.reads in
-    rw c.fault-then-not-is_empty.ensures (message_trails c.in_ok-message.message (left_of c.in_ok-message.rest) _ _ steps (rw c.new.ensures at c.in_ok-message.ensures.reads) (sym c.is_empty.ensures ∙ c.if-not-is_empty.true))
+    rw c.fault-then-not-is_empty.ensures (message_trails c.in_ok-message.message (left_of c.in_ok-message.rest) _ _ steps (rw c.in_ok-with_capacity.ensures at c.in_ok-message.ensures.reads) (sym c.is_empty.ensures ∙ c.if-not-is_empty.true))
 
 pub message-returns-clause-reads : goal.message-returns-clause-reads
 message-returns-clause-reads t c =
     let steps = message_steps c.args.levels c.in_ok-what.what c.in_ok-what.count (left_of c.args.input) (left_of c.in_ok-what.start) (omega (arith, c.if-levels-eq0.false)) c.in_ok-what.ensures.reads in
-    message_ends c.in_ok-message.message (left_of c.in_ok-message.rest) _ _ steps (rw c.new.ensures at c.in_ok-message.ensures.reads) (sym c.is_empty.ensures ∙ c.if-not-is_empty.false)
+    message_ends c.in_ok-message.message (left_of c.in_ok-message.rest) _ _ steps (rw c.in_ok-with_capacity.ensures at c.in_ok-message.ensures.reads) (sym c.is_empty.ensures ∙ c.if-not-is_empty.false)
