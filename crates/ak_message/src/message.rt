@@ -182,12 +182,9 @@ impl Message {
     pub fn with_capacity(alloc: Global, what: Code, fields: usize) -> Result<Message, NoMemory>
         ensures { IfOk result (λ m. m ≡ record { what = what.0; fields = []; popped = 0 }) }
     {
-        Ok(Message {
-            what,
-            fields: Vec::with_capacity(alloc, fields)?,
-            popped: 0,
-            depth: 1,
-        })
+        let mut message = Message::new(alloc, what);
+        message.fields = Vec::with_capacity(alloc, fields)?;
+        Ok(message)
     }
 
     pub fn what(&self) -> Code
