@@ -1,9 +1,9 @@
 //! Reads messages, their fields and their values. Each message value is read from its own bytes alone.
 
-ghost use Rattle.std.specs.Prelude.{◌≡◌, ◌+◌, ◌<◌, ◌≤◌, length, true, false, is_some, Some, None, Ok, Err, IfOk, IfErr, OnOk};
+ghost use Rattle.std.specs.Prelude.{◌≡◌, ◌+◌, ◌<◌, ◌≤◌, length, true, false, is_some, Some, Ok, Err, IfOk, IfErr};
 ghost use Rattle.ak_base.specs.Word as word;
-ghost use Rattle.ak_message.specs.Fields.{added, add_fault, field_named};
-ghost use Rattle.ak_message.specs.Message.{MessageData, kind_of, depth_of, depth_of_value, value_of_message};
+ghost use Rattle.ak_message.specs.Fields.{field_named};
+ghost use Rattle.ak_message.specs.Message.{MessageData, kind_of, depth_of, depth_of_value};
 ghost use Rattle.ak_message.specs.Seen.{value_of};
 ghost use Rattle.ak_flatten.specs.Building.{fields_added, field_added, values_added};
 ghost use Rattle.ak_flatten.specs.Format.{is_length};
@@ -17,7 +17,7 @@ use crate::head;
 use crate::input::Input;
 use crate::writing::FLAT_LIMIT;
 use ak_base::{Code, NoMemory, Raw, RawFault, Text, TextFault};
-use ak_message::{AddFault, DEPTH_LIMIT, Kind, Message, Value};
+use ak_message::{DEPTH_LIMIT, Kind, Message, Value};
 use std::alloc::Global;
 
 /// The message that the bytes are the flat text of, with nothing popped at any depth. Of bytes that are no
@@ -83,12 +83,6 @@ fn bool_of(input: Input) -> Result<bool, FlatFault>
         return Err(input.fault(FlatKind::BadValue));
     }
     Ok(number == 1)
-}
-
-fn boxed(alloc: Global, message: Message) -> Result<Value, NoMemory>
-    ensures { IfOk result (λ v. value_of v ≡ value_of_message message) }
-{
-    Ok(Value::Message(Box::new(alloc, message)?))
 }
 
 // ---- messages
@@ -185,7 +179,7 @@ fn values<'a>(
     let mut rest = input;
     for _ in 0..count {
         let (one, after) = value(alloc, levels, kind, rest)?;
-        put(&mut message, name, one)?;
+        message.add_fitting(name, one)?;
         rest = after;
     }
     Ok((message, rest))
@@ -231,23 +225,8 @@ fn value_from(alloc: Global, levels: u32, kind: Kind, input: Input) -> Result<Va
         Kind::UInt32 => Ok(Value::UInt32(input.number32()?.0)),
         Kind::UInt64 => Ok(Value::UInt64(input.number64()?.0)),
         Kind::Text => Ok(Value::Text(text(alloc, input)?)),
-        Kind::Message => Ok(boxed(alloc, message(alloc, levels, input)?)?),
+        Kind::Message => Ok(Value::from_message(alloc, message(alloc, levels, input)?)?),
         Kind::Messenger => Ok(Value::Messenger(head::address(input)?)),
         Kind::Raw => Ok(Value::Raw(raw(alloc, input.bytes)?)),
-    }
-}
-
-// Adds a value that the message takes.
-fn put(message: &mut Message, name: &[u8], value: Value) -> Result<(), NoMemory>
-    requires { add_fault message.old.fields name.now (value_of value) ≡ None }
-    ensures { OnOk result (message.new ≡ record message.old { fields = added message.old.fields name.now (value_of value) }) }
-{
-    match message.add(name, value) {
-        Ok(()) => Ok(()),
-        Err(fault) => {
-            // The message takes it, so nothing but memory can be missing.
-            prove!(matches!(fault, AddFault::NoMemory));
-            Err(NoMemory)
-        }
     }
 }

@@ -18,13 +18,6 @@ fn reply(alloc: Global) -> Result<Message, AddFault> {
     Ok(message)
 }
 
-fn boxed(alloc: Global, message: Message) -> Result<Value, AddFault> {
-    match Box::new(alloc, message) {
-        Ok(message) => Ok(Value::Message(message)),
-        Err(_) => Err(AddFault::NoMemory),
-    }
-}
-
 // A message with a text of 1,024 bytes, so many times.
 fn long(alloc: Global, times: u32) -> Result<Message, Fail> {
     let mut message = Message::new(alloc, Code(1));
@@ -70,7 +63,7 @@ fn values_are_written(rt: HostRuntime) -> Result<(), Fail> {
         looper: 1,
         target: Target::Preferred,
     });
-    let inner = boxed(alloc, Message::new(alloc, Code::GET))?;
+    let inner = Value::from_message(alloc, Message::new(alloc, Code::GET))?;
     let rows: [(Value, &[u8]); 15] = [
         (Value::Bool(true), b"BOOL\x01v\x01\0\x01\x01"),
         (Value::Bool(false), b"BOOL\x01v\x01\0\x01\0"),
@@ -147,7 +140,10 @@ fn flat_texts_are_read(rt: HostRuntime) -> Result<(), Fail> {
 fn what_is_popped_is_not_written(rt: HostRuntime) -> Result<(), Fail> {
     let alloc = rt.alloc();
     let mut message = Message::new(alloc, Code::GET);
-    message.add(b"specifiers", boxed(alloc, Message::new(alloc, Code(1)))?)?;
+    message.add(
+        b"specifiers",
+        Value::from_message(alloc, Message::new(alloc, Code(1)))?,
+    )?;
     let bytes = flatten(alloc, &message)?;
     if message.specifiers() >= 1 {
         message.set_popped(1);

@@ -7,4 +7,5 @@ pub mod Message
 pub mod MessageCode
 pub mod MessageText
 pub mod Seen
+pub mod Specifier
 pub mod Whole

@@ -8,6 +8,7 @@ mod fault;
 mod field_ref;
 mod kind;
 mod message;
+mod specifier;
 
 pub use address::{Address, Target};
 pub use fault::{AddFault, FindFault, RemoveFault, ReplaceFault};
@@ -16,3 +17,4 @@ pub use kind::Kind;
 pub use message::{
     DEPTH_LIMIT, FIELD_LIMIT, Field, Message, VALUE_LIMIT, Value, added_values_are_found,
 };
+pub use specifier::{At, AtRef, Specifier, SpecifierRef};

@@ -1,4 +1,4 @@
-ghost use Rattle.std.specs.Prelude.{◌≡◌, ◌≤◌, [], length, position, Ok, Err, OnOk, OnErr, IfOk, option_map, IfSome, IfNone, IsOkUnless, slice_get};
+ghost use Rattle.std.specs.Prelude.{◌≡◌, ◌≤◌, [], None, length, position, Ok, Err, OnOk, OnErr, IfOk, option_map, IfSome, IfNone, IsOkUnless, slice_get};
 ghost use Rattle.ak_message.specs.Message.{kind_of, depth_of_value};
 ghost use Rattle.ak_message.specs.Seen.{value_of, field_of, fields_of, field_ref_of};
 ghost use Rattle.ak_message.specs.Fields.{AddedValuesAreFound, added, add_fault, found_in, is_named, place_fault, field_named, new_field, with_value, specifier_count};
@@ -87,6 +87,15 @@ impl Model for Message {
 }
 
 impl Value {
+    ghost use Rattle.ak_message.specs.Message.{value_of_message};
+
+    /// The message as a value.
+    pub fn from_message(alloc: Global, message: Message) -> Result<Value, NoMemory>
+        ensures { IfOk result (λ v. value_of v ≡ value_of_message message) }
+    {
+        Ok(Value::Message(Box::new(alloc, message)?))
+    }
+
     pub fn kind(&self) -> Kind
         ensures { result ≡ kind_of (value_of self.now) }
     {
@@ -197,7 +206,8 @@ impl Message {
 
     /// How many of its specifiers are popped, counted from the last.
     pub fn popped(&self) -> u32
-        ensures { result ≡ self.now.popped }
+        ensures value { result ≡ self.now.popped }
+        ensures within { self.now.popped ≤ specifier_count self.now.fields }
     {
         self.popped
     }
@@ -248,6 +258,22 @@ impl Message {
         put(&mut self.fields, name, value)?;
         self.depth = self.depth.max(depth + 1);
         Ok(())
+    }
+
+    /// Adds a value that is known to have room, as `add` does. An `Err` changes nothing, and the value is
+    /// dropped.
+    pub fn add_fitting(&mut self, name: &[u8], value: Value) -> Result<(), NoMemory>
+        requires { add_fault self.old.fields name.now (value_of value) ≡ None }
+        ensures ok { OnOk result (self.new ≡ record self.old { fields = added self.old.fields name.now (value_of value) }) }
+        ensures err { OnErr result (self.new ≡ self.old) }
+    {
+        match self.add(name, value) {
+            Ok(()) => Ok(()),
+            Err(fault) => {
+                prove!(matches!(fault, AddFault::NoMemory));
+                Err(NoMemory)
+            }
+        }
     }
 
     // Why the value is not added, if memory is there.

@@ -57,15 +57,11 @@ fn text_value(alloc: Global, text: &str) -> Result<Value, BenchFault> {
     Ok(Value::Text(Text::from_bytes(alloc, text.as_bytes())?))
 }
 
-fn message_value(alloc: Global, message: Message) -> Result<Value, BenchFault> {
-    Ok(Value::Message(Box::new(alloc, message)?))
-}
-
 fn ask(alloc: Global) -> Result<Message, BenchFault> {
     let mut specifier = Message::new(alloc, Code(1));
     specifier.add(b"property", text_value(alloc, "Count")?)?;
     let mut message = Message::new(alloc, code(b"PGET"));
-    message.add(b"specifiers", message_value(alloc, specifier)?)?;
+    message.add(b"specifiers", Value::from_message(alloc, specifier)?)?;
     Ok(message)
 }
 
@@ -88,7 +84,7 @@ fn deep(alloc: Global) -> Result<Message, BenchFault> {
     message.add(b"inner", Value::Int32(16))?;
     for _ in 1..DEEPEST {
         let mut outer = Message::new(alloc, code(b"NEST"));
-        outer.add(b"inner", message_value(alloc, message)?)?;
+        outer.add(b"inner", Value::from_message(alloc, message)?)?;
         message = outer;
     }
     Ok(message)

@@ -60,8 +60,9 @@ fn copied_values(alloc: Global, values: &[Value]) -> Result<Vec<Value>, NoMemory
 }
 
 impl Value {
+    /// An equal value.
     #[cycle(copies)]
-    fn try_clone(&self, alloc: Global) -> Result<Value, NoMemory>
+    pub fn try_clone(&self, alloc: Global) -> Result<Value, NoMemory>
         ensures { IfOk result (λ v. value_of v ≡ value_of self.now) }
     {
         match self {

@@ -10,13 +10,6 @@ fn number(message: &Message, name: &[u8], index: u32) -> Option<i32> {
     }
 }
 
-fn boxed(alloc: Global, message: Message) -> Result<Value, AddFault> {
-    match Box::new(alloc, message) {
-        Ok(message) => Ok(Value::Message(message)),
-        Err(_) => Err(AddFault::NoMemory),
-    }
-}
-
 fn text(alloc: Global, bytes: &[u8]) -> Result<Value, Fail> {
     Ok(Value::Text(Text::from_bytes(alloc, bytes)?))
 }
@@ -26,7 +19,7 @@ fn nested(alloc: Global, depth: u32) -> Result<Message, AddFault> {
     let mut message = Message::new(alloc, Code(1));
     for _ in 1..depth {
         let mut outer = Message::new(alloc, Code(1));
-        outer.add(b"m", boxed(alloc, message)?)?;
+        outer.add(b"m", Value::from_message(alloc, message)?)?;
         message = outer;
     }
     Ok(message)
@@ -111,11 +104,11 @@ fn depth_is_limited(rt: HostRuntime) -> Result<(), Fail> {
     let deepest = nested(alloc, 16)?;
     let mut message = Message::new(alloc, Code(1));
     assert_eq!(rt;
-        message.add(b"m", boxed(alloc, deepest)?),
+        message.add(b"m", Value::from_message(alloc, deepest)?),
         Err(AddFault::TooDeep)
     );
     assert_eq!(rt;
-        message.add(b"m", boxed(alloc, nested(alloc, 15)?)?),
+        message.add(b"m", Value::from_message(alloc, nested(alloc, 15)?)?),
         Ok(())
     );
     assert_eq!(rt; message.find(b"m", Kind::Message, 0).is_ok(), true);
@@ -134,7 +127,7 @@ fn sample(alloc: Global, kind: Kind) -> Result<Value, Fail> {
         Kind::UInt32 => Value::UInt32(7),
         Kind::UInt64 => Value::UInt64(u64::MAX),
         Kind::Text => text(alloc, b"xyz")?,
-        Kind::Message => boxed(alloc, Message::new(alloc, Code(9)))?,
+        Kind::Message => Value::from_message(alloc, Message::new(alloc, Code(9)))?,
         Kind::Messenger => Value::Messenger(Address {
             looper: 4,
             target: Target::Token(8),
@@ -189,6 +182,7 @@ fn every_kind_is_kept(rt: HostRuntime) -> Result<(), Fail> {
         let value = message.find(name.as_bytes(), kind, 0)?;
         assert_eq!(rt; value.kind(), kind);
         assert_eq!(rt; shown(value), number);
+        assert_eq!(rt; shown(&value.try_clone(alloc)?), number);
         let field = message.field_at(i as u32).ok_or("no field")?;
         assert_eq!(rt; field.name, name.as_bytes());
         assert_eq!(rt; field.kind, kind);
@@ -244,14 +238,14 @@ fn values_are_removed(rt: HostRuntime) -> Result<(), Fail> {
 fn depth_falls_with_a_change(rt: HostRuntime) -> Result<(), Fail> {
     let alloc = rt.alloc();
     let mut message = nested(alloc, 16)?;
-    let deep = boxed(alloc, nested(alloc, 16)?)?;
+    let deep = Value::from_message(alloc, nested(alloc, 16)?)?;
     assert_eq!(rt; message.replace(b"m", 0, deep), Err(ReplaceFault::TooDeep));
-    message.replace(b"m", 0, boxed(alloc, nested(alloc, 14)?)?)?;
+    message.replace(b"m", 0, Value::from_message(alloc, nested(alloc, 14)?)?)?;
     let mut outer = Message::new(alloc, Code(1));
-    outer.add(b"m", boxed(alloc, message)?)?;
+    outer.add(b"m", Value::from_message(alloc, message)?)?;
     outer.remove_name(b"m")?;
     let mut outermost = nested(alloc, 15)?;
-    outermost.add(b"m", boxed(alloc, outer)?)?;
+    outermost.add(b"m", Value::from_message(alloc, outer)?)?;
     Ok(())
 }
 
@@ -259,8 +253,8 @@ fn depth_falls_with_a_change(rt: HostRuntime) -> Result<(), Fail> {
 fn popped_specifiers_are_kept_and_lowered(rt: HostRuntime) -> Result<(), Fail> {
     let alloc = rt.alloc();
     let mut message = Message::new(alloc, Code(1));
-    message.add(b"specifiers", boxed(alloc, Message::new(alloc, Code(2)))?)?;
-    message.add(b"specifiers", boxed(alloc, Message::new(alloc, Code(3)))?)?;
+    message.add(b"specifiers", Value::from_message(alloc, Message::new(alloc, Code(2)))?)?;
+    message.add(b"specifiers", Value::from_message(alloc, Message::new(alloc, Code(3)))?)?;
     assert!(rt; message.specifiers() == 2);
     message.set_popped(2);
     let mut copy = message.try_clone()?;

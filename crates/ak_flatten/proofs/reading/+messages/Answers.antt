@@ -12,15 +12,15 @@ values-returns-in_err-one-clause-reads t c =
     let p = err_from_is_err_and c.from_residual.result c.from_residual.ensures.1 in
     rw (p.1, p.2) (grows_fails (message_from c.args.levels) c.args.message c.args.name.now c.args.kind c.args.count (left_of c.args.input) c.in_err-one.field-0.0 c.loop.counter c.loop.message (left_of c.loop.rest) c.loop.invariant.growing c.loop-test.true c.in_err-one.ensures.reads)
 
-pub values-put-requires : goal.values-put-requires
-values-put-requires t c =
+pub values-add_fitting-requires : goal.values-add_fitting-requires
+values-add_fitting-requires t c =
     grows_takes (message_from c.args.levels) c.args.message c.args.name.now c.args.kind c.args.count (left_of c.args.input) c.loop.counter c.loop.message (left_of c.loop.rest) (value_of c.in_ok-one.one) c.loop.invariant.growing c.requires.word c.requires.new c.requires.room (omega arith) c.in_ok-one.ensures.kind (omega (arith, c.in_ok-one.ensures.depth))
 
 pub values-loop-preserved : goal.values-loop-preserved
 values-loop-preserved t c =
     record {
-      growing = grows (message_from c.args.levels) c.args.message c.args.name.now c.args.kind c.args.count (left_of c.args.input) c.loop.counter c.loop.message c.put.new.message (left_of c.loop.rest) (left_of c.in_ok-one.after) (value_of c.in_ok-one.one) c.loop.invariant.growing c.loop-test.true c.in_ok-one.ensures.reads c.in_ok-put.ensures c.requires.new c.in_ok-one.ensures.kind;
-      shallow = omega (arith, ap depth_of c.in_ok-put.ensures, depth-with_added c.loop.message c.args.name.now (value_of c.in_ok-one.one), c.in_ok-one.ensures.depth, c.loop.invariant.shallow);
+      growing = grows (message_from c.args.levels) c.args.message c.args.name.now c.args.kind c.args.count (left_of c.args.input) c.loop.counter c.loop.message c.add_fitting.new.self (left_of c.loop.rest) (left_of c.in_ok-one.after) (value_of c.in_ok-one.one) c.loop.invariant.growing c.loop-test.true c.in_ok-one.ensures.reads c.in_ok-add_fitting.ensures.ok c.requires.new c.in_ok-one.ensures.kind;
+      shallow = omega (arith, ap depth_of c.in_ok-add_fitting.ensures.ok, depth-with_added c.loop.message c.args.name.now (value_of c.in_ok-one.one), c.in_ok-one.ensures.depth, c.loop.invariant.shallow);
     }
 
 pub values-returns-clause-reads : goal.values-returns-clause-reads

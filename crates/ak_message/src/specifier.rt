@@ -1,0 +1,143 @@
+ghost use Rattle.std.specs.Prelude.{◌≡◌};
+ghost use Rattle.ak_message.specs.Specifier.{form_of, at_of, specifier_of};
+
+use ak_base::Text;
+
+/// Which of the elements of a property is meant. Indexes count from 0, and a reverse index counts from
+/// the end, where the last element has 1. (The Be Book, Scripting.)
+#[derive(Debug, Drop)]
+pub enum At {
+    /// The property itself.
+    Direct,
+    Index(i32),
+    Reverse(i32),
+    /// `count` elements from `index` on.
+    Range { index: i32, count: i32 },
+    /// `count` elements from the reverse index on, to the end.
+    ReverseRange { index: i32, count: i32 },
+    Name(Text),
+    Id(i32),
+}
+
+/// An `At` whose name is borrowed.
+#[derive(Clone, Copy, Debug)]
+pub enum AtRef<'a> {
+    Direct,
+    Index(i32),
+    Reverse(i32),
+    Range { index: i32, count: i32 },
+    ReverseRange { index: i32, count: i32 },
+    Name(&'a Text),
+    Id(i32),
+}
+
+/// A property, and which of its elements.
+#[derive(Debug, Drop)]
+pub struct Specifier {
+    pub property: Text,
+    pub at: At,
+}
+
+/// A `Specifier` whose texts are borrowed.
+#[derive(Clone, Copy, Debug)]
+pub struct SpecifierRef<'a> {
+    pub property: &'a Text,
+    pub at: AtRef<'a>,
+}
+
+impl At {
+    pub fn as_ref(&self) -> AtRef<'_>
+        ensures { at_of result ≡ self.now }
+    {
+        match self {
+            At::Direct => AtRef::Direct,
+            At::Index(index) => AtRef::Index(*index),
+            At::Reverse(index) => AtRef::Reverse(*index),
+            At::Range { index, count } => AtRef::Range {
+                index: *index,
+                count: *count,
+            },
+            At::ReverseRange { index, count } => AtRef::ReverseRange {
+                index: *index,
+                count: *count,
+            },
+            At::Name(name) => AtRef::Name(name),
+            At::Id(id) => AtRef::Id(*id),
+        }
+    }
+
+    /// Its number, from 1 to 7 in the order of the variants.
+    pub fn form(&self) -> u32
+        ensures { result ≡ form_of self.now }
+    {
+        self.as_ref().form()
+    }
+}
+
+impl AtRef<'_> {
+    /// Its number, from 1 to 7 in the order of the variants.
+    pub fn form(&self) -> u32
+        ensures { result ≡ form_of (at_of self.now) }
+    {
+        match self {
+            AtRef::Direct => 1,
+            AtRef::Index(_) => 2,
+            AtRef::Reverse(_) => 3,
+            AtRef::Range { .. } => 4,
+            AtRef::ReverseRange { .. } => 5,
+            AtRef::Name(_) => 6,
+            AtRef::Id(_) => 7,
+        }
+    }
+}
+
+impl Specifier {
+    pub fn as_ref(&self) -> SpecifierRef<'_>
+        ensures { specifier_of result ≡ self.now }
+    {
+        SpecifierRef {
+            property: &self.property,
+            at: self.at.as_ref(),
+        }
+    }
+}
+
+#[cfg(test)]
+mod tests {
+    use super::*;
+    use std::test::Fail;
+
+    #[test]
+    fn forms_have_numbers(rt: HostRuntime) -> Result<(), Fail> {
+        let name = Text::from_bytes(rt.alloc(), b"n")?;
+        let rows = [
+            (At::Direct, 1),
+            (At::Index(-1), 2),
+            (At::Reverse(1), 3),
+            (At::Range { index: 0, count: 2 }, 4),
+            (At::ReverseRange { index: 2, count: 1 }, 5),
+            (At::Name(name), 6),
+            (At::Id(3), 7),
+        ];
+        for (at, form) in rows {
+            assert_eq!(rt; at.form(), form);
+            assert_eq!(rt; at.as_ref().form(), form);
+        }
+        Ok(())
+    }
+
+    #[test]
+    fn a_specifier_is_borrowed(rt: HostRuntime) -> Result<(), Fail> {
+        let specifier = Specifier {
+            property: Text::from_bytes(rt.alloc(), b"Title")?,
+            at: At::Name(Text::from_bytes(rt.alloc(), b"n")?),
+        };
+        let borrowed = specifier.as_ref();
+        assert_eq!(rt; borrowed.property.as_str(), "Title");
+        match borrowed.at {
+            AtRef::Name(name) => assert_eq!(rt; name.as_str(), "n"),
+            _ => assert!(rt; false),
+        }
+        Ok(())
+    }
+}
