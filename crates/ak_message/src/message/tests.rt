@@ -253,8 +253,14 @@ fn depth_falls_with_a_change(rt: HostRuntime) -> Result<(), Fail> {
 fn popped_specifiers_are_kept_and_lowered(rt: HostRuntime) -> Result<(), Fail> {
     let alloc = rt.alloc();
     let mut message = Message::new(alloc, Code(1));
-    message.add(b"specifiers", Value::from_message(alloc, Message::new(alloc, Code(2)))?)?;
-    message.add(b"specifiers", Value::from_message(alloc, Message::new(alloc, Code(3)))?)?;
+    message.add(
+        b"specifiers",
+        Value::from_message(alloc, Message::new(alloc, Code(2)))?,
+    )?;
+    message.add(
+        b"specifiers",
+        Value::from_message(alloc, Message::new(alloc, Code(3)))?,
+    )?;
     assert!(rt; message.specifiers() == 2);
     message.set_popped(2);
     let mut copy = message.try_clone()?;
