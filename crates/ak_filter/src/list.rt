@@ -1,0 +1,113 @@
+ghost use Rattle.std.specs.Prelude.{◌≡◌, ◌++◌, ◌∷◌, [], ◌≤◌, ◌↔◌, length, OnOk, OnErr, IsErrOf};
+ghost use Rattle.ak_filter.specs.declared.list.TheConstants.{FILTER_LIMIT};
+
+use crate::filter::Filter;
+use std::alloc::{AllocFailed, Global};
+use std::marker::Model;
+
+/// How many filters a list may have.
+pub const FILTER_LIMIT: usize = 32;
+
+/// Why a filter was not added.
+#[derive(Clone, Copy, Debug, PartialEq, Eq)]
+pub enum FilterFault {
+    /// There are 32 filters.
+    FilterLimit,
+    NoMemory,
+}
+
+impl<T: Drop> From<AllocFailed<T>> for FilterFault {
+    ghost use Rattle.std.specs.Prelude.{◌≡◌};
+    ghost use Rattle.ak_filter.specs.declared.list.FilterFault.TheVariants.{NoMemory};
+
+    ghost from_gives = { λ _ e. e ≡ NoMemory };
+
+    fn from(_error: AllocFailed<T>) -> FilterFault {
+        FilterFault::NoMemory
+    }
+}
+
+/// Filters in the order in which they run, at most 32. Contracts see their list.
+#[derive(Debug, Drop)]
+pub struct FilterList {
+    filters: Vec<Filter>,
+}
+
+impl Model for FilterList {
+    ghost use Rattle.std.specs.Prelude.{◌≤◌, List, length};
+    ghost use Rattle.ak_filter.specs.declared.filter.Filter.{Filter};
+    ghost use Rattle.ak_filter.specs.declared.list.TheConstants.{FILTER_LIMIT};
+
+    ghost Value = { List Filter };
+
+    ghost view = { λ l. l.filters.items };
+
+    ghost invariant = { λ l. length l.filters.items ≤ FILTER_LIMIT };
+}
+
+impl FilterList {
+    /// A list without filters. Takes no memory.
+    pub fn new(alloc: Global) -> FilterList
+        ensures { result ≡ [] }
+    {
+        FilterList {
+            filters: Vec::new(alloc),
+        }
+    }
+
+    /// Adds a filter at the end. `FilterLimit` at 32 filters. An `Err` changes nothing, and the filter is
+    /// dropped.
+    pub fn push(&mut self, f: Filter) -> Result<(), FilterFault>
+        ensures limit { FILTER_LIMIT ≡ 32 }
+        ensures filter_limit { IsErrOf result FilterFault.FilterLimit ↔ (length self.old ≡ FILTER_LIMIT) }
+        ensures ok { OnOk result (self.new ≡ self.old ++ f ∷ []) }
+        ensures err { OnErr result (self.new ≡ self.old) }
+    {
+        if self.filters.len() >= FILTER_LIMIT {
+            return Err(FilterFault::FilterLimit);
+        }
+        self.filters.push(f)?;
+        Ok(())
+    }
+
+    pub fn as_slice(&self) -> &[Filter]
+        ensures value { result.now ≡ self.now }
+        ensures limit { length self.now ≤ 32 }
+    {
+        self.filters.as_slice()
+    }
+}
+
+#[cfg(test)]
+mod tests {
+    use super::*;
+    use crate::filter::{DeliveryIs, SourceIs};
+    use ak_base::Code;
+    use std::test::Fail;
+
+    fn skips(what: u32) -> Filter {
+        Filter {
+            what: Some(Code(what)),
+            source: SourceIs::Any,
+            delivery: DeliveryIs::Any,
+            skip: true,
+            to: None,
+            set_what: None,
+        }
+    }
+
+    #[test]
+    fn a_list_takes_32_filters(rt: HostRuntime) -> Result<(), Fail> {
+        let mut list = FilterList::new(rt.alloc());
+        assert_eq!(rt; list.as_slice().len(), 0);
+        for what in 0..32 {
+            assert_eq!(rt; list.push(skips(what)), Ok(()));
+        }
+        assert_eq!(rt; list.push(skips(32)), Err(FilterFault::FilterLimit));
+        assert_eq!(rt; list.as_slice().len(), 32);
+        for (i, filter) in list.as_slice().iter().enumerate() {
+            assert_eq!(rt; filter.what, Some(Code(i as u32)));
+        }
+        Ok(())
+    }
+}

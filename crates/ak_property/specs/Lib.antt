@@ -1,0 +1,4 @@
+pub mod HandlerRow
+pub mod Laws
+pub mod Suites
+pub mod Table

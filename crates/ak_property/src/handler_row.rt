@@ -1,0 +1,23 @@
+ghost use Rattle.std.specs.Prelude.{◌≡◌, ◌==◌, map};
+ghost use Rattle.std.specs.List.{position};
+ghost use Rattle.ak_property.specs.HandlerRow.{RowData};
+
+use crate::table::PropertyTable;
+use ak_base::Code;
+use ak_filter::FilterList;
+
+/// What routing asks of what a handler holds.
+pub trait HandlerRow {
+    /// Its property table, its filters, and the codes on which it has reactions.
+    ghost row: { Self → RowData };
+
+    fn table(&self) -> &PropertyTable
+        ensures { result.now ≡ (row self.now).table };
+
+    fn filters(&self) -> &FilterList
+        ensures { result.now ≡ (row self.now).filters };
+
+    /// The first place of a reaction on this code.
+    fn reaction_on(&self, what: Code) -> Option<u32>
+        ensures { result ≡ position (λ code. code == what.0) (row self.now).reactions };
+}

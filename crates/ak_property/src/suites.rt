@@ -1,0 +1,165 @@
+ghost use Rattle.std.specs.Prelude.{◌≡◌, ◌≤◌, ◌<◌, ◌++◌, None, length, codes, IfOk, OnOk};
+ghost use Rattle.ak_message.specs.Fields.{field_named};
+ghost use Rattle.ak_property.specs.Suites.{suites_reply, texts_field, names_of};
+
+use crate::table::{PropertyRow, PropertyTable};
+use ak_base::{Code, NoMemory, Text};
+use ak_message::{Message, Value};
+use std::alloc::Global;
+
+/// The reply that tells the suites of a handler and the names of its properties: `suites`, where the table
+/// has rows `properties`, and `error` 0.
+pub fn suite_message(
+    alloc: Global,
+    suites: &[Text],
+    table: &PropertyTable,
+) -> Result<Message, NoMemory>
+    requires some { 1 ≤ length suites.now }
+    requires limit { length suites.now ≤ 19 }
+    ensures { IfOk result (λ m. m ≡ suites_reply suites.now table.now) }
+{
+    let mut reply = Message::with_capacity(alloc, Code::REPLY, 3)?;
+    add_suites(&mut reply, suites)?;
+    add_names(&mut reply, table.as_slice())?;
+    reply.add_fitting(b"error", Value::Int32(0))?;
+    Ok(reply)
+}
+
+// Adds the suites behind the fields.
+fn add_suites(reply: &mut Message, suites: &[Text]) -> Result<(), NoMemory>
+    requires new { field_named reply.old.fields (codes "suites") ≡ None }
+    requires room { length reply.old.fields < 64 }
+    requires limit { length suites.now ≤ 255 }
+    ensures { OnOk result (reply.new ≡ record reply.old { fields = reply.old.fields ++ texts_field (codes "suites") suites.now }) }
+{
+    for suite in suites {
+        reply.add_fitting(b"suites", Value::Text(suite.try_clone()?))?;
+    }
+    Ok(())
+}
+
+// Adds the names of the rows behind the fields.
+fn add_names(reply: &mut Message, rows: &[PropertyRow]) -> Result<(), NoMemory>
+    requires new { field_named reply.old.fields (codes "properties") ≡ None }
+    requires room { length reply.old.fields < 64 }
+    requires limit { length rows.now ≤ 255 }
+    ensures { OnOk result (reply.new ≡ record reply.old { fields = reply.old.fields ++ texts_field (codes "properties") (names_of rows.now) }) }
+{
+    for row in rows {
+        reply.add_fitting(b"properties", Value::Text(row.name.try_clone()?))?;
+    }
+    Ok(())
+}
+
+#[cfg(test)]
+mod tests {
+    use super::*;
+    use ak_base::Items;
+    use ak_message::Kind;
+    use std::test::Fail;
+
+    // A name of two letters, another one for each number below 64.
+    fn letters(i: u8) -> [u8; 2]
+        requires { i < 64 }
+    {
+        [b'a' + i / 8, b'a' + i % 8]
+    }
+
+    fn suites(alloc: Global, count: u8) -> Result<Vec<Text>, Fail>
+        requires { count ≤ 64 }
+    {
+        let mut suites = Vec::new(alloc);
+        for i in 0..count {
+            suites.push(Text::from_bytes(alloc, &letters(i))?)?;
+        }
+        Ok(suites)
+    }
+
+    fn table(alloc: Global, count: u8) -> Result<PropertyTable, Fail>
+        requires { count ≤ 64 }
+    {
+        let mut table = PropertyTable::new(alloc);
+        for i in 0..count {
+            table.add_row(PropertyRow {
+                name: Text::from_bytes(alloc, &letters(i))?,
+                kind: Kind::Int32,
+                commands: Items::from_vec(Vec::new(alloc)),
+                forms: Items::from_vec(Vec::new(alloc)),
+                usage: Text::from_bytes(alloc, b"as told")?,
+            })?;
+        }
+        Ok(table)
+    }
+
+    // The name and kind of a field, and how many values it has.
+    fn told(reply: &Message, i: u32) -> Option<(&[u8], Kind, usize)> {
+        let field = reply.field_at(i)?;
+        Some((field.name, field.kind, field.values.len()))
+    }
+
+    fn text_at<'a>(reply: &'a Message, name: &[u8], index: u8) -> &'a [u8] {
+        match reply.find(name, Kind::Text, u32::from(index)) {
+            Ok(Value::Text(text)) => text.as_bytes(),
+            _ => b"none",
+        }
+    }
+
+    fn error_of(reply: &Message) -> Option<i32> {
+        match reply.find(b"error", Kind::Int32, 0) {
+            Ok(Value::Int32(n)) => Some(*n),
+            _ => None,
+        }
+    }
+
+    #[test]
+    fn without_rows_no_properties_are_told(rt: HostRuntime) -> Result<(), Fail> {
+        let alloc = rt.alloc();
+        let suites = suites(alloc, 1)?;
+        assert_eq!(rt; suites.len(), 1);
+        let reply = suite_message(alloc, suites.as_slice(), &PropertyTable::new(alloc))?;
+        assert_eq!(rt; reply.what(), Code(0x5250_4C59));
+        assert_eq!(rt; reply.popped(), 0);
+        assert_eq!(rt; reply.count_names(), 2);
+        assert_eq!(rt;
+            told(&reply, 0),
+            Some((b"suites".as_slice(), Kind::Text, 1))
+        );
+        assert_eq!(rt; text_at(&reply, b"suites", 0), b"aa".as_slice());
+        assert_eq!(rt;
+            told(&reply, 1),
+            Some((b"error".as_slice(), Kind::Int32, 1))
+        );
+        assert_eq!(rt; error_of(&reply), Some(0));
+        Ok(())
+    }
+
+    #[test]
+    fn suites_and_properties_are_told_in_order(rt: HostRuntime) -> Result<(), Fail> {
+        let alloc = rt.alloc();
+        let suites = suites(alloc, 19)?;
+        assert_eq!(rt; suites.len(), 19);
+        let reply = suite_message(alloc, suites.as_slice(), &table(alloc, 64)?)?;
+        assert_eq!(rt; reply.what(), Code(0x5250_4C59));
+        assert_eq!(rt; reply.count_names(), 3);
+        assert_eq!(rt;
+            told(&reply, 0),
+            Some((b"suites".as_slice(), Kind::Text, 19))
+        );
+        assert_eq!(rt;
+            told(&reply, 1),
+            Some((b"properties".as_slice(), Kind::Text, 64))
+        );
+        assert_eq!(rt;
+            told(&reply, 2),
+            Some((b"error".as_slice(), Kind::Int32, 1))
+        );
+        for i in 0..19 {
+            assert_eq!(rt; text_at(&reply, b"suites", i), letters(i).as_slice());
+        }
+        for i in 0..64 {
+            assert_eq!(rt; text_at(&reply, b"properties", i), letters(i).as_slice());
+        }
+        assert_eq!(rt; error_of(&reply), Some(0));
+        Ok(())
+    }
+}

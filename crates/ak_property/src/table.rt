@@ -1,0 +1,239 @@
+ghost use Rattle.std.specs.Prelude.{◌≡◌, ◌++◌, ◌∷◌, [], ◌<◌, ◌≤◌, ◌↔◌, length, OnOk, OnErr, IsErrOf};
+ghost use Rattle.ak_property.specs.declared.table.TheConstants.{ROW_LIMIT};
+ghost use Rattle.ak_property.specs.Table.{allows, codes_of, fits, match_of};
+
+use ak_base::{Code, Items, Text};
+use ak_message::Kind;
+use std::alloc::{AllocFailed, Global};
+use std::marker::Model;
+
+/// How many rows a table may have.
+pub const ROW_LIMIT: usize = 64;
+
+/// One property: its name and kind, the commands and the forms of specifiers that it takes, where none
+/// means all, and how it is used. (The Be Book, BPropertyInfo.)
+#[derive(Debug, Drop)]
+pub struct PropertyRow {
+    pub name: Text,
+    pub kind: Kind,
+    pub commands: Items<Code>,
+    pub forms: Items<u32>,
+    pub usage: Text,
+}
+
+/// Why a row was not added.
+#[derive(Clone, Copy, Debug, PartialEq, Eq)]
+pub enum RowFault {
+    /// There are 64 rows.
+    RowLimit,
+    NoMemory,
+}
+
+impl<T: Drop> From<AllocFailed<T>> for RowFault {
+    ghost use Rattle.std.specs.Prelude.{◌≡◌};
+    ghost use Rattle.ak_property.specs.declared.table.RowFault.TheVariants.{NoMemory};
+
+    ghost from_gives = { λ _ e. e ≡ NoMemory };
+
+    fn from(_error: AllocFailed<T>) -> RowFault {
+        RowFault::NoMemory
+    }
+}
+
+/// The properties of a handler, at most 64 rows in order. Contracts see the list of rows.
+#[derive(Debug, Drop)]
+pub struct PropertyTable {
+    rows: Vec<PropertyRow>,
+}
+
+impl Model for PropertyTable {
+    ghost use Rattle.std.specs.Prelude.{◌≤◌, List, length};
+    ghost use Rattle.ak_property.specs.declared.table.TheConstants.{ROW_LIMIT};
+    ghost use Rattle.ak_property.specs.declared.table.PropertyRow.{PropertyRow};
+
+    ghost Value = { List PropertyRow };
+
+    ghost view = { λ t. t.rows.items };
+
+    ghost invariant = { λ t. length t.rows.items ≤ ROW_LIMIT };
+}
+
+impl PropertyTable {
+    /// A table without rows. Takes no memory.
+    pub fn new(alloc: Global) -> PropertyTable
+        ensures { result ≡ [] }
+    {
+        PropertyTable {
+            rows: Vec::new(alloc),
+        }
+    }
+
+    /// Adds a row at the end. `RowLimit` at 64 rows. An `Err` changes nothing, and the row is dropped.
+    pub fn add_row(&mut self, row: PropertyRow) -> Result<(), RowFault>
+        ensures limit { ROW_LIMIT ≡ 64 }
+        ensures row_limit { IsErrOf result RowFault.RowLimit ↔ (length self.old ≡ ROW_LIMIT) }
+        ensures ok { OnOk result (self.new ≡ self.old ++ row ∷ []) }
+        ensures err { OnErr result (self.new ≡ self.old) }
+    {
+        if self.rows.len() >= ROW_LIMIT {
+            return Err(RowFault::RowLimit);
+        }
+        self.rows.push(row)?;
+        Ok(())
+    }
+
+    /// The place of the first row of that name whose forms are empty or hold `form`, and whose commands are
+    /// empty or hold `what`, or whatever its commands where `index` is not 0. `index` is the number of
+    /// specifiers that are left, less one: before the last one no command is carried out. `None` where no
+    /// row fits. Takes no memory.
+    pub fn find_match(&self, what: Code, index: u32, form: u32, name: &Text) -> Option<usize>
+        ensures { result ≡ match_of self.now what.0 index form name.now }
+    {
+        self.rows
+            .iter()
+            .position(|row| row.fits(what, index, form, name))
+    }
+
+    pub fn as_slice(&self) -> &[PropertyRow]
+        ensures value { result.now ≡ self.now }
+        ensures limit { length self.now ≤ 64 }
+    {
+        self.rows.as_slice()
+    }
+}
+
+impl PropertyRow {
+    fn fits(&self, what: Code, index: u32, form: u32, name: &Text) -> bool
+        ensures { result ≡ fits what.0 index form name.now self.now }
+    {
+        self.name.as_bytes() == name.as_bytes()
+            && allows_form(self.forms.as_slice(), form)
+            && (allows_command(self.commands.as_slice(), what) || index != 0)
+    }
+}
+
+fn allows_form(forms: &[u32], form: u32) -> bool
+    ensures { result ≡ allows forms.now form }
+{
+    forms.is_empty() || forms.contains(&form)
+}
+
+#[tactic(auto, using(crate::proofs::Rows::rows))]
+fn allows_command(commands: &[Code], what: Code) -> bool
+    ensures { result ≡ allows (codes_of commands.now) what.0 }
+{
+    commands.is_empty() || commands.contains(&what)
+}
+
+#[cfg(test)]
+mod tests {
+    use super::*;
+    use std::test::Fail;
+
+    fn row(
+        alloc: Global,
+        name: &[u8],
+        commands: &[Code],
+        forms: &[u32],
+    ) -> Result<PropertyRow, Fail> {
+        Ok(PropertyRow {
+            name: Text::from_bytes(alloc, name)?,
+            kind: Kind::Int32,
+            commands: Items::from_vec(Vec::from_slice(alloc, commands)?),
+            forms: Items::from_vec(Vec::from_slice(alloc, forms)?),
+            usage: Text::from_bytes(alloc, b"as told")?,
+        })
+    }
+
+    #[test]
+    fn one_row_fits_by_name_form_and_command(rt: HostRuntime) -> Result<(), Fail> {
+        let alloc = rt.alloc();
+        let mut table = PropertyTable::new(alloc);
+        let count = Text::from_bytes(alloc, b"Count")?;
+        assert_eq!(rt; table.find_match(Code::GET, 0, 1, &count), None);
+        table.add_row(row(alloc, b"Count", &[Code::GET], &[1])?)?;
+        let cases: [(Code, u32, u32, Option<usize>); 6] = [
+            (Code::GET, 0, 1, Some(0)),
+            (Code::SET, 0, 1, None),
+            (Code::SET, 1, 1, Some(0)),
+            (Code::GET, 0, 2, None),
+            (Code::SET, 1, 2, None),
+            (Code::GET, u32::MAX, 1, Some(0)),
+        ];
+        for (what, index, form, place) in cases {
+            assert_eq!(rt;
+                table.find_match(what, index, form, &count),
+                place,
+                "at {index} {form}"
+            );
+        }
+        let names: [&[u8]; 4] = [b"Coun", b"Counts", b"count", b""];
+        for name in names {
+            let name = Text::from_bytes(alloc, name)?;
+            assert_eq!(rt; table.find_match(Code::GET, 0, 1, &name), None);
+        }
+        Ok(())
+    }
+
+    #[test]
+    fn the_first_row_that_fits_is_found(rt: HostRuntime) -> Result<(), Fail> {
+        let alloc = rt.alloc();
+        let mut table = PropertyTable::new(alloc);
+        let rows: [(&[u8], &[Code], &[u32]); 6] = [
+            (b"Count", &[Code::GET], &[1]),
+            (b"Count", &[Code::SET], &[1, 2]),
+            (b"Other", &[], &[]),
+            (b"Count", &[], &[2, 6]),
+            (b"Count", &[Code::GET, Code::DELETE], &[]),
+            (b"Count", &[Code::GET], &[1]),
+        ];
+        for (name, commands, forms) in rows {
+            table.add_row(row(alloc, name, commands, forms)?)?;
+        }
+        let cases: [(Code, u32, u32, Option<usize>); 12] = [
+            (Code::GET, 0, 1, Some(0)),
+            (Code::SET, 0, 1, Some(1)),
+            (Code::SET, 0, 2, Some(1)),
+            (Code::GET, 0, 2, Some(3)),
+            (Code::EXECUTE, 0, 6, Some(3)),
+            (Code::DELETE, 0, 1, Some(4)),
+            (Code::DELETE, 0, 3, Some(4)),
+            (Code::EXECUTE, 0, 1, None),
+            (Code::SET, 0, 3, None),
+            (Code::EXECUTE, 1, 1, Some(0)),
+            (Code::EXECUTE, 2, 2, Some(1)),
+            (Code::EXECUTE, 1, 3, Some(4)),
+        ];
+        let count = Text::from_bytes(alloc, b"Count")?;
+        for (what, index, form, place) in cases {
+            assert_eq!(rt;
+                table.find_match(what, index, form, &count),
+                place,
+                "at {index} {form}"
+            );
+        }
+        let other = Text::from_bytes(alloc, b"Other")?;
+        assert_eq!(rt; table.find_match(Code::EXECUTE, 0, 9, &other), Some(2));
+        Ok(())
+    }
+
+    #[test]
+    fn a_table_takes_64_rows(rt: HostRuntime) -> Result<(), Fail> {
+        let alloc = rt.alloc();
+        let mut table = PropertyTable::new(alloc);
+        for i in 0..64 {
+            table.add_row(row(alloc, &[b'a' + i / 8, b'a' + i % 8], &[], &[])?)?;
+        }
+        let extra = row(alloc, b"extra", &[], &[])?;
+        assert_eq!(rt; table.add_row(extra), Err(RowFault::RowLimit));
+        assert_eq!(rt; table.as_slice().len(), 64);
+        for i in 0..64 {
+            let name = Text::from_bytes(alloc, &[b'a' + i / 8, b'a' + i % 8])?;
+            let place = Some(usize::from(i));
+            assert_eq!(rt; table.find_match(Code::GET, 0, 1, &name), place);
+        }
+        let extra = Text::from_bytes(alloc, b"extra")?;
+        assert_eq!(rt; table.find_match(Code::GET, 0, 1, &extra), None);
+        Ok(())
+    }
+}

@@ -1,0 +1,296 @@
+use super::*;
+use ak_base::{Code, Text};
+use ak_message::{AddFault, At, AtRef, Kind, Message, Specifier, Value};
+use std::alloc::Global;
+use std::test::Fail;
+
+// What a specifier says beside its form and its property: `index`, `range`, `id` and `name`.
+type Said<'a> = (Option<i32>, Option<i32>, Option<i32>, Option<&'a str>);
+
+// Each form once, by its number.
+const FORMS: [(u32, Said<'static>); 7] = [
+    (1, (None, None, None, None)),
+    (2, (Some(105), None, None, None)),
+    (3, (Some(105), None, None, None)),
+    (4, (Some(105), Some(114), None, None)),
+    (5, (Some(105), Some(114), None, None)),
+    (6, (None, None, None, Some("n"))),
+    (7, (None, None, Some(100), None)),
+];
+
+fn text(alloc: Global, words: &[u8]) -> Result<Text, Fail> {
+    Ok(Text::from_bytes(alloc, words)?)
+}
+
+// The specifier of that form in the table.
+fn specifier(alloc: Global, form: u32) -> Result<Specifier, Fail> {
+    let at = match form {
+        1 => At::Direct,
+        2 => At::Index(105),
+        3 => At::Reverse(105),
+        4 => At::Range {
+            index: 105,
+            count: 114,
+        },
+        5 => At::ReverseRange {
+            index: 105,
+            count: 114,
+        },
+        6 => At::Name(text(alloc, b"n")?),
+        _ => At::Id(100),
+    };
+    Ok(Specifier {
+        property: text(alloc, b"p")?,
+        at,
+    })
+}
+
+fn add_index(alloc: Global, message: &mut Message, index: i32) -> Result<(), Fail> {
+    let property = text(alloc, b"p")?;
+    let at = At::Index(index);
+    Ok(add_specifier(alloc, message, Specifier { property, at })?)
+}
+
+// Adds a field that a letter stands for. Its value is the letter, as a text or as the number 105 for `i`; a capital
+// has the other kind.
+fn add_letter(alloc: Global, message: &mut Message, letter: u8) -> Result<(), Fail> {
+    let name: &[u8] = match letter {
+        b'p' | b'q' | b'P' => b"property",
+        b'i' | b'j' | b'I' => b"index",
+        b'r' | b's' | b'R' => b"range",
+        b'n' | b'm' | b'N' => b"name",
+        b'd' | b'e' | b'D' => b"id",
+        _ => b"further",
+    };
+    let value = if b"ijrsdePN".contains(&letter) {
+        Value::Int32(i32::from(letter))
+    } else {
+        Value::Text(text(alloc, &[letter])?)
+    };
+    Ok(message.add(name, value)?)
+}
+
+// Adds a specifier of that form with these fields.
+fn add_letters(
+    alloc: Global,
+    message: &mut Message,
+    form: u32,
+    letters: &[u8],
+) -> Result<(), Fail> {
+    let mut specifier = Message::new(alloc, Code(form));
+    for letter in letters {
+        add_letter(alloc, &mut specifier, *letter)?;
+    }
+    Ok(message.add(b"specifiers", Value::from_message(alloc, specifier)?)?)
+}
+
+fn number_at(message: &Message, name: &[u8]) -> Option<i32> {
+    match message.find(name, Kind::Int32, 0) {
+        Ok(Value::Int32(number)) => Some(*number),
+        _ => None,
+    }
+}
+
+fn words_at<'a>(message: &'a Message, name: &[u8]) -> Option<&'a str> {
+    match message.find(name, Kind::Text, 0) {
+        Ok(Value::Text(text)) => Some(text.as_str()),
+        _ => None,
+    }
+}
+
+fn said(at: AtRef<'_>) -> (u32, Said<'_>) {
+    match at {
+        AtRef::Direct => (1, (None, None, None, None)),
+        AtRef::Index(index) => (2, (Some(index), None, None, None)),
+        AtRef::Reverse(index) => (3, (Some(index), None, None, None)),
+        AtRef::Range { index, count } => (4, (Some(index), Some(count), None, None)),
+        AtRef::ReverseRange { index, count } => (5, (Some(index), Some(count), None, None)),
+        AtRef::Name(name) => (6, (None, None, None, Some(name.as_str()))),
+        AtRef::Id(id) => (7, (None, None, Some(id), None)),
+    }
+}
+
+// Its property, and what it says.
+fn read(message: &Message) -> Result<(&str, (u32, Said<'_>)), BadScript> {
+    let specifier = current(message)?;
+    Ok((specifier.property.as_str(), said(specifier.at)))
+}
+
+fn index(message: &Message) -> Option<i32> {
+    match current(message).ok()?.at {
+        AtRef::Index(index) => Some(index),
+        _ => None,
+    }
+}
+
+#[test]
+fn forms_are_read_back(rt: HostRuntime) -> Result<(), Fail> {
+    for row in FORMS {
+        let mut message = Message::new(rt.alloc(), Code(1));
+        add_specifier(rt.alloc(), &mut message, specifier(rt.alloc(), row.0)?)?;
+        assert_eq!(rt; left(&message), 1);
+        assert_eq!(rt; read(&message), Ok(("p", row)));
+    }
+    Ok(())
+}
+
+#[test]
+fn forms_are_written(rt: HostRuntime) -> Result<(), Fail> {
+    for (form, said) in FORMS {
+        let mut message = Message::new(rt.alloc(), Code(1));
+        add_specifier(rt.alloc(), &mut message, specifier(rt.alloc(), form)?)?;
+        match message.find(b"specifiers", Kind::Message, 0)? {
+            Value::Message(written) => {
+                let numbers = (
+                    number_at(written, b"index"),
+                    number_at(written, b"range"),
+                    number_at(written, b"id"),
+                    words_at(written, b"name"),
+                );
+                assert_eq!(rt; written.what(), Code(form));
+                assert_eq!(rt; words_at(written, b"property"), Some("p"));
+                assert_eq!(rt; numbers, said);
+            }
+            _ => assert!(rt; false),
+        }
+    }
+    Ok(())
+}
+
+#[test]
+fn first_values_count_and_other_fields_do_not(rt: HostRuntime) -> Result<(), Fail> {
+    for row in FORMS {
+        let mut message = Message::new(rt.alloc(), Code(1));
+        add_letters(rt.alloc(), &mut message, row.0, b"xpqijrsnmdey")?;
+        assert_eq!(rt; read(&message), Ok(("p", row)));
+    }
+    Ok(())
+}
+
+#[test]
+fn badly_formed_specifiers_are_refused(rt: HostRuntime) -> Result<(), Fail> {
+    let rows: [(u32, &[u8]); 24] = [
+        (1, b""),
+        (1, b"Pirnd"),
+        (2, b"p"),
+        (2, b"i"),
+        (2, b"pI"),
+        (2, b"prnd"),
+        (3, b"p"),
+        (3, b"pI"),
+        (4, b"pi"),
+        (4, b"pr"),
+        (4, b"piR"),
+        (4, b"pIr"),
+        (5, b"pi"),
+        (5, b"pr"),
+        (5, b"piR"),
+        (6, b"p"),
+        (6, b"n"),
+        (6, b"pN"),
+        (7, b"p"),
+        (7, b"pi"),
+        (7, b"pD"),
+        (0, b"pirnd"),
+        (8, b"pirnd"),
+        (0x8000_0001, b"pirnd"),
+    ];
+    for (form, letters) in rows {
+        let mut message = Message::new(rt.alloc(), Code(1));
+        add_index(rt.alloc(), &mut message, 3)?;
+        add_letters(rt.alloc(), &mut message, form, letters)?;
+        assert_eq!(rt; left(&message), 2);
+        assert_eq!(rt; read(&message), Err(BadScript), "form {form}");
+        // It is popped as any other.
+        assert_eq!(rt; pop(&mut message), Ok(()));
+        assert_eq!(rt; index(&message), Some(3));
+    }
+    Ok(())
+}
+
+#[test]
+fn the_last_one_is_current(rt: HostRuntime) -> Result<(), Fail> {
+    let alloc = rt.alloc();
+    let mut message = Message::new(alloc, Code(1));
+    assert_eq!(rt; left(&message), 0);
+    assert_eq!(rt; read(&message), Err(BadScript));
+    assert_eq!(rt; pop(&mut message), Err(BadScript));
+    for n in 0..3 {
+        add_index(alloc, &mut message, n)?;
+    }
+    for (more, n) in [(3, 2), (2, 1), (1, 0)] {
+        assert_eq!(rt; left(&message), more);
+        assert_eq!(rt; index(&message), Some(n));
+        assert_eq!(rt; pop(&mut message), Ok(()));
+    }
+    assert_eq!(rt; left(&message), 0);
+    assert_eq!(rt; read(&message), Err(BadScript));
+    assert_eq!(rt; pop(&mut message), Err(BadScript));
+    assert_eq!(rt; message.popped(), 3);
+    add_index(alloc, &mut message, 7)?;
+    assert_eq!(rt; message.popped(), 0);
+    assert_eq!(rt; left(&message), 4);
+    assert_eq!(rt; index(&message), Some(7));
+    Ok(())
+}
+
+#[test]
+fn another_kind_is_refused(rt: HostRuntime) -> Result<(), Fail> {
+    let alloc = rt.alloc();
+    let mut message = Message::new(alloc, Code(1));
+    message.add(b"specifiers", Value::Int32(5))?;
+    assert_eq!(rt; left(&message), 0);
+    assert_eq!(rt; read(&message), Err(BadScript));
+    assert_eq!(rt; pop(&mut message), Err(BadScript));
+    let more = specifier(alloc, 1)?;
+    assert_eq!(rt;
+        add_specifier(alloc, &mut message, more),
+        Err(AddFault::BadType)
+    );
+    assert_eq!(rt; message.count_names(), 1);
+    assert_eq!(rt; number_at(&message, b"specifiers"), Some(5));
+    Ok(())
+}
+
+#[test]
+fn specifiers_are_limited(rt: HostRuntime) -> Result<(), Fail> {
+    let alloc = rt.alloc();
+    let mut message = Message::new(alloc, Code(1));
+    for n in 0..255 {
+        add_index(alloc, &mut message, n)?;
+    }
+    assert_eq!(rt; pop(&mut message), Ok(()));
+    let more = specifier(alloc, 1)?;
+    assert_eq!(rt;
+        add_specifier(alloc, &mut message, more),
+        Err(AddFault::FieldLimit)
+    );
+    assert_eq!(rt; message.popped(), 1);
+    assert_eq!(rt; left(&message), 254);
+    assert_eq!(rt; index(&message), Some(253));
+    Ok(())
+}
+
+#[test]
+fn fields_are_limited(rt: HostRuntime) -> Result<(), Fail> {
+    let alloc = rt.alloc();
+    let mut message = Message::new(alloc, Code(1));
+    for letter in b"0123456789ABCDEFGHIJKLMNOPQRSTUVWXYZabcdefghijklmnopqrstuvwxyz_" {
+        message.add(&[*letter], Value::Int32(1))?;
+    }
+    let mut full = message.try_clone()?;
+    full.add(b"more", Value::Int32(1))?;
+    let more = specifier(alloc, 1)?;
+    assert_eq!(rt;
+        add_specifier(alloc, &mut full, more),
+        Err(AddFault::FieldLimit)
+    );
+    assert_eq!(rt; full.count_names(), 64);
+    assert_eq!(rt; left(&full), 0);
+    // The field `specifiers` is the 64th, and then has room for more.
+    add_index(alloc, &mut message, 0)?;
+    add_index(alloc, &mut message, 1)?;
+    assert_eq!(rt; message.count_names(), 64);
+    assert_eq!(rt; left(&message), 2);
+    Ok(())
+}

@@ -1,0 +1,5 @@
+pub mod Access
+pub mod Choice
+pub mod Elements
+pub mod Laws
+pub mod Seen

@@ -1,0 +1,115 @@
+ghost use Rattle.std.specs.Prelude.{◌≡◌, ◌≤◌, length, Err, All, IfOk, IfSome, IfNone, IsOk, OnOk, OnErr, option_map};
+ghost use Rattle.ak_message.specs.Message.{kind_of};
+ghost use Rattle.ak_message.specs.Seen.{value_of};
+ghost use Rattle.ak_value.specs.Elements.{described, first_value, set_first_fault, with_first};
+ghost use Rattle.ak_value.specs.Seen.{pairs_of};
+
+use crate::fault::ElementFault;
+use ak_base::{NoMemory, Text};
+use ak_message::{Kind, Value};
+use std::alloc::Global;
+use std::marker::Model;
+
+/// How many elements a property may have.
+pub const ELEMENT_LIMIT: usize = 64;
+
+/// Where no element is created any more: every id is below.
+pub const LAST_ID: u32 = 2_147_483_647;
+
+/// A value with its name, which is empty where it has none, and its id.
+#[derive(Drop)]
+pub(crate) struct Element {
+    pub(crate) name: Text,
+    pub(crate) id: u32,
+    pub(crate) value: Value,
+}
+
+/// The elements of a property, all of one kind, in the order in which they were created. Each has an id,
+/// from 1 up, that no other one had before it.
+#[derive(Drop)]
+pub struct Elements {
+    pub(crate) kind: Kind,
+    pub(crate) list: Vec<Element>,
+    pub(crate) next_id: u32,
+}
+
+impl Model for Elements {
+    ghost use Rattle.ak_value.specs.Elements.{ElementsData, coded_elements};
+    ghost use Rattle.ak_value.specs.Seen.{elements_inside, IsSound};
+
+    ghost Value = { ElementsData };
+
+    ghost coded = { coded_elements };
+
+    ghost view = { elements_inside };
+
+    ghost invariant = { IsSound };
+}
+
+impl Elements {
+    /// The elements of these names and values, with the ids 1, 2 and so on. An element without a name has
+    /// the empty one.
+    pub fn new(alloc: Global, kind: Kind, list: Vec<(Text, Value)>) -> Result<Elements, NoMemory>
+        requires limit { length list.items ≤ 64 }
+        requires same_kind { All (λ x. kind_of (value_of x.1) ≡ kind) list.items }
+        ensures { IfOk result (λ e. e ≡ described kind (pairs_of list.items)) }
+    {
+        let mut elements = Vec::with_capacity(alloc, list.len())?;
+        let mut next_id = 1;
+        for (name, value) in list {
+            elements.push(Element {
+                name,
+                id: next_id,
+                value,
+            })?;
+            next_id += 1;
+        }
+        Ok(Elements {
+            kind,
+            list: elements,
+            next_id,
+        })
+    }
+
+    /// The kind of its values. Takes no memory.
+    pub fn kind(&self) -> Kind
+        ensures { result ≡ self.now.kind }
+    {
+        self.kind
+    }
+
+    /// How many there are. Takes no memory.
+    pub fn len(&self) -> u32
+        ensures value { result ≡ length self.now.list }
+        ensures limit { length self.now.list ≤ 64 }
+    {
+        self.list.len() as u32
+    }
+
+    /// The value of the first element. `None` where there is none. Takes no memory.
+    pub fn first(&self) -> Option<&Value>
+        ensures { option_map (λ v. value_of v.now) result ≡ first_value self.now.list }
+    {
+        let element = self.list.first()?;
+        Some(&element.value)
+    }
+
+    /// Gives the first element another value. `BadType` where it is of another kind, and then `BadIndex`
+    /// where there is no element; no other fault comes. An `Err` changes nothing, and the value is dropped.
+    /// Takes no memory.
+    pub fn set_first(&mut self, value: Value) -> Result<(), ElementFault>
+        ensures refused { IfSome (set_first_fault self.old (kind_of (value_of value))) (λ f. result ≡ Err f) }
+        ensures only { IfNone (set_first_fault self.old (kind_of (value_of value))) (IsOk result) }
+        ensures ok { OnOk result (self.new ≡ with_first self.old (value_of value)) }
+        ensures err { OnErr result (self.new ≡ self.old) }
+    {
+        if value.kind() != self.kind {
+            return Err(ElementFault::BadType);
+        }
+        let Some(element) = self.list.first_mut() else {
+            return Err(ElementFault::BadIndex);
+        };
+        element.value = value;
+        Ok(())
+    }
+}

@@ -1,0 +1,42 @@
+use ak_base::NoMemory;
+use std::alloc::AllocFailed;
+
+/// Why a command on elements was refused. They are tested in this order.
+#[derive(Clone, Copy, Debug, PartialEq, Eq)]
+pub enum ElementFault {
+    /// The command is none on elements, or does not take that form.
+    BadScript,
+    /// The message has no field `data`.
+    BadValue,
+    /// The value has another kind than the elements.
+    BadType,
+    /// No element has that name.
+    NameNotFound,
+    /// There are no such elements.
+    BadIndex,
+    /// There are 64 elements, or no id is left.
+    ElementLimit,
+    NoMemory,
+}
+
+impl From<NoMemory> for ElementFault {
+    ghost use Rattle.std.specs.Prelude.{◌≡◌};
+    ghost use Rattle.ak_value.specs.declared.fault.ElementFault.TheVariants as fault;
+
+    ghost from_gives = { λ _ e. e ≡ fault.NoMemory };
+
+    fn from(_error: NoMemory) -> ElementFault {
+        ElementFault::NoMemory
+    }
+}
+
+impl<T: Drop> From<AllocFailed<T>> for ElementFault {
+    ghost use Rattle.std.specs.Prelude.{◌≡◌};
+    ghost use Rattle.ak_value.specs.declared.fault.ElementFault.TheVariants as fault;
+
+    ghost from_gives = { λ _ e. e ≡ fault.NoMemory };
+
+    fn from(_error: AllocFailed<T>) -> ElementFault {
+        ElementFault::NoMemory
+    }
+}
