@@ -13,7 +13,7 @@ ReadAsShown = (m : MessageData) (s : Specifier) → (specifier_in m ≡ Some s) 
 abbrev pub WrittenIsRead : Type 0
 WrittenIsRead = (s : Specifier) → Shows (specifier_message s) s × (specifier_in (specifier_message s) ≡ Some s)
 
--- an added specifier is the current one, and one more than all are left
+-- where nothing speaks against it, an added specifier is the current one
 abbrev pub AddedIsCurrent : Type 0
 AddedIsCurrent = (m : MessageData) (s : Specifier) → specifier_fault m ≡ None → current_of (with_specifier m s) ≡ Some s
 

@@ -1,5 +1,9 @@
 use crate::elements::{ELEMENT_LIMIT, Element, Elements, LAST_ID};
 use crate::fault::ElementFault;
+use Answer::{Fault, Nothing, Numbers};
+use Data::{Bare, Number, Words};
+use ElementFault::{BadIndex, BadScript, BadType, BadValue, ElementLimit, NameNotFound};
+use Form::{Direct, Id, Index, Name, Range, Reverse, ReverseRange};
 use ak_base::{Code, Items, Text};
 use ak_message::{AtRef, Kind, Message, Value};
 use std::alloc::Global;
@@ -20,9 +24,9 @@ enum Form {
 // What a message brings as `data`.
 #[derive(Clone, Copy, Debug)]
 enum Data {
-    None,
+    Bare,
     Number(i32),
-    Text,
+    Words,
 }
 
 // What is answered.
@@ -36,9 +40,9 @@ enum Answer {
 fn message(alloc: Global, data: Data) -> Result<Message, Fail> {
     let mut message = Message::new(alloc, Code(1));
     match data {
-        Data::None => {}
-        Data::Number(n) => message.add(b"data", Value::Int32(n))?,
-        Data::Text => message.add(b"data", Value::Text(Text::from_bytes(alloc, b"x")?))?,
+        Bare => {}
+        Number(n) => message.add(b"data", Value::Int32(n))?,
+        Words => message.add(b"data", Value::Text(Text::from_bytes(alloc, b"x")?))?,
     }
     Ok(message)
 }
@@ -53,9 +57,9 @@ fn are_numbers(values: &[Value], numbers: &[i32]) -> bool {
 
 fn is_answer(given: &Result<Option<Items<Value>>, ElementFault>, answer: Answer) -> bool {
     match (given, answer) {
-        (Ok(Some(values)), Answer::Numbers(numbers)) => are_numbers(values.as_slice(), numbers),
-        (Ok(None), Answer::Nothing) => true,
-        (Err(fault), Answer::Fault(expected)) => *fault == expected,
+        (Ok(Some(values)), Numbers(numbers)) => are_numbers(values.as_slice(), numbers),
+        (Ok(None), Nothing) => true,
+        (Err(fault), Fault(expected)) => *fault == expected,
         _ => false,
     }
 }
@@ -70,18 +74,18 @@ fn answers(
     answer: Answer,
 ) -> Result<bool, Fail> {
     let text = match form {
-        Form::Name(name) => name,
+        Name(name) => name,
         _ => "",
     };
     let name = Text::from_bytes(alloc, text.as_bytes())?;
     let at = match form {
-        Form::Direct => AtRef::Direct,
-        Form::Index(index) => AtRef::Index(index),
-        Form::Reverse(index) => AtRef::Reverse(index),
-        Form::Range(index, count) => AtRef::Range { index, count },
-        Form::ReverseRange(index, count) => AtRef::ReverseRange { index, count },
-        Form::Name(_) => AtRef::Name(&name),
-        Form::Id(id) => AtRef::Id(id),
+        Direct => AtRef::Direct,
+        Index(index) => AtRef::Index(index),
+        Reverse(index) => AtRef::Reverse(index),
+        Range(index, count) => AtRef::Range { index, count },
+        ReverseRange(index, count) => AtRef::ReverseRange { index, count },
+        Name(_) => AtRef::Name(&name),
+        Id(id) => AtRef::Id(id),
     };
     Ok(is_answer(&elements.access(what, at, message), answer))
 }
@@ -95,7 +99,7 @@ fn three(alloc: Global) -> Result<Elements, Fail> {
     Ok(Elements::new(alloc, Kind::Int32, list)?)
 }
 
-fn none(alloc: Global) -> Result<Elements, Fail> {
+fn none_yet(alloc: Global) -> Result<Elements, Fail> {
     Ok(Elements::new(alloc, Kind::Int32, Vec::new(alloc))?)
 }
 
@@ -115,120 +119,101 @@ fn are(elements: &Elements, rows: &[(&'static str, u32, i32)]) -> bool {
             .all(|(element, row)| is_element(element, *row))
 }
 
+// A command, its form, what its message brings, and what is answered.
+type Row = (Code, Form, Data, Answer);
+
+// The first row that is not answered so, where the commands are given in this order.
+fn first_wrong(
+    alloc: Global,
+    elements: &mut Elements,
+    rows: &[Row],
+) -> Result<Option<usize>, Fail> {
+    for (place, (what, form, data, answer)) in rows.iter().enumerate() {
+        let message = message(alloc, *data)?;
+        if !answers(alloc, elements, *what, *form, &message, *answer)? {
+            return Ok(Some(place));
+        }
+    }
+    Ok(None)
+}
+
+// The same of forms that get numbers, or are refused.
+fn first_wrong_form(
+    alloc: Global,
+    elements: &mut Elements,
+    rows: &[(Form, Answer)],
+) -> Result<Option<usize>, Fail> {
+    let message = message(alloc, Bare)?;
+    for (place, (form, answer)) in rows.iter().enumerate() {
+        if !answers(alloc, elements, Code::GET, *form, &message, *answer)? {
+            return Ok(Some(place));
+        }
+    }
+    Ok(None)
+}
+
 #[test]
 fn commands_in_order(rt: HostRuntime) -> Result<(), Fail> {
-    let alloc = rt.alloc();
-    let mut elements = three(alloc)?;
-    for (what, form, data, answer) in [
-        (
-            Code::GET,
-            Form::Reverse(1),
-            Data::None,
-            Answer::Numbers(&[30]),
-        ),
-        (
-            Code::GET,
-            Form::Range(1, 2),
-            Data::None,
-            Answer::Numbers(&[20, 30]),
-        ),
-        (
-            Code::GET,
-            Form::ReverseRange(3, 2),
-            Data::None,
-            Answer::Numbers(&[10, 20]),
-        ),
-        (
-            Code::GET,
-            Form::ReverseRange(2, 3),
-            Data::None,
-            Answer::Fault(ElementFault::BadIndex),
-        ),
-        (
-            Code::GET,
-            Form::Name("x"),
-            Data::None,
-            Answer::Fault(ElementFault::NameNotFound),
-        ),
-        (
-            Code::DELETE,
-            Form::Direct,
-            Data::None,
-            Answer::Fault(ElementFault::BadScript),
-        ),
-        (Code::DELETE, Form::Id(2), Data::None, Answer::Nothing),
-        (
-            Code::CREATE,
-            Form::Name("d"),
-            Data::Number(40),
-            Answer::Numbers(&[4]),
-        ),
-        (
-            Code::SET,
-            Form::Direct,
-            Data::Text,
-            Answer::Fault(ElementFault::BadType),
-        ),
-    ] {
-        let message = message(alloc, data)?;
-        assert!(rt;
-            answers(alloc, &mut elements, what, form, &message, answer)?,
-            "at {what:?} {form:?}"
-        );
-    }
+    let mut elements = three(rt.alloc())?;
+    let rows = [
+        (Code::GET, Reverse(1), Bare, Numbers(&[30])),
+        (Code::GET, Range(1, 2), Bare, Numbers(&[20, 30])),
+        (Code::GET, ReverseRange(3, 2), Bare, Numbers(&[10, 20])),
+        (Code::GET, ReverseRange(2, 3), Bare, Fault(BadIndex)),
+        (Code::GET, Name("x"), Bare, Fault(NameNotFound)),
+        (Code::DELETE, Direct, Bare, Fault(BadScript)),
+        (Code::DELETE, Id(2), Bare, Nothing),
+        (Code::CREATE, Name("d"), Number(40), Numbers(&[4])),
+        (Code::SET, Direct, Words, Fault(BadType)),
+    ];
+    assert_eq!(rt; first_wrong(rt.alloc(), &mut elements, &rows)?, None);
     assert!(rt; are(&elements, &[("", 1, 10), ("", 3, 30), ("d", 4, 40)]));
     Ok(())
 }
 
 #[test]
 fn forms_choose(rt: HostRuntime) -> Result<(), Fail> {
-    let alloc = rt.alloc();
-    let mut elements = three(alloc)?;
-    let message = message(alloc, Data::None)?;
-    for (form, numbers) in [
-        (Form::Direct, &[10]),
-        (Form::Index(0), &[10]),
-        (Form::Index(2), &[30]),
-        (Form::Reverse(3), &[10]),
-        (Form::Name("b"), &[20]),
-        (Form::Name(""), &[10]),
-        (Form::Id(3), &[30]),
-    ] {
-        assert!(rt;
-            answers(
-                alloc,
-                &mut elements,
-                Code::GET,
-                form,
-                &message,
-                Answer::Numbers(numbers)
-            )?,
-            "at {form:?}"
-        );
-    }
-    for form in [Form::Range(0, 3), Form::ReverseRange(3, 3)] {
-        assert!(rt;
-            answers(
-                alloc,
-                &mut elements,
-                Code::GET,
-                form,
-                &message,
-                Answer::Numbers(&[10, 20, 30])
-            )?,
-            "at {form:?}"
-        );
-    }
-    assert!(rt;
-        answers(
-            alloc,
-            &mut elements,
-            Code::COUNT,
-            Form::Direct,
-            &message,
-            Answer::Numbers(&[3])
-        )?
-    );
+    let mut elements = three(rt.alloc())?;
+    let rows = [
+        (Direct, Numbers(&[10])),
+        (Index(0), Numbers(&[10])),
+        (Index(2), Numbers(&[30])),
+        (Reverse(3), Numbers(&[10])),
+        (Range(0, 3), Numbers(&[10, 20, 30])),
+        (ReverseRange(3, 3), Numbers(&[10, 20, 30])),
+        (Name("b"), Numbers(&[20])),
+        (Name(""), Numbers(&[10])),
+        (Id(3), Numbers(&[30])),
+    ];
+    assert_eq!(rt; first_wrong_form(rt.alloc(), &mut elements, &rows)?, None);
+    Ok(())
+}
+
+#[test]
+fn choices_that_are_not_there(rt: HostRuntime) -> Result<(), Fail> {
+    let mut elements = three(rt.alloc())?;
+    let answer = Fault(BadIndex);
+    let rows = [
+        (Index(-1), answer),
+        (Index(3), answer),
+        (Reverse(0), answer),
+        (Reverse(-1), answer),
+        (Reverse(4), answer),
+        (Range(0, 0), answer),
+        (Range(1, -1), answer),
+        (Range(-1, 1), answer),
+        (Range(1, 3), answer),
+        (Range(2, 2147483647), answer),
+        (ReverseRange(2, 0), answer),
+        (ReverseRange(2, -1), answer),
+        (ReverseRange(2, 3), answer),
+        (ReverseRange(4, 1), answer),
+        (ReverseRange(0, 1), answer),
+        (Id(-1), answer),
+        (Id(0), answer),
+        (Id(4), answer),
+    ];
+    assert_eq!(rt; first_wrong_form(rt.alloc(), &mut elements, &rows)?, None);
     Ok(())
 }
 
@@ -237,110 +222,29 @@ fn forms_choose(rt: HostRuntime) -> Result<(), Fail> {
 fn refusals_change_nothing(rt: HostRuntime) -> Result<(), Fail> {
     let alloc = rt.alloc();
     let mut elements = three(alloc)?;
-    for (what, form, data, fault) in [
-        (
-            Code::DELETE,
-            Form::Direct,
-            Data::None,
-            ElementFault::BadScript,
-        ),
-        (
-            Code::COUNT,
-            Form::Index(0),
-            Data::None,
-            ElementFault::BadScript,
-        ),
-        (
-            Code::COUNT,
-            Form::Name("b"),
-            Data::None,
-            ElementFault::BadScript,
-        ),
-        (
-            Code::CREATE,
-            Form::Index(0),
-            Data::None,
-            ElementFault::BadScript,
-        ),
-        (
-            Code::CREATE,
-            Form::Id(1),
-            Data::Number(5),
-            ElementFault::BadScript,
-        ),
-        (
-            Code::EXECUTE,
-            Form::Direct,
-            Data::Number(5),
-            ElementFault::BadScript,
-        ),
-        (
-            Code(0),
-            Form::Index(0),
-            Data::Number(5),
-            ElementFault::BadScript,
-        ),
-        (Code::SET, Form::Direct, Data::None, ElementFault::BadValue),
-        (
-            Code::SET,
-            Form::Name("x"),
-            Data::None,
-            ElementFault::BadValue,
-        ),
-        (
-            Code::SET,
-            Form::Name("x"),
-            Data::Text,
-            ElementFault::BadType,
-        ),
-        (
-            Code::SET,
-            Form::Name("x"),
-            Data::Number(5),
-            ElementFault::NameNotFound,
-        ),
-        (
-            Code::SET,
-            Form::Index(3),
-            Data::Number(5),
-            ElementFault::BadIndex,
-        ),
-        (
-            Code::CREATE,
-            Form::Direct,
-            Data::None,
-            ElementFault::BadValue,
-        ),
-        (
-            Code::CREATE,
-            Form::Name("d"),
-            Data::Text,
-            ElementFault::BadType,
-        ),
-        (
-            Code::DELETE,
-            Form::Name("x"),
-            Data::None,
-            ElementFault::NameNotFound,
-        ),
-        (
-            Code::DELETE,
-            Form::Range(1, 3),
-            Data::None,
-            ElementFault::BadIndex,
-        ),
-    ] {
-        let message = message(alloc, data)?;
-        assert!(rt;
-            answers(
-                alloc,
-                &mut elements,
-                what,
-                form,
-                &message,
-                Answer::Fault(fault)
-            )?,
-            "at {what:?} {form:?}"
+    let rows = [
+        (Code::DELETE, Direct, Bare, Fault(BadScript)),
+        (Code::COUNT, Index(0), Bare, Fault(BadScript)),
+        (Code::COUNT, Name("b"), Bare, Fault(BadScript)),
+        (Code::CREATE, Index(0), Bare, Fault(BadScript)),
+        (Code::CREATE, Id(1), Number(5), Fault(BadScript)),
+        (Code::EXECUTE, Direct, Number(5), Fault(BadScript)),
+        (Code::SUITES, Index(0), Number(5), Fault(BadScript)),
+        (Code::SET, Direct, Bare, Fault(BadValue)),
+        (Code::SET, Name("x"), Bare, Fault(BadValue)),
+        (Code::SET, Name("x"), Words, Fault(BadType)),
+        (Code::SET, Name("x"), Number(5), Fault(NameNotFound)),
+        (Code::SET, Index(3), Number(5), Fault(BadIndex)),
+        (Code::CREATE, Direct, Bare, Fault(BadValue)),
+        (Code::CREATE, Name("d"), Words, Fault(BadType)),
+        (Code::DELETE, Name("x"), Bare, Fault(NameNotFound)),
+        (Code::DELETE, Range(1, 3), Bare, Fault(BadIndex)),
+    ];
+    for row in rows {
+        assert_eq!(rt;
+            first_wrong(alloc, &mut elements, &[row])?,
+            None,
+            "at {row:?}"
         );
         assert!(rt; are(&elements, &[("", 1, 10), ("b", 2, 20), ("", 3, 30)]));
         assert_eq!(rt; elements.next_id, 4);
@@ -349,78 +253,18 @@ fn refusals_change_nothing(rt: HostRuntime) -> Result<(), Fail> {
 }
 
 #[test]
-fn choices_that_are_not_there(rt: HostRuntime) -> Result<(), Fail> {
-    let alloc = rt.alloc();
-    let mut elements = three(alloc)?;
-    let message = message(alloc, Data::None)?;
-    for form in [
-        Form::Index(-1),
-        Form::Index(3),
-        Form::Reverse(0),
-        Form::Reverse(-1),
-        Form::Reverse(4),
-        Form::Range(0, 0),
-        Form::Range(1, -1),
-        Form::Range(-1, 1),
-        Form::Range(1, 3),
-        Form::Range(2, 2147483647),
-        Form::ReverseRange(2, 0),
-        Form::ReverseRange(2, -1),
-        Form::ReverseRange(2, 3),
-        Form::ReverseRange(4, 1),
-        Form::ReverseRange(0, 1),
-        Form::Id(-1),
-        Form::Id(0),
-        Form::Id(4),
-    ] {
-        assert!(rt;
-            answers(
-                alloc,
-                &mut elements,
-                Code::GET,
-                form,
-                &message,
-                Answer::Fault(ElementFault::BadIndex)
-            )?,
-            "at {form:?}"
-        );
-    }
-    Ok(())
-}
-
-#[test]
 fn no_elements(rt: HostRuntime) -> Result<(), Fail> {
-    let alloc = rt.alloc();
-    let mut elements = none(alloc)?;
-    let message = message(alloc, Data::None)?;
-    for (what, form, answer) in [
-        (
-            Code::GET,
-            Form::Direct,
-            Answer::Fault(ElementFault::BadIndex),
-        ),
-        (
-            Code::GET,
-            Form::Name(""),
-            Answer::Fault(ElementFault::NameNotFound),
-        ),
-        (Code::COUNT, Form::Direct, Answer::Numbers(&[0])),
-    ] {
-        assert!(rt;
-            answers(alloc, &mut elements, what, form, &message, answer)?,
-            "at {what:?} {form:?}"
-        );
-    }
+    let mut elements = none_yet(rt.alloc())?;
+    let rows = [
+        (Code::GET, Direct, Bare, Fault(BadIndex)),
+        (Code::GET, Name(""), Bare, Fault(NameNotFound)),
+        (Code::COUNT, Direct, Bare, Numbers(&[0])),
+    ];
+    assert_eq!(rt; first_wrong(rt.alloc(), &mut elements, &rows)?, None);
     assert_eq!(rt; elements.len(), 0);
     assert!(rt; elements.first().is_none());
-    assert_eq!(rt;
-        elements.set_first(Value::Bool(true)),
-        Err(ElementFault::BadType)
-    );
-    assert_eq!(rt;
-        elements.set_first(Value::Int32(1)),
-        Err(ElementFault::BadIndex)
-    );
+    assert_eq!(rt; elements.set_first(Value::Bool(true)), Err(BadType));
+    assert_eq!(rt; elements.set_first(Value::Int32(1)), Err(BadIndex));
     Ok(())
 }
 
@@ -429,10 +273,7 @@ fn the_first_value(rt: HostRuntime) -> Result<(), Fail> {
     let mut elements = three(rt.alloc())?;
     assert!(rt; elements.kind() == Kind::Int32);
     assert_eq!(rt; elements.len(), 3);
-    assert_eq!(rt;
-        elements.set_first(Value::Int8(1)),
-        Err(ElementFault::BadType)
-    );
+    assert_eq!(rt; elements.set_first(Value::Int8(1)), Err(BadType));
     assert!(rt; matches!(elements.first(), Some(Value::Int32(10))));
     elements.set_first(Value::Int32(11))?;
     assert!(rt; matches!(elements.first(), Some(Value::Int32(11))));
@@ -442,67 +283,43 @@ fn the_first_value(rt: HostRuntime) -> Result<(), Fail> {
 
 #[test]
 fn all_chosen_are_set(rt: HostRuntime) -> Result<(), Fail> {
-    let alloc = rt.alloc();
-    let mut elements = three(alloc)?;
-    for (form, number) in [(Form::Range(1, 2), 5), (Form::Direct, 6)] {
-        let message = message(alloc, Data::Number(number))?;
-        assert!(rt;
-            answers(
-                alloc,
-                &mut elements,
-                Code::SET,
-                form,
-                &message,
-                Answer::Nothing
-            )?
-        );
-    }
+    let mut elements = three(rt.alloc())?;
+    let rows = [
+        (Code::COUNT, Direct, Bare, Numbers(&[3])),
+        (Code::SET, Range(1, 2), Number(5), Nothing),
+        (Code::SET, Direct, Number(6), Nothing),
+    ];
+    assert_eq!(rt; first_wrong(rt.alloc(), &mut elements, &rows)?, None);
     assert!(rt; are(&elements, &[("", 1, 6), ("b", 2, 5), ("", 3, 5)]));
     Ok(())
 }
 
 #[test]
 fn ids_are_not_used_again(rt: HostRuntime) -> Result<(), Fail> {
-    let alloc = rt.alloc();
-    let mut elements = three(alloc)?;
-    for (what, form, answer) in [
-        (Code::DELETE, Form::Id(3), Answer::Nothing),
-        (Code::CREATE, Form::Direct, Answer::Numbers(&[4])),
-        (Code::DELETE, Form::Id(4), Answer::Nothing),
-        (Code::DELETE, Form::ReverseRange(2, 2), Answer::Nothing),
-        (Code::CREATE, Form::Name("e"), Answer::Numbers(&[5])),
-        (
-            Code::DELETE,
-            Form::Id(4),
-            Answer::Fault(ElementFault::BadIndex),
-        ),
-    ] {
-        let message = message(alloc, Data::Number(7))?;
-        assert!(rt;
-            answers(alloc, &mut elements, what, form, &message, answer)?,
-            "at {what:?} {form:?}"
-        );
-    }
-    assert!(rt; are(&elements, &[("e", 5, 7)]));
+    let mut elements = three(rt.alloc())?;
+    let rows = [
+        (Code::DELETE, Id(3), Bare, Nothing),
+        (Code::CREATE, Direct, Number(7), Numbers(&[4])),
+        (Code::DELETE, Id(4), Bare, Nothing),
+        (Code::DELETE, ReverseRange(2, 2), Bare, Nothing),
+        (Code::CREATE, Name("e"), Number(8), Numbers(&[5])),
+        (Code::DELETE, Id(4), Bare, Fault(BadIndex)),
+    ];
+    assert_eq!(rt; first_wrong(rt.alloc(), &mut elements, &rows)?, None);
+    assert!(rt; are(&elements, &[("e", 5, 8)]));
     Ok(())
 }
 
 #[test]
 fn names_of_new_elements(rt: HostRuntime) -> Result<(), Fail> {
     let alloc = rt.alloc();
-    let mut elements = none(alloc)?;
-    let mut message = message(alloc, Data::Number(7))?;
-    for (form, answer) in [
-        (Form::Direct, Answer::Numbers(&[1])),
-        (Form::Name("c"), Answer::Numbers(&[2])),
-    ] {
+    let mut elements = none_yet(alloc)?;
+    let mut message = message(alloc, Number(7))?;
+    for (form, answer) in [(Direct, Numbers(&[1])), (Name("c"), Numbers(&[2]))] {
         assert!(rt; answers(alloc, &mut elements, Code::CREATE, form, &message, answer)?);
     }
     message.add(b"name", Value::Text(Text::from_bytes(alloc, b"n")?))?;
-    for (form, answer) in [
-        (Form::Direct, Answer::Numbers(&[3])),
-        (Form::Name("d"), Answer::Numbers(&[4])),
-    ] {
+    for (form, answer) in [(Direct, Numbers(&[3])), (Name("d"), Numbers(&[4]))] {
         assert!(rt; answers(alloc, &mut elements, Code::CREATE, form, &message, answer)?);
     }
     assert!(rt;
@@ -517,8 +334,8 @@ fn names_of_new_elements(rt: HostRuntime) -> Result<(), Fail> {
 #[test]
 fn elements_are_limited(rt: HostRuntime) -> Result<(), Fail> {
     let alloc = rt.alloc();
-    let mut elements = none(alloc)?;
-    let number = message(alloc, Data::Number(7))?;
+    let mut elements = none_yet(alloc)?;
+    let number = message(alloc, Number(7))?;
     for _ in 0..ELEMENT_LIMIT {
         assert!(rt;
             elements
@@ -528,9 +345,9 @@ fn elements_are_limited(rt: HostRuntime) -> Result<(), Fail> {
     }
     assert_eq!(rt; elements.len(), 64);
     for (data, fault) in [
-        (Data::None, ElementFault::BadValue),
-        (Data::Text, ElementFault::BadType),
-        (Data::Number(7), ElementFault::ElementLimit),
+        (Bare, BadValue),
+        (Words, BadType),
+        (Number(7), ElementLimit),
     ] {
         let message = message(alloc, data)?;
         assert!(rt;
@@ -538,9 +355,9 @@ fn elements_are_limited(rt: HostRuntime) -> Result<(), Fail> {
                 alloc,
                 &mut elements,
                 Code::CREATE,
-                Form::Direct,
+                Direct,
                 &message,
-                Answer::Fault(fault)
+                Fault(fault)
             )?
         );
     }
@@ -552,10 +369,10 @@ fn elements_are_limited(rt: HostRuntime) -> Result<(), Fail> {
 #[test]
 fn ids_are_limited(rt: HostRuntime) -> Result<(), Fail> {
     let alloc = rt.alloc();
-    let message = message(alloc, Data::Number(7))?;
+    let message = message(alloc, Number(7))?;
     for (next_id, answer) in [
-        (2147483646, Answer::Numbers(&[2147483646])),
-        (LAST_ID, Answer::Fault(ElementFault::ElementLimit)),
+        (2147483646, Numbers(&[2147483646])),
+        (LAST_ID, Fault(ElementLimit)),
     ] {
         let mut elements = Elements {
             kind: Kind::Int32,
@@ -563,14 +380,7 @@ fn ids_are_limited(rt: HostRuntime) -> Result<(), Fail> {
             next_id,
         };
         assert!(rt;
-            answers(
-                alloc,
-                &mut elements,
-                Code::CREATE,
-                Form::Direct,
-                &message,
-                answer
-            )?,
+            answers(alloc, &mut elements, Code::CREATE, Direct, &message, answer)?,
             "at {next_id}"
         );
         assert_eq!(rt; elements.next_id, 2147483647);
