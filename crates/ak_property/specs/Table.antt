@@ -13,7 +13,7 @@ allows (x ∷ xs) n = list_any (λ y. y == n) (x ∷ xs)
 abbrev pub codes_of : List Code → List ℕ
 codes_of cs = map (λ c. c.0) cs
 
--- the row of that name takes the form, and the command where the specifier is the first one, which has the index 0
+-- the row of that name takes the form, and the command where the specifier is the only one left, which has the index 0
 abbrev pub fits : ℕ → ℕ → ℕ → List ℕ → PropertyRow → Bool
 fits what index form name row =
     bytes_eq row.name name && (allows row.forms form && (allows (codes_of row.commands) what || not (index == 0)))

@@ -2,7 +2,8 @@
 
 ghost use Rattle.ak_property.specs.Laws as law;
 
-/// A row fits where it has the name and takes the form and the command, and nowhere else.
+/// A row fits where it has the name, takes the form, and takes the command or is not asked for it, and
+/// nowhere else.
 pub fn rows_fit_as_told()
     ensures { law.FitsAsTold }
 {}

@@ -7,8 +7,8 @@ use ak_base::{Code, NoMemory, Text};
 use ak_message::{Message, Value};
 use std::alloc::Global;
 
-/// The reply that tells the suites of a handler and the names of its properties: `suites`, where the table
-/// has rows `properties`, and `error` 0.
+/// The reply `RPLY` that tells the suites of a handler, 1 to 19, and the names of its properties: `suites`,
+/// `properties` where the table has rows, and `error` 0.
 pub fn suite_message(
     alloc: Global,
     suites: &[Text],

@@ -84,7 +84,7 @@ impl PropertyTable {
 
     /// The place of the first row of that name whose forms are empty or hold `form`, and whose commands are
     /// empty or hold `what`, or whatever its commands where `index` is not 0. `index` is the number of
-    /// specifiers that are left, less one: before the last one no command is carried out. `None` where no
+    /// specifiers that are left, less one: while more than one is left, no command is carried out. `None` where no
     /// row fits. Takes no memory.
     pub fn find_match(&self, what: Code, index: u32, form: u32, name: &Text) -> Option<usize>
         ensures { result ≡ match_of self.now what.0 index form name.now }
@@ -94,9 +94,10 @@ impl PropertyTable {
             .position(|row| row.fits(what, index, form, name))
     }
 
+    /// The rows in order.
     pub fn as_slice(&self) -> &[PropertyRow]
         ensures value { result.now ≡ self.now }
-        ensures limit { length self.now ≤ 64 }
+        ensures limit { length self.now ≤ ROW_LIMIT }
     {
         self.rows.as_slice()
     }

@@ -1,5 +1,5 @@
 -- An added specifier is the current one.
-use Rattle.std.proofs.Common.{◌≡◌, ℕ, suc, Bool, true, false, cond, List, [], ◌∷◌, length, codes, None, Some, refl, ap, ◌∙◌, length-append, arith}
+use Rattle.std.proofs.Common.{◌≡◌, ◌≤◌, ◌+◌, ℕ, zero, suc, Option, Bool, true, false, cond, List, [], ◌∷◌, length, codes, None, Some, refl, ap, ◌∙◌, length-append, arith}
 use Rattle.std.specs.Option.{option_and_then}
 use Rattle.std.specs.Str.{bytes_eq}
 use Rattle.ak_message.specs.declared.kind.Kind.TheVariants as k
@@ -15,7 +15,7 @@ use Rattle.ak_message.proofs.Finding.{added_values_are_found-proof}
 use Rattle.ak_message.proofs.Keeping.{passed}
 use Rattle.ak_specifier.specs.Specifier.{specifier_message, specifier_in}
 use Rattle.ak_specifier.specs.Current.{left_of, last_specifier, specifier_fault, with_specifier, message_of_found}
-use Rattle.ak_specifier.specs.Laws.{AddedIsCurrent}
+use Rattle.ak_specifier.specs.Laws.{AddedIsCurrent, PopShowsTheOneBefore}
 
 -- ---- one more is counted
 module _ (m : MessageData) (name : List ℕ) (count : ℕ) where
@@ -75,3 +75,26 @@ added_is_current m s none =
     ∙ ap (λ r. option_and_then specifier_in (message_of_found r)) found
     ∙ ap specifier_in (message_at-value (specifier_message s))
     ∙ read_back s.property s.at
+
+-- ---- once it is popped, the one before it is current
+all_counted : (count : ℕ) (o : Option FieldData) → place_fault count o k.Message ≡ None → specifier_count_in o ≡ value_count_in o
+all_counted count None none = refl
+all_counted count (Some f) none = let same = passed (is_same_kind f.kind k.Message) _ add.BadType none in rw same.0 refl
+
+before
+    : (m : MessageData) (s : Specifier) (n place : ℕ)
+    → specifier_fault m ≡ None → place ≤ value_count m.fields (codes "specifiers")
+    → last_specifier (record (with_specifier m s) { popped = n }) place ≡ last_specifier m place
+before m s n zero none h = refl
+before m s n (suc place) none h =
+    ap message_of_found
+    ((added_values_are_found-proof m.fields (codes "specifiers") (value_of_message (specifier_message s)) (fits m s none)).earlier place h)
+
+pub pop_shows_the_one_before : PopShowsTheOneBefore
+pop_shows_the_one_before m s n none within =
+    let count = counted (specifier_message s) (codes "specifiers") (length m.fields) m.fields refl none in
+    let same = all_counted (length m.fields) (field_named m.fields (codes "specifiers")) none in
+    let left : left_of (record (with_specifier m s) { popped = n + 1 }) ≡ left_of (record m { popped = n }) = omega (arith, count, same) in
+    let there : left_of (record m { popped = n }) ≤ value_count m.fields (codes "specifiers") = omega (arith, same) in
+    ap (λ k. option_and_then specifier_in (last_specifier (record (with_specifier m s) { popped = n + 1 }) k)) left
+    ∙ ap (option_and_then specifier_in) (before m s (n + 1) (left_of (record m { popped = n })) none there)

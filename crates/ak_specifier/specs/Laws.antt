@@ -1,5 +1,6 @@
 -- What holds of all specifiers.
-use Rattle.std.specs.Prelude.{◌≡◌, ◌≢◌, ◌↔◌, ◌+◌, Some, None}
+use Rattle.std.specs.Prelude.{◌≡◌, ◌≢◌, ◌≤◌, ◌↔◌, ◌+◌, ℕ, Some, None}
+use Rattle.ak_message.specs.Fields.{specifier_count}
 use Rattle.ak_message.specs.declared.specifier.Specifier.{Specifier}
 use Rattle.ak_message.specs.Message.{MessageData}
 use Rattle.ak_specifier.specs.Specifier.{Shows, specifier_message, specifier_in}
@@ -20,3 +21,9 @@ AddedIsCurrent = (m : MessageData) (s : Specifier) → specifier_fault m ≡ Non
 -- a pop leaves one less
 abbrev pub PopLeavesOneLess : Type 0
 PopLeavesOneLess = (m : MessageData) → left_of m ≢ 0 → left_of m ≡ left_of (popped_once m) + 1
+
+-- with an added specifier popped, and so many before it, that one is current which was with so many popped
+abbrev pub PopShowsTheOneBefore : Type 0
+PopShowsTheOneBefore =
+    (m : MessageData) (s : Specifier) (n : ℕ) → specifier_fault m ≡ None → n ≤ specifier_count m.fields
+    → current_of (record (with_specifier m s) { popped = n + 1 }) ≡ current_of (record m { popped = n })

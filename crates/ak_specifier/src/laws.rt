@@ -17,3 +17,8 @@ pub fn written_specifiers_are_read()
 pub fn a_pop_leaves_one_less()
     ensures { law.PopLeavesOneLess }
 {}
+
+/// A pop makes the specifier current that was added before.
+pub fn a_pop_shows_the_one_before()
+    ensures { law.PopShowsTheOneBefore }
+{}

@@ -8,7 +8,10 @@ mod popping;
 mod reading;
 mod writing;
 
-pub use laws::{a_pop_leaves_one_less, specifiers_are_read_as_shown, written_specifiers_are_read};
+pub use laws::{
+    a_pop_leaves_one_less, a_pop_shows_the_one_before, specifiers_are_read_as_shown,
+    written_specifiers_are_read,
+};
 pub use popping::{left, pop};
 pub use reading::{BadScript, current};
 pub use writing::add_specifier;

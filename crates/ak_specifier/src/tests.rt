@@ -169,7 +169,7 @@ fn first_values_count_and_other_fields_do_not(rt: HostRuntime) -> Result<(), Fai
 
 #[test]
 fn badly_formed_specifiers_are_refused(rt: HostRuntime) -> Result<(), Fail> {
-    let rows: [(u32, &[u8]); 24] = [
+    let rows: [(u32, &[u8]); 29] = [
         (1, b""),
         (1, b"Pirnd"),
         (2, b"p"),
@@ -191,6 +191,11 @@ fn badly_formed_specifiers_are_refused(rt: HostRuntime) -> Result<(), Fail> {
         (7, b"p"),
         (7, b"pi"),
         (7, b"pD"),
+        (3, b"i"),
+        (4, b"ir"),
+        (5, b"ir"),
+        (5, b"pIr"),
+        (7, b"d"),
         (0, b"pirnd"),
         (8, b"pirnd"),
         (0x8000_0001, b"pirnd"),

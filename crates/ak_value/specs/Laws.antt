@@ -1,5 +1,5 @@
 -- What holds of all elements and commands.
-use Rattle.std.specs.Prelude.{◌≡◌, ◌↔◌, ℕ, suc, pos, ◌+◌, ◌<◌, ◌≤◌, List, [], ◌∷◌, length, map, reverse, Contains, Option, None, Some, option_map, Result, Ok, Err}
+use Rattle.std.specs.Prelude.{◌≡◌, ◌↔◌, ℕ, ℤ, suc, pos, negsuc, ◌+◌, ◌<◌, ◌≤◌, List, [], ◌∷◌, length, map, reverse, Contains, Option, None, Some, option_map, Result, Ok, Err}
 use Rattle.ak_message.specs.declared.specifier.At.{At}
 use Rattle.ak_message.specs.declared.specifier.At.TheVariants as at
 use Rattle.ak_message.specs.Message.{MessageData}
@@ -22,12 +22,22 @@ abbrev pub ReverseIsForward : Type 0
 ReverseIsForward =
     (list : List ElementData) (i : ℕ) → elements_of list (at.Reverse (pos (suc i))) ≡ elements_of (reverse list) (at.Index (pos i))
 
--- the last of the range stands at the reverse index less the count, from the end
+-- the last of the range stands at the reverse index less the count, plus one, from the end
 abbrev pub ReverseRangeIsForward : Type 0
 ReverseRangeIsForward =
     (list : List ElementData) (i count : ℕ)
     → elements_of list (at.ReverseRange (pos (i + count)) (pos count))
     ≡ option_map reverse (elements_of (reverse list) (at.Range (pos i) (pos count)))
+
+-- it counts from 1, and no form chooses by a number below zero
+abbrev pub CountsFromOne : Type 0
+CountsFromOne = (list : List ElementData) → part_of list (at.Reverse (pos 0)) ≡ None
+
+abbrev pub NoneBelowZero : Type 0
+NoneBelowZero =
+    (list : List ElementData) (i : ℕ) (count : ℤ)
+    → (part_of list (at.Index (negsuc i)) ≡ None) × (part_of list (at.Reverse (negsuc i)) ≡ None)
+    × (part_of list (at.Range (negsuc i) count) ≡ None) × (part_of list (at.ReverseRange (negsuc i) count) ≡ None)
 
 -- no reverse range has more elements than there are from its index on
 abbrev pub ReverseRangeEnds : Type 0

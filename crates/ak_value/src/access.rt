@@ -11,7 +11,7 @@ ghost use Rattle.ak_value.specs.Elements.{ElementData};
 ghost use Rattle.ak_value.specs.Seen.{answer_of, element_of, elements_of_list, part_seen};
 
 use crate::choice::{Part, chosen};
-use crate::elements::{ELEMENT_LIMIT, Element, Elements, LAST_ID};
+use crate::elements::{ELEMENT_LIMIT, Element, Elements, ID_LIMIT};
 use crate::fault::ElementFault;
 use ak_base::{Code, Items, NoMemory, Text};
 use ak_message::{AtRef, FindFault, Kind, Message, Value};
@@ -44,6 +44,7 @@ impl Elements {
         ensures err { OnErr result (self.new ≡ self.old) }
         ensures cause { (f : ElementFault) → f ≢ fault.NoMemory → IsErrOf result f ↔ Refuses f self.old what.0 (at_of at.entry) m.now }
     {
+        // Reading the code shows that it is a message: no field of it is without a value.
         let _code = m.what();
         self.carry_out(what, at, m)
     }
@@ -149,7 +150,7 @@ impl Elements {
     fn has_room(&self) -> bool
         ensures { result ≡ has_room self.now }
     {
-        self.list.len() < ELEMENT_LIMIT && self.next_id < LAST_ID
+        self.list.len() < ELEMENT_LIMIT && self.next_id < ID_LIMIT
     }
 }
 
@@ -182,6 +183,7 @@ fn data_of(kind: Kind, m: &Message) -> Result<&Value, ElementFault>
     ensures same_kind { IfOk result (λ v. kind_of (value_of v.now) ≡ kind) }
     ensures err { IfErr result (λ f. data_of kind m.now ≡ Err f) }
 {
+    // Reading the code shows that the values of a field are of its kind.
     let _code = m.what();
     match m.find(b"data", kind, 0) {
         Ok(value) => Ok(value),

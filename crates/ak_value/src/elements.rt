@@ -13,8 +13,8 @@ use std::marker::Model;
 /// How many elements a property may have.
 pub const ELEMENT_LIMIT: usize = 64;
 
-/// Where no element is created any more: every id is below.
-pub const LAST_ID: u32 = 2_147_483_647;
+/// No id reaches it: where it would be the next one, no element is created any more.
+pub const ID_LIMIT: u32 = 2_147_483_647;
 
 /// A value with its name, which is empty where it has none, and its id.
 #[derive(Drop)]
@@ -47,8 +47,10 @@ impl Model for Elements {
 }
 
 impl Elements {
-    /// The elements of these names and values, with the ids 1, 2 and so on. An element without a name has
-    /// the empty one.
+    ghost use Rattle.ak_value.specs.Elements.{IsElements};
+
+    /// The elements of these names and values, at most 64 and each of that kind, with the ids 1, 2 and so
+    /// on. An element without a name has the empty one.
     pub fn new(alloc: Global, kind: Kind, list: Vec<(Text, Value)>) -> Result<Elements, NoMemory>
         requires limit { length list.items ≤ 64 }
         requires same_kind { All (λ x. kind_of (value_of x.1) ≡ kind) list.items }
@@ -73,7 +75,8 @@ impl Elements {
 
     /// The kind of its values. Takes no memory.
     pub fn kind(&self) -> Kind
-        ensures { result ≡ self.now.kind }
+        ensures value { result ≡ self.now.kind }
+        ensures is_elements { IsElements self.now }
     {
         self.kind
     }

@@ -7,11 +7,14 @@ pub fn chosen_lie_within()
     ensures { law.ChosenLieWithin }
 {}
 
-/// The reverse forms choose what the forward forms choose on the reversed list.
+/// The reverse forms choose what the forward forms choose on the reversed list, from 1 on. No form chooses
+/// by a number below zero.
 pub fn reverse_counts_from_the_end()
     ensures index { law.ReverseIsForward }
     ensures range { law.ReverseRangeIsForward }
     ensures ends { law.ReverseRangeEnds }
+    ensures one { law.CountsFromOne }
+    ensures below_zero { law.NoneBelowZero }
 {}
 
 /// Whatever commands are carried out, the ids rise from 1 up and are below the next one, which never falls,

@@ -9,7 +9,7 @@ mod elements;
 mod fault;
 mod laws;
 
-pub use elements::{ELEMENT_LIMIT, Elements, LAST_ID};
+pub use elements::{ELEMENT_LIMIT, Elements, ID_LIMIT};
 pub use fault::ElementFault;
 pub use laws::{
     chosen_lie_within, ids_are_never_used_again, one_cause_a_refusal, reverse_counts_from_the_end,

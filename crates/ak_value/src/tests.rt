@@ -1,4 +1,4 @@
-use crate::elements::{ELEMENT_LIMIT, Element, Elements, LAST_ID};
+use crate::elements::{ELEMENT_LIMIT, Element, Elements, ID_LIMIT};
 use crate::fault::ElementFault;
 use Answer::{Fault, Nothing, Numbers};
 use Data::{Bare, Number, Words};
@@ -41,7 +41,11 @@ fn message(alloc: Global, data: Data) -> Result<Message, Fail> {
     let mut message = Message::new(alloc, Code(1));
     match data {
         Bare => {}
-        Number(n) => message.add(b"data", Value::Int32(n))?,
+        // The first value counts.
+        Number(n) => {
+            message.add(b"data", Value::Int32(n))?;
+            message.add(b"data", Value::Int32(99))?;
+        }
         Words => message.add(b"data", Value::Text(Text::from_bytes(alloc, b"x")?))?,
     }
     Ok(message)
@@ -319,15 +323,70 @@ fn names_of_new_elements(rt: HostRuntime) -> Result<(), Fail> {
         assert!(rt; answers(alloc, &mut elements, Code::CREATE, form, &message, answer)?);
     }
     message.add(b"name", Value::Text(Text::from_bytes(alloc, b"n")?))?;
+    message.add(b"name", Value::Text(Text::from_bytes(alloc, b"second")?))?;
     for (form, answer) in [(Direct, Numbers(&[3])), (Name("d"), Numbers(&[4]))] {
         assert!(rt; answers(alloc, &mut elements, Code::CREATE, form, &message, answer)?);
     }
+    assert_eq!(rt; message.remove_name(b"name"), Ok(()));
+    message.add(b"name", Value::Int32(1))?;
+    assert!(rt;
+        answers(
+            alloc,
+            &mut elements,
+            Code::CREATE,
+            Direct,
+            &message,
+            Numbers(&[5])
+        )?
+    );
     assert!(rt;
         are(
             &elements,
-            &[("", 1, 7), ("c", 2, 7), ("n", 3, 7), ("d", 4, 7)]
+            &[
+                ("", 1, 7),
+                ("c", 2, 7),
+                ("n", 3, 7),
+                ("d", 4, 7),
+                ("", 5, 7)
+            ]
         )
     );
+    Ok(())
+}
+
+#[test]
+fn each_form_sets(rt: HostRuntime) -> Result<(), Fail> {
+    let mut elements = three(rt.alloc())?;
+    let rows = [
+        (Code::SET, Index(0), Number(1), Nothing),
+        (Code::SET, Reverse(1), Number(2), Nothing),
+        (Code::SET, Name("b"), Number(3), Nothing),
+        (Code::GET, Range(0, 3), Bare, Numbers(&[1, 3, 2])),
+        (Code::SET, Id(3), Number(4), Nothing),
+        (Code::SET, ReverseRange(3, 2), Number(5), Nothing),
+        (Code::GET, Range(0, 3), Bare, Numbers(&[5, 5, 4])),
+    ];
+    assert_eq!(rt; first_wrong(rt.alloc(), &mut elements, &rows)?, None);
+    assert!(rt; are(&elements, &[("", 1, 5), ("b", 2, 5), ("", 3, 4)]));
+    Ok(())
+}
+
+#[test]
+fn each_form_deletes(rt: HostRuntime) -> Result<(), Fail> {
+    let mut elements = three(rt.alloc())?;
+    let rows = [
+        (Code::CREATE, Name("b"), Number(40), Numbers(&[4])),
+        (Code::CREATE, Name("c"), Number(50), Numbers(&[5])),
+        (Code::CREATE, Name("d"), Number(60), Numbers(&[6])),
+        (Code::DELETE, Name("b"), Bare, Nothing),
+        (Code::GET, Range(0, 5), Bare, Numbers(&[10, 30, 40, 50, 60])),
+        (Code::DELETE, Index(0), Bare, Nothing),
+        (Code::DELETE, Reverse(1), Bare, Nothing),
+        (Code::GET, Range(0, 3), Bare, Numbers(&[30, 40, 50])),
+        (Code::DELETE, Range(0, 2), Bare, Nothing),
+    ];
+    assert_eq!(rt; first_wrong(rt.alloc(), &mut elements, &rows)?, None);
+    assert!(rt; are(&elements, &[("c", 5, 50)]));
     Ok(())
 }
 
@@ -372,7 +431,7 @@ fn ids_are_limited(rt: HostRuntime) -> Result<(), Fail> {
     let message = message(alloc, Number(7))?;
     for (next_id, answer) in [
         (2147483646, Numbers(&[2147483646])),
-        (LAST_ID, Fault(ElementLimit)),
+        (ID_LIMIT, Fault(ElementLimit)),
     ] {
         let mut elements = Elements {
             kind: Kind::Int32,

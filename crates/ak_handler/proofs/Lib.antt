@@ -1,0 +1,14 @@
+pub mod Adding
+pub mod Chains
+pub mod Holding
+pub mod Linking
+pub mod Looking
+pub mod Mapped
+pub mod Meeting
+pub mod Pigeons
+pub mod Placed
+pub mod Places
+pub mod Preferring
+pub mod Relinking
+pub mod Removing
+pub mod Tokens

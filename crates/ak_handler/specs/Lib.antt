@@ -1,0 +1,5 @@
+pub mod Changes
+pub mod Handlers
+pub mod Laws
+pub mod Lending
+pub mod Seen

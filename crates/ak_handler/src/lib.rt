@@ -1,0 +1,17 @@
+//! The handlers of a looper, the looper itself as the first of them. Each has a token that no other one
+//! ever had, a name, what it holds, and a next handler that is asked where it does not take a message;
+//! every such chain ends. Contracts see a list. Nothing here waits, and nothing is shared.
+#![tactic(auto)]
+
+mod changes;
+mod fault;
+mod laws;
+mod next;
+mod rows;
+mod set;
+#[cfg(test)]
+mod tests;
+
+pub use fault::HandlerFault;
+pub use laws::chains_are_whole;
+pub use set::{HANDLER_LIMIT, HandlerSet, LOOPER};

@@ -1,0 +1,158 @@
+ghost use Rattle.std.specs.Prelude.{◌≡◌, ◌<◌, Some, length, is_some, IfOk, IfSome, option_map};
+ghost use Rattle.std.specs.Option.{option_copied_mut};
+ghost use Rattle.std.specs.Borrow.{sem};
+ghost use Rattle.ak_handler.specs.Changes.{looper_alone, content_of};
+ghost use Rattle.ak_handler.specs.Handlers.{handler_of, next_in, place_of, token_at, token_named};
+ghost use Rattle.ak_handler.specs.Seen.{handler_seen};
+
+use crate::rows::{Row, place_with, row_with, token_with_name};
+use ak_base::{NoMemory, Text};
+use std::alloc::Global;
+use std::marker::Model;
+
+/// How many handlers a looper may have, itself counted.
+pub const HANDLER_LIMIT: usize = 64;
+
+/// The token of the looper.
+pub const LOOPER: u64 = 0;
+
+/// The handlers of a looper, in the order in which they were added, the looper first with the token 0.
+/// Tokens are birth numbers and are not used again. (The Be Book, BLooper and BHandler.)
+#[derive(Drop)]
+pub struct HandlerSet<R> {
+    pub(crate) rows: Vec<Row<R>>,
+    pub(crate) preferred: Option<u64>,
+    pub(crate) next_token: u64,
+}
+
+impl<R> Model for HandlerSet<R> {
+    ghost use Rattle.ak_handler.specs.Handlers.{HandlersData, handlers_code};
+    ghost use Rattle.ak_handler.specs.Seen.{handlers_inside, IsSound};
+
+    ghost Value = { HandlersData R };
+
+    ghost coded = { handlers_code R.code };
+
+    ghost view = { handlers_inside };
+
+    ghost invariant = { IsSound };
+}
+
+impl<R: Drop> HandlerSet<R> {
+    ghost use Rattle.ak_handler.specs.Handlers.{IsHandlers};
+    ghost use Rattle.ak_handler.specs.Lending.{lends_content, lends_content_if};
+
+    /// The looper of that name, without other handlers.
+    pub fn new(alloc: Global, name: Text, content: R) -> Result<HandlerSet<R>, NoMemory>
+        ensures { IfOk result (λ s. s ≡ looper_alone name content) }
+    {
+        let mut rows = Vec::with_capacity(alloc, 1)?;
+        rows.push(Row {
+            token: LOOPER,
+            name,
+            next: None,
+            content,
+        })?;
+        Ok(HandlerSet {
+            rows,
+            preferred: None,
+            next_token: 1,
+        })
+    }
+
+    /// How many handlers there are, the looper counted: 1 to 64. Takes no memory.
+    pub fn len(&self) -> u32
+        ensures value { result ≡ length self.now.list }
+        ensures is_handlers { IsHandlers self.now }
+    {
+        self.rows.len() as u32
+    }
+
+    /// The token of the preferred handler, if one is. Takes no memory.
+    pub fn preferred(&self) -> Option<u64>
+        ensures { result ≡ self.now.preferred }
+    {
+        self.preferred
+    }
+
+    /// What the handler with that token holds. `None` where there is none. Takes no memory.
+    pub fn by_token(&self, token: u64) -> Option<&R>
+        ensures { option_map (λ x. x.now) result ≡ content_of self.now.list token }
+    {
+        let row = self.row(token)?;
+        Some(&row.content)
+    }
+
+    /// What the handler with that token holds, to change. `None` where there is none. Takes no memory.
+    pub fn by_token_mut(&mut self, token: u64) -> Option<&mut R>
+        ensures* writes_back { sem 𝓛 (lends_content_if R.row self.entry token result) }
+        ensures value { option_copied_mut result ≡ content_of self.old.list token }
+    {
+        let place = self.place(token)?;
+        Some(self.content_at(token, place))
+    }
+
+    // What the handler with that token holds, which stands at that place.
+    fn content_at(&mut self, token: u64, place: usize) -> &mut R
+        requires { place_of self.old.list token ≡ Some place }
+        ensures* writes_back { sem 𝓛 (lends_content R.row self.entry token result) }
+        ensures value { Some result.now ≡ content_of self.old.list token }
+    {
+        &mut self.rows[place].content
+    }
+
+    /// The name of the handler with that token. `None` where there is none. Takes no memory.
+    pub fn name_of(&self, token: u64) -> Option<&Text>
+        ensures { option_map (λ x. x.now) result ≡ option_map (λ h. h.name) (handler_of self.now.list token) }
+    {
+        let row = self.row(token)?;
+        Some(&row.name)
+    }
+
+    /// The token of the handler of that name. `None` where there is none. Takes no memory.
+    pub fn by_name(&self, name: &Text) -> Option<u64>
+        ensures { result ≡ token_named self.now.list name.now }
+    {
+        token_with_name(&self.rows, name.as_bytes())
+    }
+
+    /// The token of the handler at that place, the looper at 0. `None` past the last one. Takes no memory.
+    pub fn at(&self, index: u32) -> Option<u64>
+        ensures { result ≡ token_at self.now.list index }
+    {
+        let row = self.rows.get(index as usize)?;
+        Some(row.token)
+    }
+
+    /// The place of the handler with that token. `None` where there is none. Takes no memory.
+    pub fn index_of(&self, token: u64) -> Option<u32>
+        ensures { result ≡ place_of self.now.list token }
+    {
+        let place = self.place(token)?;
+        Some(place as u32)
+    }
+
+    /// The token of the next handler of the one with that token. `None` where it has none, and where there
+    /// is no such handler. Takes no memory.
+    pub fn next_of(&self, token: u64) -> Option<u64>
+        ensures { result ≡ next_in self.now.list token }
+    {
+        self.row(token)?.next
+    }
+
+    // The place of the row with that token.
+    pub(crate) fn place(&self, token: u64) -> Option<usize>
+        ensures place { result ≡ place_of self.now.list token }
+        ensures found { is_some result ≡ is_some (handler_of self.now.list token) }
+        ensures within { IfSome result (λ place. (place < length self.now.list) × (place < 64)) }
+    {
+        place_with(&self.rows, token)
+    }
+
+    // The row with that token.
+    fn row(&self, token: u64) -> Option<&Row<R>>
+        ensures { option_map (λ x. handler_seen x.now) result ≡ handler_of self.now.list token }
+    {
+        row_with(&self.rows, token)
+    }
+}
