@@ -1,0 +1,9 @@
+pub mod Asked
+pub mod Delivered
+pub mod Leading
+pub mod Mapped
+pub mod MappedFilters
+pub mod Passed
+pub mod Steps
+pub mod Takers
+pub mod Targets

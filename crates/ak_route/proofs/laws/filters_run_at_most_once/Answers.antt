@@ -1,0 +1,8 @@
+use Rattle.ak_route.proofs.Asked.{all-proof, once-proof}
+use Rattle.ak_route.proofs.laws.filters_run_at_most_once.Goals as goal
+
+pub returns-clause-once : goal.returns-clause-once
+returns-clause-once c = once-proof
+
+pub returns-clause-all : goal.returns-clause-all
+returns-clause-all c = all-proof

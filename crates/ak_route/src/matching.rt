@@ -1,0 +1,53 @@
+//! Which handler has a match for a specifier.
+
+ghost use Rattle.std.specs.Prelude.{◌≡◌};
+ghost use Rattle.ak_message.specs.Specifier.{specifier_of};
+ghost use Rattle.ak_route.specs.Matching.{row_match, is_last_direct, gets_built_in, counts_built_in, is_built_in_name, table_matches};
+
+use ak_base::Code;
+use ak_message::{AtRef, Message, SpecifierRef};
+use ak_property::PropertyTable;
+use ak_specifier::left;
+
+/// The row of the table that fits the current specifier.
+pub(crate) fn row_match(table: &PropertyTable, m: &Message, s: SpecifierRef<'_>) -> Option<usize>
+    ensures { result ≡ row_match table.now m.now (specifier_of s.entry) }
+{
+    table.find_match(m.what(), left(m).saturating_sub(1), s.at.form(), s.property)
+}
+
+/// Whether it is the last one that is left, and direct.
+pub(crate) fn is_last_direct(m: &Message, s: SpecifierRef<'_>) -> bool
+    ensures { result ≡ is_last_direct m.now (specifier_of s.entry) }
+{
+    matches!(s.at, AtRef::Direct) && left(m) == 1
+}
+
+/// Whether it gets the suites, the messenger or the name, which every handler has.
+pub(crate) fn gets_built_in(m: &Message, s: SpecifierRef<'_>) -> bool
+    ensures { result ≡ gets_built_in m.now (specifier_of s.entry) }
+{
+    m.what() == Code::GET && is_last_direct(m, s) && is_built_in_name(s.property.as_bytes())
+}
+
+fn is_built_in_name(name: &[u8]) -> bool
+    ensures { result ≡ is_built_in_name name.now }
+{
+    name == b"Suites".as_slice()
+        || name == b"Messenger".as_slice()
+        || name == b"InternalName".as_slice()
+}
+
+/// Whether it counts what this property names.
+pub(crate) fn counts_built_in(m: &Message, s: SpecifierRef<'_>, property: &[u8]) -> bool
+    ensures { result ≡ counts_built_in m.now (specifier_of s.entry) property.now }
+{
+    m.what() == Code::COUNT && is_last_direct(m, s) && s.property.as_bytes() == property
+}
+
+/// Whether a handler with this table has a match.
+pub(crate) fn matches(table: &PropertyTable, m: &Message, s: SpecifierRef<'_>) -> bool
+    ensures { result ≡ table_matches table.now m.now (specifier_of s.entry) }
+{
+    row_match(table, m, s).is_some() || gets_built_in(m, s)
+}
