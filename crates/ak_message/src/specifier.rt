@@ -1,7 +1,7 @@
-ghost use Rattle.std.specs.Prelude.{◌≡◌};
+ghost use Rattle.std.specs.Prelude.{◌≡◌, IfOk};
 ghost use Rattle.ak_message.specs.Specifier.{form_of, at_of, specifier_of};
 
-use ak_base::Text;
+use ak_base::{NoMemory, Text};
 
 /// Which of the elements of a property is meant. Indexes count from 0, and a reverse index counts from
 /// the end, where the last element has 1. (The Be Book, Scripting.)
@@ -13,7 +13,7 @@ pub enum At {
     Reverse(i32),
     /// `count` elements from `index` on.
     Range { index: i32, count: i32 },
-    /// `count` elements from the reverse index on, to the end.
+    /// `count` elements from the reverse index on, towards the end.
     ReverseRange { index: i32, count: i32 },
     Name(Text),
     Id(i32),
@@ -72,6 +72,27 @@ impl At {
     {
         self.as_ref().form()
     }
+
+    /// An equal one.
+    pub fn try_clone(&self) -> Result<At, NoMemory>
+        ensures { IfOk result (λ at. at ≡ self.now) }
+    {
+        Ok(match self {
+            At::Direct => At::Direct,
+            At::Index(index) => At::Index(*index),
+            At::Reverse(index) => At::Reverse(*index),
+            At::Range { index, count } => At::Range {
+                index: *index,
+                count: *count,
+            },
+            At::ReverseRange { index, count } => At::ReverseRange {
+                index: *index,
+                count: *count,
+            },
+            At::Name(name) => At::Name(name.try_clone()?),
+            At::Id(id) => At::Id(*id),
+        })
+    }
 }
 
 impl AtRef<'_> {
@@ -100,6 +121,16 @@ impl Specifier {
             at: self.at.as_ref(),
         }
     }
+
+    /// An equal one.
+    pub fn try_clone(&self) -> Result<Specifier, NoMemory>
+        ensures { IfOk result (λ s. s ≡ self.now) }
+    {
+        Ok(Specifier {
+            property: self.property.try_clone()?,
+            at: self.at.try_clone()?,
+        })
+    }
 }
 
 #[cfg(test)]
@@ -122,6 +153,7 @@ mod tests {
         for (at, form) in rows {
             assert_eq!(rt; at.form(), form);
             assert_eq!(rt; at.as_ref().form(), form);
+            assert_eq!(rt; at.try_clone()?.form(), form);
         }
         Ok(())
     }
@@ -132,7 +164,8 @@ mod tests {
             property: Text::from_bytes(rt.alloc(), b"Title")?,
             at: At::Name(Text::from_bytes(rt.alloc(), b"n")?),
         };
-        let borrowed = specifier.as_ref();
+        let copy = specifier.try_clone()?;
+        let borrowed = copy.as_ref();
         assert_eq!(rt; borrowed.property.as_str(), "Title");
         match borrowed.at {
             AtRef::Name(name) => assert_eq!(rt; name.as_str(), "n"),

@@ -208,6 +208,14 @@ fn values_are_replaced(rt: HostRuntime) -> Result<(), Fail> {
     }
     message.replace(b"a", 0, sample(alloc, Kind::Text)?)?;
     assert_eq!(rt; shown(message.find(b"a", Kind::Text, 0)?), 3);
+    for n in 1..4 {
+        message.add(b"n", Value::Int32(n))?;
+    }
+    message.replace(b"n", 1, Value::Int32(7))?;
+    for (index, expected) in [(0, Some(1)), (1, Some(7)), (2, Some(3)), (3, None)] {
+        assert_eq!(rt; number(&message, b"n", index), expected);
+    }
+    assert_eq!(rt; shown(message.find(b"a", Kind::Text, 0)?), 3);
     Ok(())
 }
 
