@@ -1,7 +1,7 @@
-ghost use Rattle.std.specs.Prelude.{◌≡◌};
+ghost use Rattle.std.specs.Prelude.{◌≡◌, IfOk};
 ghost use Rattle.ak_filter.specs.Filter.{admits, fits_what, fits_source, fits_delivery};
 
-use ak_base::{Code, Text};
+use ak_base::{Code, NoMemory, Text};
 
 /// Where a message has to come from: of a sender in the looper's own team, or of one in another.
 #[derive(Clone, Copy, Debug, PartialEq, Eq)]
@@ -31,6 +31,26 @@ pub struct Filter {
     pub skip: bool,
     pub to: Option<Text>,
     pub set_what: Option<Code>,
+}
+
+impl Filter {
+    /// An equal filter.
+    pub fn try_clone(&self) -> Result<Filter, NoMemory>
+        ensures { IfOk result (λ f. f ≡ self.now) }
+    {
+        let to = match &self.to {
+            Some(name) => Some(name.try_clone()?),
+            None => None,
+        };
+        Ok(Filter {
+            what: self.what,
+            source: self.source,
+            delivery: self.delivery,
+            skip: self.skip,
+            to,
+            set_what: self.set_what,
+        })
+    }
 }
 
 /// What a filter looks at of a message.
@@ -83,6 +103,7 @@ fn fits_delivery(delivery: DeliveryIs, dropped: bool) -> bool
 #[cfg(test)]
 mod tests {
     use super::*;
+    use std::test::Fail;
 
     const SOURCES: [SourceIs; 3] = [SourceIs::Any, SourceIs::Local, SourceIs::Remote];
 
@@ -143,5 +164,30 @@ mod tests {
             assert_eq!(rt; admitting(Some(Code::GET), &head), expected);
             assert_eq!(rt; admitting(Some(Code::SET), &head), [false; 9]);
         }
+    }
+
+    #[test]
+    fn a_copy_has_each_part(rt: HostRuntime) -> Result<(), Fail> {
+        let mut filter = Filter {
+            what: Some(Code::GET),
+            source: SourceIs::Remote,
+            delivery: DeliveryIs::Dropped,
+            skip: true,
+            to: Some(Text::from_bytes(rt.alloc(), b"other")?),
+            set_what: Some(Code::SET),
+        };
+        let copy = filter.try_clone()?;
+        assert_eq!(rt; copy.what, Some(Code::GET));
+        assert_eq!(rt; copy.source, SourceIs::Remote);
+        assert_eq!(rt; copy.delivery, DeliveryIs::Dropped);
+        assert!(rt; copy.skip);
+        assert!(rt;
+            copy.to
+                .is_some_and(|name| name.as_bytes() == b"other".as_slice())
+        );
+        assert_eq!(rt; copy.set_what, Some(Code::SET));
+        filter.to = None;
+        assert!(rt; filter.try_clone()?.to.is_none());
+        Ok(())
     }
 }

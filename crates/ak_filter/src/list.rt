@@ -1,7 +1,8 @@
-ghost use Rattle.std.specs.Prelude.{◌≡◌, ◌++◌, ◌∷◌, [], ◌≤◌, ◌↔◌, length, OnOk, OnErr, IsErrOf};
+ghost use Rattle.std.specs.Prelude.{◌≡◌, ◌++◌, ◌∷◌, [], ◌≤◌, ◌↔◌, length, IfOk, OnOk, OnErr, IsErrOf};
 ghost use Rattle.ak_filter.specs.declared.list.TheConstants.{FILTER_LIMIT};
 
 use crate::filter::Filter;
+use ak_base::NoMemory;
 use std::alloc::{AllocFailed, Global};
 use std::marker::Model;
 
@@ -70,12 +71,30 @@ impl FilterList {
         Ok(())
     }
 
+    /// An equal list.
+    pub fn try_clone(&self) -> Result<FilterList, NoMemory>
+        ensures { IfOk result (λ l. l ≡ self.now) }
+    {
+        let filters = copied(*self.filters.allocator(), &self.filters)?;
+        Ok(FilterList { filters })
+    }
+
     pub fn as_slice(&self) -> &[Filter]
         ensures value { result.now ≡ self.now }
         ensures limit { length self.now ≤ 32 }
     {
         self.filters.as_slice()
     }
+}
+
+fn copied(alloc: Global, filters: &[Filter]) -> Result<Vec<Filter>, NoMemory>
+    ensures { IfOk result (λ copies. copies.items ≡ filters.now) }
+{
+    let mut copies = Vec::with_capacity(alloc, filters.len())?;
+    for filter in filters {
+        copies.push(filter.try_clone()?)?;
+    }
+    Ok(copies)
 }
 
 #[cfg(test)]
@@ -108,6 +127,19 @@ mod tests {
         for (i, filter) in list.as_slice().iter().enumerate() {
             assert_eq!(rt; filter.what, Some(Code(i as u32)));
         }
+        Ok(())
+    }
+
+    #[test]
+    fn a_copy_has_the_same_filters(rt: HostRuntime) -> Result<(), Fail> {
+        let mut list = FilterList::new(rt.alloc());
+        list.push(skips(1))?;
+        list.push(skips(2))?;
+        let copy = list.try_clone()?;
+        list.push(skips(3))?;
+        assert_eq!(rt; copy.as_slice().len(), 2);
+        assert_eq!(rt; copy.as_slice()[0].what, Some(Code(1)));
+        assert_eq!(rt; copy.as_slice()[1].what, Some(Code(2)));
         Ok(())
     }
 }
