@@ -1,8 +1,8 @@
-ghost use Rattle.std.specs.Prelude.{◌≡◌, ◌++◌, ◌∷◌, [], ◌<◌, ◌≤◌, ◌↔◌, length, OnOk, OnErr, IsErrOf};
+ghost use Rattle.std.specs.Prelude.{◌≡◌, ◌++◌, ◌∷◌, [], ◌<◌, ◌≤◌, ◌↔◌, length, IfOk, OnOk, OnErr, IsErrOf};
 ghost use Rattle.ak_property.specs.declared.table.TheConstants.{ROW_LIMIT};
 ghost use Rattle.ak_property.specs.Table.{allows, codes_of, fits, match_of};
 
-use ak_base::{Code, Items, Text};
+use ak_base::{Code, Items, NoMemory, Text};
 use ak_message::Kind;
 use std::alloc::{AllocFailed, Global};
 use std::marker::Model;
@@ -94,6 +94,14 @@ impl PropertyTable {
             .position(|row| row.fits(what, index, form, name))
     }
 
+    /// An equal table.
+    pub fn try_clone(&self) -> Result<PropertyTable, NoMemory>
+        ensures { IfOk result (λ t. t ≡ self.now) }
+    {
+        let rows = copied(*self.rows.allocator(), &self.rows)?;
+        Ok(PropertyTable { rows })
+    }
+
     /// The rows in order.
     pub fn as_slice(&self) -> &[PropertyRow]
         ensures value { result.now ≡ self.now }
@@ -103,7 +111,30 @@ impl PropertyTable {
     }
 }
 
+fn copied(alloc: Global, rows: &[PropertyRow]) -> Result<Vec<PropertyRow>, NoMemory>
+    ensures { IfOk result (λ copies. copies.items ≡ rows.now) }
+{
+    let mut copies = Vec::with_capacity(alloc, rows.len())?;
+    for row in rows {
+        copies.push(row.try_clone(alloc)?)?;
+    }
+    Ok(copies)
+}
+
 impl PropertyRow {
+    /// An equal row.
+    pub fn try_clone(&self, alloc: Global) -> Result<PropertyRow, NoMemory>
+        ensures { IfOk result (λ row. row ≡ self.now) }
+    {
+        Ok(PropertyRow {
+            name: self.name.try_clone()?,
+            kind: self.kind,
+            commands: Items::from_vec(Vec::from_slice(alloc, self.commands.as_slice())?),
+            forms: Items::from_vec(Vec::from_slice(alloc, self.forms.as_slice())?),
+            usage: self.usage.try_clone()?,
+        })
+    }
+
     fn fits(&self, what: Code, index: u32, form: u32, name: &Text) -> bool
         ensures { result ≡ fits what.0 index form name.now self.now }
     {
@@ -235,6 +266,28 @@ mod tests {
         }
         let extra = Text::from_bytes(alloc, b"extra")?;
         assert_eq!(rt; table.find_match(Code::GET, 0, 1, &extra), None);
+        Ok(())
+    }
+
+    #[test]
+    fn a_copy_has_the_same_rows(rt: HostRuntime) -> Result<(), Fail> {
+        let alloc = rt.alloc();
+        let mut table = PropertyTable::new(alloc);
+        table.add_row(row(alloc, b"Count", &[Code::GET, Code::SET], &[1, 6])?)?;
+        table.add_row(row(alloc, b"Other", &[], &[])?)?;
+        let copy = table.try_clone()?;
+        table.add_row(row(alloc, b"More", &[], &[])?)?;
+        assert_eq!(rt; copy.as_slice().len(), 2);
+        let first = copy.as_slice()[0].try_clone(alloc)?;
+        assert_eq!(rt; first.name.as_str(), "Count");
+        assert_eq!(rt; first.kind, Kind::Int32);
+        assert_eq!(rt;
+            first.commands.as_slice(),
+            [Code::GET, Code::SET].as_slice()
+        );
+        assert_eq!(rt; first.forms.as_slice(), [1, 6].as_slice());
+        assert_eq!(rt; first.usage.as_str(), "as told");
+        assert_eq!(rt; copy.as_slice()[1].name.as_str(), "Other");
         Ok(())
     }
 }
