@@ -2,7 +2,7 @@ ghost use Rattle.std.specs.Prelude.{◌≡◌, ◌≤◌, length, Err, All, IfOk
 ghost use Rattle.ak_message.specs.Message.{kind_of};
 ghost use Rattle.ak_message.specs.Seen.{value_of};
 ghost use Rattle.ak_value.specs.Elements.{described, first_value, set_first_fault, with_first};
-ghost use Rattle.ak_value.specs.Seen.{pairs_of};
+ghost use Rattle.ak_value.specs.Seen.{element_of, elements_of_list, pairs_of};
 
 use crate::fault::ElementFault;
 use ak_base::{NoMemory, Text};
@@ -73,6 +73,18 @@ impl Elements {
         })
     }
 
+    /// Equal elements, with the same ids and the same next one.
+    pub fn try_clone(&self) -> Result<Elements, NoMemory>
+        ensures { IfOk result (λ e. e ≡ self.now) }
+    {
+        let list = copied(*self.list.allocator(), &self.list)?;
+        Ok(Elements {
+            kind: self.kind,
+            list,
+            next_id: self.next_id,
+        })
+    }
+
     /// The kind of its values. Takes no memory.
     pub fn kind(&self) -> Kind
         ensures value { result ≡ self.now.kind }
@@ -115,4 +127,26 @@ impl Elements {
         element.value = value;
         Ok(())
     }
+}
+
+impl Element {
+    fn try_clone(&self, alloc: Global) -> Result<Element, NoMemory>
+        ensures { IfOk result (λ e. element_of e ≡ element_of self.now) }
+    {
+        Ok(Element {
+            name: self.name.try_clone()?,
+            id: self.id,
+            value: self.value.try_clone(alloc)?,
+        })
+    }
+}
+
+fn copied(alloc: Global, elements: &[Element]) -> Result<Vec<Element>, NoMemory>
+    ensures { IfOk result (λ copies. elements_of_list copies.items ≡ elements_of_list elements.now) }
+{
+    let mut copies = Vec::with_capacity(alloc, elements.len())?;
+    for element in elements {
+        copies.push(element.try_clone(alloc)?)?;
+    }
+    Ok(copies)
 }

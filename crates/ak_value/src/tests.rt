@@ -315,6 +315,30 @@ fn ids_are_not_used_again(rt: HostRuntime) -> Result<(), Fail> {
 }
 
 #[test]
+fn a_copy_has_the_same_ids(rt: HostRuntime) -> Result<(), Fail> {
+    let alloc = rt.alloc();
+    let mut elements = three(alloc)?;
+    let rows = [
+        (Code::DELETE, Id(1), Bare, Nothing),
+        (Code::CREATE, Name("d"), Number(40), Numbers(&[4])),
+        (Code::DELETE, Id(4), Bare, Nothing),
+    ];
+    assert_eq!(rt; first_wrong(alloc, &mut elements, &rows)?, None);
+    let mut copy = elements.try_clone()?;
+    assert!(rt; copy.kind() == Kind::Int32);
+    let rows = [
+        (Code::GET, Id(1), Bare, Fault(BadIndex)),
+        (Code::GET, Id(2), Bare, Numbers(&[20])),
+        (Code::GET, Id(3), Bare, Numbers(&[30])),
+        (Code::CREATE, Direct, Number(50), Numbers(&[5])),
+    ];
+    assert_eq!(rt; first_wrong(alloc, &mut copy, &rows)?, None);
+    assert!(rt; are(&copy, &[("b", 2, 20), ("", 3, 30), ("", 5, 50)]));
+    assert!(rt; are(&elements, &[("b", 2, 20), ("", 3, 30)]));
+    Ok(())
+}
+
+#[test]
 fn names_of_new_elements(rt: HostRuntime) -> Result<(), Fail> {
     let alloc = rt.alloc();
     let mut elements = none_yet(alloc)?;
