@@ -134,6 +134,10 @@ removed_name fields name = changed (λ _. None) fields name
 abbrev pub value_at : Option FieldData → ℕ → Option ValueData
 value_at o index = option_and_then (λ (f : FieldData). slice_get f.values index) o
 
+-- the first value of the field of that name
+abbrev pub first_named : List FieldData → List ℕ → Option ValueData
+first_named fields name = value_at (field_named fields name) 0
+
 abbrev pub remove_fault_in : Option FieldData → ℕ → Option RemoveFault
 remove_fault_in None index = Some removal.NameNotFound
 remove_fault_in (Some f) index = if nat_lt index (length f.values) then None else Some removal.BadIndex

@@ -1,7 +1,7 @@
 ghost use Rattle.std.specs.Prelude.{◌≡◌, ◌≤◌, [], None, length, position, Ok, Err, OnOk, OnErr, IfOk, option_map, IfSome, IfNone, IsOkUnless, slice_get};
 ghost use Rattle.ak_message.specs.Message.{kind_of, depth_of_value};
 ghost use Rattle.ak_message.specs.Seen.{value_of, field_of, fields_of, field_ref_of};
-ghost use Rattle.ak_message.specs.Fields.{AddedValuesAreFound, added, add_fault, found_in, is_named, place_fault, field_named, new_field, with_value, specifier_count};
+ghost use Rattle.ak_message.specs.Fields.{AddedValuesAreFound, added, add_fault, found_in, first_named, is_named, place_fault, field_named, new_field, with_value, specifier_count};
 ghost use Rattle.ak_message.specs.Finds.{Finds};
 ghost use Rattle.ak_message.specs.Whole.{FitsValue};
 
@@ -116,8 +116,8 @@ impl Value {
         }
     }
 
-    // How deep messages stand in it: 0 where it is none.
-    fn depth(&self) -> u32
+    /// How deep messages stand in it: 0 where it is none.
+    pub fn depth(&self) -> u32
         ensures { result ≡ depth_of_value (value_of self.now) }
     {
         match self {
@@ -307,6 +307,15 @@ impl Message {
             Some(value) => Ok(value),
             None => Err(FindFault::BadIndex),
         }
+    }
+
+    /// The first value of the field of that name, of whatever kind. `None` where there is no such field.
+    /// Takes no memory.
+    pub fn first_named(&self, name: &[u8]) -> Option<&Value>
+        ensures { option_map (λ v. value_of v.now) result ≡ first_named self.now.fields name.now }
+    {
+        let field = field_named(&self.fields, name)?;
+        field.values.first()
     }
 
     /// How many names it has, so how many fields: at most 64.

@@ -284,3 +284,22 @@ fn popped_specifiers_are_kept_and_lowered(rt: HostRuntime) -> Result<(), Fail> {
     assert_eq!(rt; copy.what(), Code(5));
     Ok(())
 }
+
+#[test]
+fn the_first_value_of_a_name_is_found(rt: HostRuntime) -> Result<(), Fail> {
+    let alloc = rt.alloc();
+    let mut message = Message::new(alloc, Code(1));
+    assert_eq!(rt; message.first_named(b"n").is_none(), true);
+    message.add(b"m", Value::Bool(true))?;
+    message.add(b"n", Value::Int32(7))?;
+    message.add(b"n", Value::Int32(8))?;
+    message.add(b"d", Value::from_message(alloc, nested(alloc, 3)?)?)?;
+    let first = message.first_named(b"n").ok_or("no value")?;
+    assert_eq!(rt; shown(first), 7);
+    assert_eq!(rt; first.depth(), 0);
+    let deep = message.first_named(b"d").ok_or("no value")?;
+    assert_eq!(rt; deep.kind(), Kind::Message);
+    assert_eq!(rt; deep.depth(), 3);
+    assert_eq!(rt; message.first_named(b"nn").is_none(), true);
+    Ok(())
+}
