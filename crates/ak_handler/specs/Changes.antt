@@ -24,6 +24,15 @@ module _ {R : Type 0} where
   looper_alone name content =
       record { list = (record { token = 0; name = name; next = None; content = content }) ∷ []; preferred = None; next_token = 1 }
 
+  -- ---- described handlers, each with its name, its next handler and what it holds: they have the tokens from 0 on, in order
+  abbrev pub numbered_rows : ℕ → List (List ℕ × Option ℕ × R) → List (HandlerData R)
+  numbered_rows token [] = []
+  numbered_rows token (x ∷ xs) =
+      (record { token = token; name = x.0; next = x.1; content = x.2 }) ∷ numbered_rows (token + 1) xs
+
+  abbrev pub from_rows : List (List ℕ × Option ℕ × R) → Option ℕ → HandlersData R
+  from_rows rows preferred = record { list = numbered_rows 0 rows; preferred = preferred; next_token = length rows }
+
   -- ---- adding: the new one stands last, and its next handler is the looper
   abbrev pub add_fault : HandlersData R → List ℕ → Option HandlerFault
   add_fault s name =

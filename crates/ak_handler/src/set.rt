@@ -1,9 +1,9 @@
 ghost use Rattle.std.specs.Prelude.{◌≡◌, ◌<◌, Some, length, is_some, IfOk, IfSome, option_map};
 ghost use Rattle.std.specs.Option.{option_copied_mut};
 ghost use Rattle.std.specs.Borrow.{sem};
-ghost use Rattle.ak_handler.specs.Changes.{looper_alone, content_of};
+ghost use Rattle.ak_handler.specs.Changes.{looper_alone, content_of, from_rows, numbered_rows};
 ghost use Rattle.ak_handler.specs.Handlers.{handler_of, next_in, place_of, token_at, token_named};
-ghost use Rattle.ak_handler.specs.Seen.{handler_seen};
+ghost use Rattle.ak_handler.specs.Seen.{handler_seen, list_seen};
 
 use crate::rows::{Row, place_with, row_with, token_with_name};
 use ak_base::{NoMemory, Text};
@@ -57,6 +57,24 @@ impl<R: Drop> HandlerSet<R> {
             rows,
             preferred: None,
             next_token: 1,
+        })
+    }
+
+    /// The handlers of these names, next handlers and contents, with the tokens 0, 1, 2 and so on. The first
+    /// is the looper.
+    pub fn from_rows(
+        alloc: Global,
+        rows: Vec<(Text, Option<u64>, R)>,
+        preferred: Option<u64>,
+    ) -> Result<HandlerSet<R>, NoMemory>
+        requires { IsHandlers (from_rows rows.items preferred) }
+        ensures { IfOk result (λ s. s ≡ from_rows rows.items preferred) }
+    {
+        let next_token = rows.len() as u64;
+        Ok(HandlerSet {
+            rows: numbered(alloc, rows)?,
+            preferred,
+            next_token,
         })
     }
 
@@ -155,4 +173,24 @@ impl<R: Drop> HandlerSet<R> {
     {
         row_with(&self.rows, token)
     }
+}
+
+// The described rows, with the tokens from 0 on.
+fn numbered<R: Drop>(
+    alloc: Global,
+    described: Vec<(Text, Option<u64>, R)>,
+) -> Result<Vec<Row<R>>, NoMemory>
+    ensures { IfOk result (λ rows. list_seen rows.items ≡ numbered_rows 0 described.items) }
+{
+    let mut rows = Vec::with_capacity(alloc, described.len())?;
+    for (name, next, content) in described {
+        let token = rows.len() as u64;
+        rows.push(Row {
+            token,
+            name,
+            next,
+            content,
+        })?;
+    }
+    Ok(rows)
 }

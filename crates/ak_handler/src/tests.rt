@@ -1,4 +1,4 @@
-ghost use Rattle.std.specs.Prelude.{◌≡◌, ◌<◌, ◌^◌, is_some, IsTrue, IsFalse, IfOk};
+ghost use Rattle.std.specs.Prelude.{◌≡◌, ◌≢◌, ◌<◌, ◌^◌, is_some, IsTrue, IsFalse, IfOk};
 ghost use Rattle.ak_handler.specs.Changes.{content_of, with_content};
 
 use super::*;
@@ -6,7 +6,9 @@ use ak_base::Text;
 use std::alloc::Global;
 use std::test::Fail;
 
-fn named(alloc: Global, name: &[u8]) -> Result<Text, Fail> {
+fn named(alloc: Global, name: &[u8]) -> Result<Text, Fail>
+    ensures { IfOk result (λ text. text ≡ name.now) }
+{
     Ok(Text::from_bytes(alloc, name)?)
 }
 
@@ -61,6 +63,49 @@ fn handlers_are_looked_up(rt: HostRuntime) -> Result<(), Fail> {
     assert_eq!(rt; set.next_of(2), Some(0));
     assert_eq!(rt; set.next_of(3), None);
     chains_are_whole::<u32>();
+    Ok(())
+}
+
+// A looper, and two handlers of which the second asks the first.
+fn looper_and_two(
+    alloc: Global,
+    looper: Text,
+    first: Text,
+    second: Text,
+) -> Result<HandlerSet<u32>, Fail>
+    requires first { looper ≢ first }
+    requires second { looper ≢ second }
+    requires differ { first ≢ second }
+{
+    let mut rows = Vec::with_capacity(alloc, 3)?;
+    rows.push((looper, None, 10))?;
+    rows.push((first, Some(0), 11))?;
+    rows.push((second, Some(1), 12))?;
+    Ok(HandlerSet::from_rows(alloc, rows, Some(1))?)
+}
+
+#[test]
+fn described_handlers_have_tokens_in_order(rt: HostRuntime) -> Result<(), Fail> {
+    let alloc = rt.alloc();
+    let mut set = looper_and_two(
+        alloc,
+        named(alloc, b"looper")?,
+        named(alloc, b"a")?,
+        named(alloc, b"b")?,
+    )?;
+    assert_eq!(rt; set.len(), 3);
+    assert_eq!(rt; set.preferred(), Some(1));
+    let rows: [(u64, &[u8], Option<u64>, u32); 3] = [
+        (0, b"looper", None, 10),
+        (1, b"a", Some(0), 11),
+        (2, b"b", Some(1), 12),
+    ];
+    for (token, name, next, content) in rows {
+        assert_eq!(rt; set.by_name(&named(alloc, name)?), Some(token));
+        assert_eq!(rt; set.next_of(token), next);
+        assert_eq!(rt; set.by_token(token).copied(), Some(content));
+    }
+    assert_eq!(rt; set.add(named(alloc, b"c")?, 13), Ok(3));
     Ok(())
 }
 
