@@ -1,4 +1,5 @@
 pub mod Adding
+pub mod Births
 pub mod Chains
 pub mod Holding
 pub mod Linking
