@@ -1,5 +1,6 @@
 pub mod Asked
 pub mod Delivered
+pub mod Forwarded
 pub mod Leading
 pub mod Mapped
 pub mod MappedFilters
@@ -7,3 +8,4 @@ pub mod Passed
 pub mod Steps
 pub mod Takers
 pub mod Targets
+pub mod Within

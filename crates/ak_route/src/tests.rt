@@ -139,9 +139,10 @@ fn routed(
     mut message: Message,
 ) -> Result<(Route, u32, Code), Fail> {
     let loopers = vec![in alloc; text(alloc, b"demo")?, text(alloc, b"work")?]?;
-    let count = if own { 2 } else { 0 };
-    let place = Place {
-        loopers: &loopers.as_slice()[..count],
+    let place = if own {
+        Place::own(loopers.as_slice())
+    } else {
+        Place::other()
     };
     let route = route(set, common, &mut message, true, false, first, &place);
     Ok((route, message.popped(), message.what()))
