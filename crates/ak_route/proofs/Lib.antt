@@ -2,7 +2,6 @@ pub mod Asked
 pub mod Delivered
 pub mod Leading
 pub mod Mapped
-pub mod MappedFilters
 pub mod Passed
 pub mod Steps
 pub mod Takers

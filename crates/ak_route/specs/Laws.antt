@@ -9,9 +9,9 @@ use Rattle.ak_property.specs.HandlerRow.{RowData}
 use Rattle.ak_route.specs.declared.outcome.Taker.{Taker}
 use Rattle.ak_route.specs.declared.outcome.Route.TheVariants as route
 use Rattle.ak_route.specs.Handlers.{row_of, first_target}
-use Rattle.ak_route.specs.Resolving.{Resolved, at_handler, resolve}
+use Rattle.ak_route.specs.Resolving.{at_handler, resolve}
 use Rattle.ak_route.specs.Filtering.{Passing, Origin, run_list, settle_from, asked_already}
-use Rattle.ak_route.specs.Routing.{Routed, route_of}
+use Rattle.ak_route.specs.Routing.{route_of}
 
 -- ---- filters
 -- the handlers whose filters run, in order

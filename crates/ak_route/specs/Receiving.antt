@@ -1,5 +1,5 @@
 -- Which handler of a chain takes a message, and as what.
-use Rattle.std.specs.Prelude.{ℕ, ◌==◌, ◌&&◌, ◌||◌, nat_lt, Bool, true, false, if◌then◌else◌, List, [], ◌∷◌, length, codes, Option, None, Some, option_map, option_and_then}
+use Rattle.std.specs.Prelude.{ℕ, ◌==◌, ◌&&◌, ◌||◌, nat_lt, Bool, false, if◌then◌else◌, List, [], ◌∷◌, length, codes, Option, None, Some, option_map}
 use Rattle.std.specs.List.{position}
 use Rattle.ak_message.specs.declared.specifier.Specifier.{Specifier}
 use Rattle.ak_message.specs.Message.{MessageData}
