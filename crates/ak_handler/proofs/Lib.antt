@@ -1,5 +1,6 @@
 pub mod Adding
 pub mod Chains
+pub mod Halving
 pub mod Holding
 pub mod Linking
 pub mod Looking
