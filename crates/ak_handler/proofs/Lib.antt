@@ -1,6 +1,7 @@
 pub mod Adding
 pub mod Births
 pub mod Chains
+pub mod Halving
 pub mod Holding
 pub mod Linking
 pub mod Looking

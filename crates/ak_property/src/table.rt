@@ -1,4 +1,4 @@
-ghost use Rattle.std.specs.Prelude.{◌≡◌, ◌++◌, ◌∷◌, [], ◌<◌, ◌≤◌, ◌↔◌, length, OnOk, OnErr, IsErrOf};
+ghost use Rattle.std.specs.Prelude.{◌≡◌, ◌++◌, ◌∷◌, [], ◌<◌, ◌≤◌, ◌↔◌, length, IfSome, OnOk, OnErr, IsErrOf};
 ghost use Rattle.ak_property.specs.declared.table.TheConstants.{ROW_LIMIT};
 ghost use Rattle.ak_property.specs.Table.{allows, codes_of, fits, match_of};
 
@@ -87,7 +87,8 @@ impl PropertyTable {
     /// specifiers that are left, less one: while more than one is left, no command is carried out. `None` where no
     /// row fits. Takes no memory.
     pub fn find_match(&self, what: Code, index: u32, form: u32, name: &Text) -> Option<usize>
-        ensures { result ≡ match_of self.now what.0 index form name.now }
+        ensures value { result ≡ match_of self.now what.0 index form name.now }
+        ensures within { IfSome result (λ place. place < ROW_LIMIT) }
     {
         self.rows
             .iter()

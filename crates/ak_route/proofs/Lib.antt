@@ -3,7 +3,6 @@ pub mod Delivered
 pub mod Forwarded
 pub mod Leading
 pub mod Mapped
-pub mod MappedFilters
 pub mod Passed
 pub mod Steps
 pub mod Takers

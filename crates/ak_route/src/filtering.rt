@@ -48,7 +48,7 @@ pub(crate) fn settle<R: HandlerRow + Drop>(
 }
 
 // The filters of the target, where it is there.
-#[tactic(auto, using(crate::proofs::MappedFilters::handlers_as_seen))]
+#[tactic(auto, using(crate::proofs::Mapped::handlers_as_seen))]
 fn run_own<R: HandlerRow + Drop>(
     set: &HandlerSet<R>,
     origin: Origin,

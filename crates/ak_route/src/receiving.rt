@@ -15,7 +15,7 @@ use ak_property::HandlerRow;
 use ak_specifier::{current, left};
 
 /// The first handler that takes it of the chain that begins with the target.
-#[tactic(auto, using(crate::proofs::MappedFilters::handlers_as_seen, crate::proofs::Takers::receiving_steps))]
+#[tactic(auto, using(crate::proofs::Mapped::handlers_as_seen, crate::proofs::Takers::receiving_steps))]
 pub(crate) fn receive<R: HandlerRow + Drop>(
     set: &HandlerSet<R>,
     loopers: &[Text],
@@ -79,10 +79,7 @@ fn property_place<R: HandlerRow>(row: &R, m: &Message) -> Option<u32>
     if !is_property_command(m.what()) {
         return None;
     }
-    let table = row.table();
-    let place = row_match(table, m, current(m).ok()?)?;
-    // It fits: a table has at most 64 rows.
-    let _ = table.as_slice();
+    let place = row_match(row.table(), m, current(m).ok()?)?;
     Some(place as u32)
 }
 

@@ -55,7 +55,7 @@ fn first_target<R: HandlerRow + Drop>(set: &HandlerSet<R>, first: Target) -> Opt
     }
 }
 
-#[tactic(auto, using(crate::proofs::MappedFilters::held_there))]
+#[tactic(auto, using(crate::proofs::Mapped::held_there))]
 fn is_there<R: HandlerRow + Drop>(set: &HandlerSet<R>, token: u64) -> bool
     ensures { result ≡ is_there (handlers_seen R.told set.now).list token }
 {

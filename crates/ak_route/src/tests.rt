@@ -6,7 +6,7 @@ use crate::routing::route;
 use ak_base::{Code, Items, Text};
 use ak_filter::{DeliveryIs, Filter, FilterList, SourceIs};
 use ak_handler::HandlerSet;
-use ak_message::{At, Kind, Message, Specifier, Target};
+use ak_message::{At, Kind, Message, Specifier, Target, Value};
 use ak_property::{HandlerRow, PropertyRow, PropertyTable};
 use ak_specifier::add_specifier;
 use std::alloc::Global;
@@ -105,16 +105,28 @@ fn form(alloc: Global, letter: u8) -> Result<At, Fail> {
 }
 
 // Two letters for each specifier, in the order of adding.
-fn message(alloc: Global, what: Code, specifiers: &[u8]) -> Result<Message, Fail> {
-    let mut message = Message::new(alloc, what);
+fn add_all(alloc: Global, message: &mut Message, specifiers: &[u8]) -> Result<(), Fail> {
     for pair in specifiers.chunks_exact(2) {
         let specifier = Specifier {
             property: text(alloc, property(pair[0]))?,
             at: form(alloc, pair[1])?,
         };
-        add_specifier(alloc, &mut message, specifier)?;
+        add_specifier(alloc, message, specifier)?;
     }
+    Ok(())
+}
+
+fn message(alloc: Global, what: Code, specifiers: &[u8]) -> Result<Message, Fail> {
+    let mut message = Message::new(alloc, what);
+    add_all(alloc, &mut message, specifiers)?;
     Ok(message)
+}
+
+// Adds a specifier of `Title` that has the code of a form, and not what that form asks for.
+fn add_bad(alloc: Global, message: &mut Message, form: u32) -> Result<(), Fail> {
+    let mut specifier = Message::new(alloc, Code(form));
+    specifier.add(b"property", Value::Text(text(alloc, b"Title")?))?;
+    Ok(message.add(b"specifiers", Value::from_message(alloc, specifier)?)?)
 }
 
 // The looper `demo` with `Count`, and the handlers `a` (1) and `b` (2) with `Title`.
@@ -310,6 +322,109 @@ fn the_preferred_handler_is_asked_first(rt: HostRuntime) -> Result<(), Fail> {
         routed(alloc, &set, &common, false, Target::Token(1), title)?,
         (Route::Dropped, 0, Code::GET)
     );
+    Ok(())
+}
+
+#[test]
+fn badly_formed_specifiers_lead_nowhere(rt: HostRuntime) -> Result<(), Fail> {
+    let alloc = rt.alloc();
+    let mut set = demo(alloc)?;
+    let common = FilterList::new(alloc);
+    let firsts = [
+        (Some(1), Target::Preferred),
+        (None, Target::Preferred),
+        (None, Target::Token(0)),
+        (None, Target::Token(2)),
+    ];
+    // By index without one, by name without one, and of no form.
+    for form in [2, 6, 9] {
+        for (preferred, first) in firsts {
+            set.set_preferred(preferred)?;
+            for what in [Code::GET, Code::QUIT_REQUESTED, PING] {
+                let mut bad = message(alloc, what, b"")?;
+                add_bad(alloc, &mut bad, form)?;
+                assert_eq!(rt;
+                    routed(alloc, &set, &common, true, first, bad)?,
+                    (Route::NotUnderstood, 0, what),
+                    "form {form}"
+                );
+            }
+        }
+    }
+    Ok(())
+}
+
+#[test]
+fn badly_formed_specifiers_count_once_they_are_current(rt: HostRuntime) -> Result<(), Fail> {
+    let alloc = rt.alloc();
+    let set = demo(alloc)?;
+    let common = FilterList::new(alloc);
+    let row = Taker::Property(0);
+    let rows: [(u32, Code, &[u8], Route, u32); 5] = [
+        (1, Code::GET, b"H1", deliver(1, row), 1),
+        (2, Code::GET, b"H1", Route::NotUnderstood, 1),
+        (9, Code::GET, b"H1", Route::NotUnderstood, 1),
+        (2, Code::GET, b"C.", deliver(0, row), 0),
+        (9, Code::SET, b"C.", deliver(0, row), 0),
+    ];
+    for (form, what, later, route, popped) in rows {
+        let mut message = Message::new(alloc, what);
+        add_bad(alloc, &mut message, form)?;
+        add_all(alloc, &mut message, later)?;
+        assert_eq!(rt;
+            routed(alloc, &set, &common, false, Target::Preferred, message)?,
+            (route, popped, what),
+            "form {form}"
+        );
+    }
+    // A message without specifiers, or with well formed ones alone, goes to the looper as ever.
+    let looper = Target::Token(0);
+    let rows: [(Code, &[u8], Taker); 3] = [
+        (Code::QUIT_REQUESTED, b"", Taker::BuiltIn),
+        (Code::GET, b"C.", row),
+        (Code::GET, b"S.", Taker::BuiltIn),
+    ];
+    for (what, specifiers, taker) in rows {
+        let message = message(alloc, what, specifiers)?;
+        assert_eq!(rt;
+            routed(alloc, &set, &common, false, looper, message)?,
+            (deliver(0, taker), 0, what)
+        );
+    }
+    Ok(())
+}
+
+#[test]
+fn the_looper_is_next_to_one_whose_next_is_removed(rt: HostRuntime) -> Result<(), Fail> {
+    let alloc = rt.alloc();
+    let mut set = demo(alloc)?;
+    let common = FilterList::new(alloc);
+    let first = Target::Token(1);
+    set.set_next(2, None)?;
+    set.set_next(1, Some(2))?;
+    let rows = [
+        (PING, deliver(2, Taker::Reaction(0)), Route::NotUnderstood),
+        (
+            Code::QUIT_REQUESTED,
+            Route::NotUnderstood,
+            deliver(0, Taker::BuiltIn),
+        ),
+    ];
+    for (what, with, _) in rows {
+        let message = message(alloc, what, b"")?;
+        assert_eq!(rt;
+            routed(alloc, &set, &common, false, first, message)?,
+            (with, 0, what)
+        );
+    }
+    assert_eq!(rt; set.remove(2).is_ok(), true);
+    for (what, _, without) in rows {
+        let message = message(alloc, what, b"")?;
+        assert_eq!(rt;
+            routed(alloc, &set, &common, false, first, message)?,
+            (without, 0, what)
+        );
+    }
     Ok(())
 }
 
