@@ -37,10 +37,6 @@ property_taker row m sp = option_map taker.Property (property_place row m sp)
 abbrev pub reaction_taker : RowData → MessageData → Option Taker
 reaction_taker row m = option_map taker.Reaction (position (λ code. code == m.what) row.reactions)
 
--- as a property, else as a reaction
-abbrev pub row_taker : RowData → MessageData → Option Taker
-row_taker row m = or_else (property_taker row m (current_of m)) (reaction_taker row m)
-
 -- what every handler takes
 abbrev pub handler_takes : MessageData → Option Specifier → Bool
 handler_takes m None = left_of m == 0 && is_code m.what (codes "SUIT")
