@@ -37,13 +37,12 @@ pub struct FilterList {
 impl Model for FilterList {
     ghost use Rattle.std.specs.Prelude.{◌≤◌, List, length};
     ghost use Rattle.ak_filter.specs.declared.filter.Filter.{Filter};
-    ghost use Rattle.ak_filter.specs.declared.list.TheConstants.{FILTER_LIMIT};
 
     ghost Value = { List Filter };
 
     ghost view = { λ l. l.filters.items };
 
-    ghost invariant = { λ l. length l.filters.items ≤ FILTER_LIMIT };
+    ghost invariant = { λ l. length l.filters.items ≤ 32 };
 }
 
 impl FilterList {
@@ -60,7 +59,7 @@ impl FilterList {
     /// dropped.
     pub fn push(&mut self, f: Filter) -> Result<(), FilterFault>
         ensures limit { FILTER_LIMIT ≡ 32 }
-        ensures filter_limit { IsErrOf result FilterFault.FilterLimit ↔ (length self.old ≡ FILTER_LIMIT) }
+        ensures filter_limit { IsErrOf result FilterFault.FilterLimit ↔ (length self.old ≡ 32) }
         ensures ok { OnOk result (self.new ≡ self.old ++ f ∷ []) }
         ensures err { OnErr result (self.new ≡ self.old) }
     {
@@ -79,6 +78,7 @@ impl FilterList {
         Ok(FilterList { filters })
     }
 
+    /// The filters in their order.
     pub fn as_slice(&self) -> &[Filter]
         ensures value { result.now ≡ self.now }
         ensures limit { length self.now ≤ 32 }

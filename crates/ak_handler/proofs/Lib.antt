@@ -1,6 +1,8 @@
 pub mod Adding
+pub mod Births
 pub mod Chains
 pub mod Describing
+pub mod Halving
 pub mod Holding
 pub mod Linking
 pub mod Looking

@@ -1,12 +1,12 @@
 -- Looking up among the rows is looking up among the handlers.
-use Rattle.std.proofs.Common.{◌≡◌, ◌+◌, Bool, true, false, cond, not, List, [], ◌∷◌, length, map, find, position, option_map, Option, None, Some, IfSome, All, is_some, nat_lt, ℕ, ◌==◌, bytes_eq, Bor, refl, sym, ap, ◌∙◌, ◌<◌, one-add, ltb-true, lt-ltb, arith}
+use Rattle.std.proofs.Common.{◌≡◌, ◌+◌, Bool, true, false, cond, not, List, [], ◌∷◌, length, map, find, position, option_map, Option, None, Some, IfSome, All, is_some, nat_lt, ℕ, bytes_eq, refl, sym, ap, ◌∙◌, ◌<◌, one-add, ltb-true, lt-ltb, arith}
 use Prim.Native.Nat.compare
 use Rattle.std.specs.List.{position_or_len}
 use Rattle.std.proofs.lemmas.Bool.{cond_both}
 use Rattle.std.proofs.lemmas.List.{length-map}
 use Rattle.std.proofs.lemmas.List.Elements.{All-head, All-tail}
 use Rattle.ak_handler.specs.declared.rows.Row.{Row}
-use Rattle.ak_handler.specs.Handlers.{handler_of, has_token, has_name, token_named}
+use Rattle.ak_handler.specs.Handlers.{has_name, token_named}
 use Rattle.ak_handler.specs.Seen.{handler_seen, list_seen}
 
 module _ {A B : Type 0} (f : A → B) (p : B → Bool) where
@@ -63,10 +63,6 @@ option_map-map f g None = refl
 option_map-map f g (Some x) = refl
 
 module _ {R : Type 0} where
-  pub row_found : (rows : List (Row R)) (token : ℕ) (r : Option (Bor (Row R))) → option_map (λ x. x.now) r ≡ find (λ row. row.token == token) rows → option_map (λ x. handler_seen x.now) r ≡ handler_of (list_seen rows) token
-  row_found rows token r e =
-      sym (option_map-map handler_seen (λ x. x.now) r) ∙ ap (option_map handler_seen) e ∙ sym (find-map handler_seen (has_token token) rows)
-
   pub name_found : (rows : List (Row R)) (name : List ℕ) → token_named (list_seen rows) name ≡ option_map (λ row. row.token) (find (λ row. bytes_eq row.name name) rows)
   name_found rows name =
       ap (option_map (λ h. h.token)) (find-map handler_seen (has_name name) rows) ∙ option_map-map (λ h. h.token) handler_seen (find (λ row. bytes_eq row.name name) rows)

@@ -37,7 +37,7 @@ impl<R: Drop> HandlerSet<R> {
 
     /// Removes the handler with that token, and answers what it held. Those whose next it was have the
     /// looper as next; where it was preferred, none is. `BadHandler` where there is none, `IsLooper` for
-    /// token 0. An `Err` changes nothing. Takes no memory.
+    /// token 0. An `Err` changes nothing. It has no answer for want of memory.
     pub fn remove(&mut self, token: u64) -> Result<R, HandlerFault>
         ensures refused { IfSome (remove_fault self.old token) (λ f. result ≡ Err f) }
         ensures only { IfNone (remove_fault self.old token) (IsOk result) }
@@ -58,7 +58,7 @@ impl<R: Drop> HandlerSet<R> {
     }
 
     /// Makes the handler with that token the preferred one, or none. `BadHandler` where it is not there. An
-    /// `Err` changes nothing. Takes no memory.
+    /// `Err` changes nothing. It has no answer for want of memory.
     pub fn set_preferred(&mut self, token: Option<u64>) -> Result<(), HandlerFault>
         ensures refused { IfSome (preferred_fault self.old token) (λ f. result ≡ Err f) }
         ensures only { IfNone (preferred_fault self.old token) (IsOk result) }

@@ -6,3 +6,11 @@ ghost use Rattle.ak_handler.specs.Laws as law;
 pub fn chains_are_whole<R>()
     ensures { law.ChainsAreWhole R }
 {}
+
+/// Whatever changes are made, the tokens that they give rise, each handler has one of these or was there
+/// before, and no token that was given is there again once its handler is removed.
+pub fn tokens_are_never_used_again<R>()
+    ensures rising { law.TokensRise R }
+    ensures given { law.HandlersAreGivenTokens R }
+    ensures once { law.NoTokenIsUsedAgain R }
+{}

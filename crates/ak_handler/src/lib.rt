@@ -13,5 +13,5 @@ mod set;
 mod tests;
 
 pub use fault::HandlerFault;
-pub use laws::chains_are_whole;
+pub use laws::{chains_are_whole, tokens_are_never_used_again};
 pub use set::{HANDLER_LIMIT, HandlerSet, LOOPER};

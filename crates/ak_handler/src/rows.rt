@@ -1,7 +1,7 @@
 //! The handlers as the code holds them, in the order in which they were added.
 ghost use Rattle.std.specs.Prelude.{◌≡◌, ◌==◌, find, position, map, option_map, bytes_eq};
 ghost use Rattle.ak_handler.specs.Changes.{relinked, unless};
-ghost use Rattle.ak_handler.specs.Seen.{handler_seen, list_seen};
+ghost use Rattle.ak_handler.specs.Seen.{handler_seen, list_seen, Rise};
 
 use crate::set::LOOPER;
 use ak_base::Text;
@@ -14,16 +14,12 @@ pub(crate) struct Row<R> {
     pub(crate) content: R,
 }
 
-pub(crate) fn row_with<R>(rows: &[Row<R>], token: u64) -> Option<&Row<R>>
-    ensures { option_map (λ x. x.now) result ≡ find (λ row. row.token == token) rows.now }
-{
-    rows.iter().find(|row| row.token == token)
-}
-
+/// The place of the row with that token, by halves.
 pub(crate) fn place_with<R>(rows: &[Row<R>], token: u64) -> Option<usize>
+    requires { Rise rows.now }
     ensures { result ≡ position (λ row. row.token == token) rows.now }
 {
-    rows.iter().position(|row| row.token == token)
+    rows.binary_search_by_key(&token, |row| row.token).ok()
 }
 
 pub(crate) fn token_with_name<R>(rows: &[Row<R>], name: &[u8]) -> Option<u64>

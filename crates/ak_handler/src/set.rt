@@ -5,7 +5,7 @@ ghost use Rattle.ak_handler.specs.Changes.{looper_alone, content_of, from_rows, 
 ghost use Rattle.ak_handler.specs.Handlers.{handler_of, next_in, place_of, token_at, token_named};
 ghost use Rattle.ak_handler.specs.Seen.{handler_seen, list_seen};
 
-use crate::rows::{Row, place_with, row_with, token_with_name};
+use crate::rows::{Row, place_with, token_with_name};
 use ak_base::{NoMemory, Text};
 use std::alloc::Global;
 use std::marker::Model;
@@ -171,7 +171,8 @@ impl<R: Drop> HandlerSet<R> {
     fn row(&self, token: u64) -> Option<&Row<R>>
         ensures { option_map (λ x. handler_seen x.now) result ≡ handler_of self.now.list token }
     {
-        row_with(&self.rows, token)
+        let place = self.place(token)?;
+        Some(&self.rows[place])
     }
 }
 

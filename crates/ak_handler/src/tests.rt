@@ -62,7 +62,37 @@ fn handlers_are_looked_up(rt: HostRuntime) -> Result<(), Fail> {
     assert_eq!(rt; set.next_of(1), Some(0));
     assert_eq!(rt; set.next_of(2), Some(0));
     assert_eq!(rt; set.next_of(3), None);
+    Ok(())
+}
+
+#[test]
+fn the_laws_are_called() {
     chains_are_whole::<u32>();
+    tokens_are_never_used_again::<u32>();
+}
+
+#[test]
+fn changes_are_made_one_after_the_other(rt: HostRuntime) -> Result<(), Fail> {
+    let alloc = rt.alloc();
+    let mut set = with_a_and_b(alloc)?;
+    assert_eq!(rt; set.set_next(1, Some(2)), Ok(()));
+    assert_eq!(rt; set.set_next(2, Some(1)), Err(HandlerFault::ChainLoop));
+    assert_eq!(rt; set.set_next(2, Some(2)), Err(HandlerFault::ChainLoop));
+    assert_eq!(rt; set.set_preferred(Some(1)), Ok(()));
+    assert_eq!(rt; set.remove(1), Ok(11));
+    assert_eq!(rt; set.set_next(0, Some(2)), Err(HandlerFault::IsLooper));
+    assert_eq!(rt; set.preferred(), None);
+    assert_eq!(rt; set.add(named(alloc, b"c")?, 13), Ok(3));
+    assert_eq!(rt;
+        set.add(named(alloc, b"b")?, 14),
+        Err(HandlerFault::NameInUse)
+    );
+    // Left are the looper, b and c, each with the looper as next.
+    assert_eq!(rt; set.len(), 3);
+    for (index, token, next) in [(0, 0, None), (1, 2, Some(0)), (2, 3, Some(0))] {
+        assert_eq!(rt; set.at(index), Some(token));
+        assert_eq!(rt; set.next_of(token), next);
+    }
     Ok(())
 }
 

@@ -1,4 +1,4 @@
-ghost use Rattle.std.specs.Prelude.{◌≡◌, ◌++◌, ◌∷◌, [], ◌<◌, ◌≤◌, ◌↔◌, length, IfOk, OnOk, OnErr, IsErrOf};
+ghost use Rattle.std.specs.Prelude.{◌≡◌, ◌++◌, ◌∷◌, [], ◌<◌, ◌≤◌, ◌↔◌, length, IfOk, IfSome, OnOk, OnErr, IsErrOf};
 ghost use Rattle.ak_property.specs.declared.table.TheConstants.{ROW_LIMIT};
 ghost use Rattle.ak_property.specs.Table.{allows, codes_of, fits, match_of};
 
@@ -48,14 +48,13 @@ pub struct PropertyTable {
 
 impl Model for PropertyTable {
     ghost use Rattle.std.specs.Prelude.{◌≤◌, List, length};
-    ghost use Rattle.ak_property.specs.declared.table.TheConstants.{ROW_LIMIT};
     ghost use Rattle.ak_property.specs.declared.table.PropertyRow.{PropertyRow};
 
     ghost Value = { List PropertyRow };
 
     ghost view = { λ t. t.rows.items };
 
-    ghost invariant = { λ t. length t.rows.items ≤ ROW_LIMIT };
+    ghost invariant = { λ t. length t.rows.items ≤ 64 };
 }
 
 impl PropertyTable {
@@ -71,7 +70,7 @@ impl PropertyTable {
     /// Adds a row at the end. `RowLimit` at 64 rows. An `Err` changes nothing, and the row is dropped.
     pub fn add_row(&mut self, row: PropertyRow) -> Result<(), RowFault>
         ensures limit { ROW_LIMIT ≡ 64 }
-        ensures row_limit { IsErrOf result RowFault.RowLimit ↔ (length self.old ≡ ROW_LIMIT) }
+        ensures row_limit { IsErrOf result RowFault.RowLimit ↔ (length self.old ≡ 64) }
         ensures ok { OnOk result (self.new ≡ self.old ++ row ∷ []) }
         ensures err { OnErr result (self.new ≡ self.old) }
     {
@@ -87,7 +86,8 @@ impl PropertyTable {
     /// specifiers that are left, less one: while more than one is left, no command is carried out. `None` where no
     /// row fits. Takes no memory.
     pub fn find_match(&self, what: Code, index: u32, form: u32, name: &Text) -> Option<usize>
-        ensures { result ≡ match_of self.now what.0 index form name.now }
+        ensures value { result ≡ match_of self.now what.0 index form name.now }
+        ensures within { IfSome result (λ place. place < 64) }
     {
         self.rows
             .iter()
@@ -105,7 +105,7 @@ impl PropertyTable {
     /// The rows in order.
     pub fn as_slice(&self) -> &[PropertyRow]
         ensures value { result.now ≡ self.now }
-        ensures limit { length self.now ≤ ROW_LIMIT }
+        ensures limit { length self.now ≤ 64 }
     {
         self.rows.as_slice()
     }

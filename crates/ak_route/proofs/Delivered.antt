@@ -1,5 +1,5 @@
 -- A message is delivered to a handler of the set, where its specifiers lead to one.
-use Rattle.std.proofs.Common.{◌≡◌, ℕ, List, [], ◌∷◌, length, All, Contains, Option, None, Some, IfSome, option_map, refl, subst}
+use Rattle.std.proofs.Common.{◌≡◌, ℕ, List, [], ◌∷◌, All, Contains, Option, None, Some, IfSome, option_map, refl, subst}
 use Rattle.std.proofs.lemmas.List.Elements.{All-head, All-tail}
 use Rattle.ak_filter.specs.declared.filter.Filter.{Filter}
 use Rattle.ak_message.specs.declared.address.Target.{Target}
@@ -11,7 +11,7 @@ use Rattle.ak_route.specs.declared.outcome.Taker.{Taker}
 use Rattle.ak_route.specs.declared.outcome.Route.TheVariants as route
 use Rattle.ak_route.specs.Handlers.{first_target}
 use Rattle.ak_route.specs.Resolving.{Destination, at_handler, at_looper, nowhere, resolve}
-use Rattle.ak_route.specs.Filtering.{Passing, Origin, settle}
+use Rattle.ak_route.specs.Filtering.{Passing, Origin, passing_after, settle}
 use Rattle.ak_route.specs.Receiving.{Received, or_else, receive, received, taker_of}
 use Rattle.ak_route.specs.Routing.{delivered, filtered, from_target, route_received}
 use Rattle.ak_route.specs.Laws.{ResolvedIsThere, TakerIsThere}
@@ -45,7 +45,7 @@ module _ (s : HandlersData RowData) (loopers : List (List ℕ)) where
 
     by_place : (place : Destination) (m : MessageData) → ((at : ℕ) → place ≡ at_handler at → Contains (tokens_of s.list) at) → (filtered s loopers o common (record { place = place; message = m })).route ≡ route.Deliver token taker → Contains (tokens_of s.list) token
     by_place (at_handler at) m there e =
-        by_passing m (settle s o common (record { target = at; what = m.what })) (settle_kept s o (length s.list) common (record { target = at; what = m.what }) (there at refl)) e
+        by_passing m (passing_after (settle s o common (record { target = at; what = m.what }))) (settle_kept s o common (record { target = at; what = m.what }) (there at refl)) e
     by_place (at_looper i) m there e = absurd cc
     by_place nowhere m there e = absurd cc
 

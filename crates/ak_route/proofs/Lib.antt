@@ -1,9 +1,10 @@
 pub mod Asked
 pub mod Delivered
+pub mod Forwarded
 pub mod Leading
 pub mod Mapped
-pub mod MappedFilters
 pub mod Passed
 pub mod Steps
 pub mod Takers
 pub mod Targets
+pub mod Within

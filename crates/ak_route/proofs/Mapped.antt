@@ -1,12 +1,12 @@
 -- What routing sees of handlers keeps their tokens, names and next handlers, and so all that is looked up by them.
-use Rattle.std.proofs.Common.{◌≡◌, ℕ, zero, suc, List, [], ◌∷◌, length, map, find, slice_get, option_map, option_and_then, unwrap_or, Option, None, Some, is_some, refl, sym, ap, ◌∙◌}
+use Rattle.std.proofs.Common.{◌≡◌, ℕ, zero, suc, List, ◌∷◌, length, map, find, option_map, option_and_then, unwrap_or, Option, None, Some, is_some, refl, sym, ap, ◌∙◌}
 use Rattle.std.proofs.lemmas.List.{length-map}
-use Rattle.std.proofs.lemmas.Option.{slice_get-map}
-use Rattle.ak_handler.specs.Handlers.{HandlerData, HandlersData, handler_of, has_token, has_name, tokens_of, token_named, token_at, next_in, chain_of, chain_from}
+use Rattle.ak_handler.specs.Handlers.{HandlerData, HandlersData, handler_of, has_token, has_name, token_named, next_in, chain_of, chain_from}
 use Rattle.ak_handler.specs.Changes.{content_of, is_there}
 use Rattle.ak_handler.proofs.Looking.{find-map}
 use Rattle.ak_property.specs.HandlerRow.{RowData}
 use Rattle.ak_route.specs.Handlers.{no_row, row_seen, handlers_seen, row_of}
+use Rattle.ak_route.specs.Filtering.{target_after}
 
 module _ {R : Type 0} (f : R → RowData) where
   -- ---- of one handler that may be there
@@ -27,10 +27,6 @@ module _ {R : Type 0} (f : R → RowData) where
   there_kept (Some h) = refl
 
   -- ---- of a list
-  pub tokens_of-seen : (list : List (HandlerData R)) → tokens_of (map (row_seen f) list) ≡ tokens_of list
-  tokens_of-seen [] = refl
-  tokens_of-seen (h ∷ list) = ap (λ tokens. h.token ∷ tokens) (tokens_of-seen list)
-
   pub length-seen : (list : List (HandlerData R)) → length (map (row_seen f) list) ≡ length list
   length-seen list = length-map list (row_seen f)
 
@@ -48,9 +44,6 @@ module _ {R : Type 0} (f : R → RowData) where
   token_named-seen list name =
       ap (option_map (λ h. h.token)) (find-map (row_seen f) (has_name name) list) ∙ token_kept (find (has_name name) list)
 
-  pub token_at-seen : (list : List (HandlerData R)) (index : ℕ) → token_at (map (row_seen f) list) index ≡ token_at list index
-  token_at-seen list index = ap (option_map (λ h. h.token)) (slice_get-map (row_seen f) list index) ∙ token_kept (slice_get list index)
-
   pub next_in-seen : (list : List (HandlerData R)) (token : ℕ) → next_in (map (row_seen f) list) token ≡ next_in list token
   next_in-seen list token = ap (option_and_then (λ h. h.next)) (handler_of-seen list token) ∙ next_kept (handler_of list token)
 
@@ -63,6 +56,16 @@ module _ {R : Type 0} (f : R → RowData) where
   pub chain_from-seen : (list : List (HandlerData R)) (at : Option ℕ) → chain_from (map (row_seen f) list) at ≡ chain_from list at
   chain_from-seen list at = ap (λ n. chain_of (map (row_seen f) list) n at) (length-seen list) ∙ chain_of-seen list (length list) at
 
+  -- it is there where what it holds is
+  held_kept : {X : Type 0} (g : X → R) (o : Option X) (p : Option (HandlerData R)) → option_map g o ≡ option_map (λ h. h.content) p → is_some o ≡ is_some p
+  held_kept g None None e = refl
+  held_kept g None (Some h) e = absurd cc
+  held_kept g (Some x) None e = absurd cc
+  held_kept g (Some x) (Some h) e = refl
+
+  pub held_there : {X : Type 0} (g : X → R) (o : Option X) (list : List (HandlerData R)) (token : ℕ) → option_map g o ≡ content_of list token → is_some o ≡ is_there (map (row_seen f) list) token
+  held_there g o list token e = held_kept g o (handler_of list token) e ∙ sym (is_there-seen list token)
+
   -- ---- of all handlers
   pub row_of-seen : (s : HandlersData R) (token : ℕ) → row_of (handlers_seen f s) token ≡ unwrap_or (option_map f (content_of s.list token)) no_row
   row_of-seen s token = ap (λ o. unwrap_or o no_row) (content_of-seen s.list token)
@@ -72,3 +75,8 @@ module _ {R : Type 0} (f : R → RowData) where
 
   pub row-missing : (s : HandlersData R) (token : ℕ) → None ≡ content_of s.list token → row_of (handlers_seen f s) token ≡ no_row
   row-missing s token missing = row_of-seen s token ∙ ap (λ o. unwrap_or (option_map f o) no_row) (sym missing)
+
+  pub target_after-seen : (s : HandlersData R) (name : List ℕ) (target : ℕ) → target_after (handlers_seen f s) (Some name) target ≡ unwrap_or (token_named s.list name) target
+  target_after-seen s name target = ap (λ o. unwrap_or o target) (token_named-seen s.list name)
+
+pub ruleset handlers_as_seen = (content_of-seen, token_named-seen, next_in-seen, is_there-seen, length-seen, chain_from-seen)

@@ -1,13 +1,7 @@
 -- Who of a chain takes a message, one handler at a time.
-use Rattle.std.proofs.Common.{◌≡◌, ℕ, zero, suc, ◌+◌, ◌-◌, ◌<◌, ◌≤◌, Bool, true, false, cond, List, length, Option, None, Some, IfSome, Fits, w32, option_map, refl, subst, ap, arith}
+use Rattle.std.proofs.Common.{◌≡◌, ℕ, zero, suc, ◌+◌, ◌-◌, ◌<◌, ◌≤◌, Bool, true, false, cond, List, Option, None, Some, option_map, refl, ap, arith}
 use Rattle.ak_message.specs.declared.specifier.Specifier.{Specifier}
 use Rattle.ak_message.specs.Message.{MessageData}
-use Rattle.ak_message.specs.Specifier.{form_of}
-use Rattle.ak_specifier.specs.Current.{left_of}
-use Rattle.ak_property.specs.declared.table.PropertyRow.{PropertyRow}
-use Rattle.ak_property.specs.Table.{fits}
-use Rattle.ak_handler.proofs.Looking.{position-within}
-use Rattle.ak_route.specs.Matching.{row_match}
 use Rattle.ak_handler.specs.Handlers.{HandlerData, HandlersData, chain_of, next_in}
 use Rattle.ak_property.specs.HandlerRow.{RowData}
 use Rattle.ak_route.specs.Handlers.{no_row}
@@ -28,12 +22,6 @@ no_place m (Some sp) = same_both (is_property_command m.what) None
 -- a handler that is not there takes nothing
 pub nobody_takes : (m : MessageData) (sp : Option Specifier) → or_else (property_taker no_row m sp) (reaction_taker no_row m) ≡ None
 nobody_takes m sp = rw (no_place m sp) refl
-
--- the place of a row fits where there are so few
-pub place_fits : (table : List PropertyRow) (m : MessageData) (sp : Specifier) (place : ℕ) → length table ≤ 64 → row_match table m sp ≡ Some place → Fits w32 place
-place_fits table m sp place few e =
-    let within : place < length table = subst (λ o. IfSome o (λ i. i < length table)) e (position-within (fits m.what (left_of m - 1) (form_of sp.at) sp.property) table) in
-    omega (arith, within, few)
 
 module _ {R : Type 0} (list : List (HandlerData R)) (s : HandlersData RowData) (loopers : List (List ℕ)) (m : MessageData) where
   -- with so many handlers asked

@@ -45,12 +45,24 @@ run_list s o (f ∷ fs) p = option_and_then (run_list s o fs) (run_filter s o f 
 abbrev pub asked_already : List ℕ → ℕ → Bool
 asked_already asked token = list_any (λ t. t == token) asked
 
--- of a target whose filters have not run they run, and so on; so many handlers have not been asked
-abbrev pub settle_from : HandlersData RowData → Origin → ℕ → List ℕ → Passing → Option Passing
-settle_from s o zero asked p = Some p
+-- where the message goes then and its code, and the handlers whose filters ran, the last one first
+pub record Settled : Type 0 where
+  pub passing : Passing
+  pub asked : List ℕ
+
+abbrev pub settled : Passing → List ℕ → Settled
+settled p asked = record { passing = p; asked = asked }
+
+abbrev pub passing_after : Option Settled → Option Passing
+passing_after r = option_map (λ d. d.passing) r
+
+-- where the filters of its target ran the message stays there; else they run, and so on from where they pass it: so many handlers have
+-- not been asked
+abbrev pub settle_from : HandlersData RowData → Origin → ℕ → List ℕ → Passing → Option Settled
+settle_from s o zero asked p = Some (settled p asked)
 settle_from s o (suc n) asked p =
-    if asked_already asked p.target then Some p
+    if asked_already asked p.target then Some (settled p asked)
     else option_and_then (settle_from s o n (p.target ∷ asked)) (run_list s o (row_of s p.target).filters p)
 
-abbrev pub settle : HandlersData RowData → Origin → List Filter → Passing → Option Passing
+abbrev pub settle : HandlersData RowData → Origin → List Filter → Passing → Option Settled
 settle s o common p = option_and_then (settle_from s o (length s.list) []) (run_list s o common p)

@@ -1,6 +1,6 @@
 -- What routing sees of a looper's handlers, and the first target of a message.
-use Rattle.std.specs.Prelude.{ℕ, List, [], map, if◌then◌else◌, Option, None, Some, is_some, unwrap_or, option_map}
-use Rattle.ak_handler.specs.Handlers.{HandlerData, HandlersData, handler_of}
+use Rattle.std.specs.Prelude.{ℕ, [], map, if◌then◌else◌, Option, None, Some, unwrap_or}
+use Rattle.ak_handler.specs.Handlers.{HandlerData, HandlersData}
 use Rattle.ak_handler.specs.Changes.{content_of, is_there}
 use Rattle.ak_message.specs.declared.address.Target.{Target}
 use Rattle.ak_message.specs.declared.address.Target.TheVariants as target

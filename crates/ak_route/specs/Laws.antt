@@ -1,5 +1,5 @@
 -- What holds of all routes.
-use Rattle.std.specs.Prelude.{◌≡◌, ◌≢◌, ◌≤◌, ℕ, zero, suc, if◌then◌else◌, List, [], ◌∷◌, length, AllPairs, Contains, Option, None, Some}
+use Rattle.std.specs.Prelude.{◌≡◌, ◌≢◌, ◌<◌, ◌≤◌, ℕ, zero, suc, if◌then◌else◌, List, [], ◌∷◌, ◌++◌, length, reverse, All, AllPairs, Contains, Option, None, Some, IfSome, option_and_then}
 use Rattle.ak_filter.specs.declared.filter.Filter.{Filter}
 use Rattle.ak_message.specs.declared.address.Target.{Target}
 use Rattle.ak_message.specs.Message.{MessageData}
@@ -7,32 +7,51 @@ use Rattle.ak_specifier.specs.Current.{left_of}
 use Rattle.ak_handler.specs.Handlers.{HandlersData, IsHandlers, tokens_of}
 use Rattle.ak_property.specs.HandlerRow.{RowData}
 use Rattle.ak_route.specs.declared.outcome.Taker.{Taker}
+use Rattle.ak_route.specs.declared.outcome.Taker.TheVariants as taker
 use Rattle.ak_route.specs.declared.outcome.Route.TheVariants as route
 use Rattle.ak_route.specs.Handlers.{row_of, first_target}
-use Rattle.ak_route.specs.Resolving.{Resolved, at_handler, resolve}
-use Rattle.ak_route.specs.Filtering.{Passing, Origin, run_list, settle_from, asked_already}
-use Rattle.ak_route.specs.Routing.{Routed, route_of}
+use Rattle.ak_route.specs.Resolving.{at_handler, at_looper, resolve}
+use Rattle.ak_route.specs.Filtering.{Passing, Origin, passing_after, run_list, settle_from, settle, asked_already}
+use Rattle.ak_route.specs.Routing.{route_of}
 
 -- ---- filters
--- the handlers whose filters run, in order
+-- the filters of these handlers run, one list after the other
+abbrev pub run_lists : HandlersData RowData → Origin → List ℕ → Passing → Option Passing
+run_lists s o [] p = Some p
+run_lists s o (t ∷ ts) p = option_and_then (run_lists s o ts) (run_list s o (row_of s t).filters p)
+
 abbrev pub after_run : Option Passing → (Passing → List ℕ) → List ℕ
 after_run None on = []
 after_run (Some p) on = on p
 
-abbrev pub asked_in : HandlersData RowData → Origin → ℕ → List ℕ → Passing → List ℕ
-asked_in s o zero asked p = []
-asked_in s o (suc n) asked p =
+-- the handlers to which a message is passed, in order, up to the first that is asked already
+abbrev pub passed_to : HandlersData RowData → Origin → ℕ → List ℕ → Passing → List ℕ
+passed_to s o zero asked p = []
+passed_to s o (suc n) asked p =
     if asked_already asked p.target then []
-    else p.target ∷ after_run (run_list s o (row_of s p.target).filters p) (asked_in s o n (p.target ∷ asked))
+    else p.target ∷ after_run (run_list s o (row_of s p.target).filters p) (passed_to s o n (p.target ∷ asked))
 
--- the filters of no handler run twice
+-- settling is that the filters of the handlers to which it is passed run, one list after the other, and nothing else; these handlers
+-- differ, none of them was asked before, and they are what it tells as asked then
+pub record RunsEachOnce (s : HandlersData RowData) (o : Origin) (n : ℕ) (asked : List ℕ) (p : Passing) : Type 0 where
+  pub runs : passing_after (settle_from s o n asked p) ≡ run_lists s o (passed_to s o n asked p) p
+  pub differ : AllPairs (λ a b. a ≢ b) (passed_to s o n asked p)
+  pub new : All (λ t. ¬ Contains asked t) (passed_to s o n asked p)
+  pub told : IfSome (settle_from s o n asked p) (λ d. d.asked ≡ reverse (passed_to s o n asked p) ++ asked)
+
 abbrev pub FiltersRunAtMostOnce : Type 0
 FiltersRunAtMostOnce =
-    (s : HandlersData RowData) (o : Origin) (n : ℕ) (p : Passing) → AllPairs (λ a b. a ≢ b) (asked_in s o n [] p)
+    (s : HandlersData RowData) (o : Origin) (n : ℕ) (asked : List ℕ) (p : Passing) → RunsEachOnce s o n asked p
 
--- and those of each handler that it is passed to do run: with more steps nothing else comes out
+-- the filters of each handler that it is passed to run: the one where it stays is among those asked
 abbrev pub AllFiltersRun : Type 0
 AllFiltersRun =
+    (s : HandlersData RowData) (o : Origin) (common : List Filter) (p : Passing) → IsHandlers s → Contains (tokens_of s.list) p.target
+    → IfSome (settle s o common p) (λ d. Contains d.asked d.passing.target)
+
+-- as many steps as there are handlers are enough: with more nothing else comes out
+abbrev pub StepsAreEnough : Type 0
+StepsAreEnough =
     (s : HandlersData RowData) (o : Origin) (n : ℕ) (p : Passing) → IsHandlers s → Contains (tokens_of s.list) p.target
     → length s.list ≤ n → settle_from s o n [] p ≡ settle_from s o (length s.list) [] p
 
@@ -55,3 +74,26 @@ abbrev pub NoSpecifiersNoSteps : Type 0
 NoSpecifiersNoSteps =
     (s : HandlersData RowData) (loopers : List (List ℕ)) (m : MessageData) (t : Target) (first : ℕ)
     → left_of m ≡ 0 → resolve s loopers m t first ≡ record { place = at_handler first; message = m }
+
+-- ---- what the answers name
+-- a message is forwarded to a later looper of the application
+abbrev pub ResolvedIsLater : Type 0
+ResolvedIsLater =
+    (s : HandlersData RowData) (loopers : List (List ℕ)) (m : MessageData) (t : Target) (first i : ℕ)
+    → (resolve s loopers m t first).place ≡ at_looper i → (0 < i) × (i < length loopers)
+
+abbrev pub ForwardIsLater : Type 0
+ForwardIsLater =
+    (s : HandlersData RowData) (loopers : List (List ℕ)) (o : Origin) (common : List Filter) (m : MessageData) (t : Target) (i : ℕ)
+    → (route_of s loopers o common m t).route ≡ route.Forward i → (0 < i) × (i < length loopers)
+
+-- the place of a property is one of the table, and that of a reaction one of the reactions
+abbrev pub LiesWithin : RowData → Taker → Type 0
+LiesWithin row (taker.Property i) = i < length row.table
+LiesWithin row (taker.Reaction i) = i < length row.reactions
+LiesWithin row taker.BuiltIn = Unit {0}
+
+abbrev pub TakerLiesWithin : Type 0
+TakerLiesWithin =
+    (s : HandlersData RowData) (loopers : List (List ℕ)) (o : Origin) (common : List Filter) (m : MessageData) (t : Target) (token : ℕ)
+    (as_what : Taker) → (route_of s loopers o common m t).route ≡ route.Deliver token as_what → LiesWithin (row_of s token) as_what

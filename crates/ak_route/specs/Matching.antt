@@ -1,5 +1,5 @@
 -- Which handler has a match for the current specifier of a message.
-use Rattle.std.specs.Prelude.{ℕ, ◌-◌, ◌==◌, ◌&&◌, ◌||◌, Bool, true, false, List, codes, Option, None, Some, is_some}
+use Rattle.std.specs.Prelude.{ℕ, ◌-◌, ◌==◌, ◌&&◌, ◌||◌, Bool, true, false, List, codes, Option, is_some}
 use Rattle.std.specs.Str.{bytes_eq}
 use Rattle.ak_base.specs.Code.{code_of}
 use Rattle.ak_message.specs.declared.specifier.At.{At}

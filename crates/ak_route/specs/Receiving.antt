@@ -1,5 +1,5 @@
 -- Which handler of a chain takes a message, and as what.
-use Rattle.std.specs.Prelude.{ℕ, ◌==◌, ◌&&◌, ◌||◌, nat_lt, Bool, true, false, if◌then◌else◌, List, [], ◌∷◌, length, codes, Option, None, Some, option_map, option_and_then}
+use Rattle.std.specs.Prelude.{ℕ, ◌==◌, ◌&&◌, ◌||◌, nat_lt, Bool, false, if◌then◌else◌, List, [], ◌∷◌, length, codes, Option, None, Some, option_map}
 use Rattle.std.specs.List.{position}
 use Rattle.ak_message.specs.declared.specifier.Specifier.{Specifier}
 use Rattle.ak_message.specs.Message.{MessageData}
@@ -36,10 +36,6 @@ property_taker row m sp = option_map taker.Property (property_place row m sp)
 
 abbrev pub reaction_taker : RowData → MessageData → Option Taker
 reaction_taker row m = option_map taker.Reaction (position (λ code. code == m.what) row.reactions)
-
--- as a property, else as a reaction
-abbrev pub row_taker : RowData → MessageData → Option Taker
-row_taker row m = or_else (property_taker row m (current_of m)) (reaction_taker row m)
 
 -- what every handler takes
 abbrev pub handler_takes : MessageData → Option Specifier → Bool

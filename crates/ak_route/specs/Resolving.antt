@@ -1,5 +1,5 @@
 -- Which handler the specifiers of a message lead to, from the last one on.
-use Rattle.std.specs.Prelude.{ℕ, ℤ, pos, negsuc, zero, suc, ◌-◌, ◌==◌, ◌&&◌, ◌||◌, not, nat_le, nat_lt, Bool, true, false, if◌then◌else◌, List, [], ◌∷◌, length, codes, Option, None, Some, is_some}
+use Rattle.std.specs.Prelude.{ℕ, pos, zero, suc, ◌-◌, ◌==◌, ◌&&◌, not, nat_le, nat_lt, Bool, true, false, if◌then◌else◌, List, length, codes, Option, None, Some}
 use Rattle.std.specs.List.{position}
 use Rattle.std.specs.Str.{bytes_eq}
 use Rattle.ak_message.specs.declared.address.Target.{Target}

@@ -1,5 +1,5 @@
 -- The route of a message: its first target, where its specifiers lead, what the filters make of it, and who takes it.
-use Rattle.std.specs.Prelude.{ℕ, Bool, List, Option, None, Some}
+use Rattle.std.specs.Prelude.{ℕ, List, Option, None, Some}
 use Rattle.ak_filter.specs.declared.filter.Filter.{Filter}
 use Rattle.ak_message.specs.declared.address.Target.{Target}
 use Rattle.ak_message.specs.Message.{MessageData}
@@ -9,7 +9,7 @@ use Rattle.ak_route.specs.declared.outcome.Route.TheVariants as route
 use Rattle.ak_property.specs.HandlerRow.{RowData}
 use Rattle.ak_route.specs.Handlers.{first_target}
 use Rattle.ak_route.specs.Resolving.{Destination, Resolved, at_handler, at_looper, nowhere, resolve}
-use Rattle.ak_route.specs.Filtering.{Passing, Origin, settle}
+use Rattle.ak_route.specs.Filtering.{Passing, Origin, settle, passing_after}
 use Rattle.ak_route.specs.Receiving.{Received, receive}
 
 -- the route, and the message as it is then: its specifiers popped, and its code
@@ -35,7 +35,7 @@ abbrev pub filtered : HandlersData RowData → List (List ℕ) → Origin → Li
 filtered s loopers o common r = by_place r.place
   where
     by_place : Destination → Routed
-    by_place (at_handler token) = delivered s loopers r.message (settle s o common (record { target = token; what = r.message.what }))
+    by_place (at_handler token) = delivered s loopers r.message (passing_after (settle s o common (record { target = token; what = r.message.what })))
     by_place (at_looper i) = routed (route.Forward i) r.message
     by_place nowhere = routed route.NotUnderstood r.message
 

@@ -1,7 +1,7 @@
 //! What the filters make of a message.
 
 ghost use Rattle.std.specs.Prelude.{◌≡◌, option_map};
-ghost use Rattle.ak_route.specs.Filtering.{run_filter, run_list, settle, target_after};
+ghost use Rattle.ak_route.specs.Filtering.{passing_after, run_filter, run_list, settle, target_after};
 ghost use Rattle.ak_route.specs.Handlers.{handlers_seen, row_of};
 ghost use Rattle.ak_route.specs.Seen.{origin_of, passing_of};
 
@@ -33,7 +33,7 @@ pub(crate) fn settle<R: HandlerRow + Drop>(
     passing: Passing,
 ) -> Option<Passing>
     ensures { option_map passing_of result
-        ≡ settle (handlers_seen R.told set.now) (origin_of origin) common.now (passing_of passing) }
+        ≡ passing_after (settle (handlers_seen R.told set.now) (origin_of origin) common.now (passing_of passing)) }
 {
     let mut passing = run_list(set, origin, common.as_slice(), passing)?;
     let mut asked = [0; HANDLER_LIMIT];
@@ -48,7 +48,7 @@ pub(crate) fn settle<R: HandlerRow + Drop>(
 }
 
 // The filters of the target, where it is there.
-#[tactic(auto, using(crate::proofs::MappedFilters::handlers_as_seen))]
+#[tactic(auto, using(crate::proofs::Mapped::handlers_as_seen))]
 fn run_own<R: HandlerRow + Drop>(
     set: &HandlerSet<R>,
     origin: Origin,

@@ -2,10 +2,12 @@
 
 ghost use Rattle.ak_route.specs.Laws as law;
 
-/// The filters of no handler run twice for a message, and those of each handler that it is passed to run.
+/// A message settles by the filters of the handlers that it is passed to, each list once and no other, and
+/// those of the handler where it stays ran. No more steps are needed than there are handlers.
 pub fn filters_run_at_most_once()
     ensures once { law.FiltersRunAtMostOnce }
     ensures all { law.AllFiltersRun }
+    ensures enough { law.StepsAreEnough }
 {}
 
 /// What the specifiers of a message lead to is a handler of the set.
@@ -21,4 +23,15 @@ pub fn takers_are_there()
 /// A message without specifiers is for its first target.
 pub fn no_specifiers_no_steps()
     ensures { law.NoSpecifiersNoSteps }
+{}
+
+/// A message is forwarded to a later looper of the application alone.
+pub fn forwards_are_to_later_loopers()
+    ensures resolved { law.ResolvedIsLater }
+    ensures routed { law.ForwardIsLater }
+{}
+
+/// A message is delivered to a property of the handler's table, to one of its reactions, or as built in.
+pub fn takers_lie_within()
+    ensures { law.TakerLiesWithin }
 {}

@@ -1,6 +1,6 @@
 //! Routing: who of a looper's handlers gets a message, and as what. The first target, where the
 //! specifiers lead from there, what the filters make of it, and which handler of the chain takes it.
-//! It works in place and takes no memory. Nothing here waits, and nothing is shared.
+//! It works in place, and has no answer for want of memory. Nothing here waits, and nothing is shared.
 #![tactic(auto)]
 
 mod filtering;
@@ -11,8 +11,10 @@ mod receiving;
 mod resolving;
 mod routing;
 
+pub use ak_property::HandlerRow;
 pub use laws::{
-    filters_run_at_most_once, no_specifiers_no_steps, resolved_handlers_are_there, takers_are_there,
+    filters_run_at_most_once, forwards_are_to_later_loopers, no_specifiers_no_steps,
+    resolved_handlers_are_there, takers_are_there, takers_lie_within,
 };
 pub use outcome::{Place, Route, Taker};
 pub use routing::route;

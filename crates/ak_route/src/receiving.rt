@@ -4,7 +4,7 @@ ghost use Rattle.std.specs.Prelude.{◌≡◌, Some, option_map};
 ghost use Rattle.ak_handler.specs.Handlers.{chain_from};
 ghost use Rattle.ak_specifier.specs.Current.{current_of};
 ghost use Rattle.ak_route.specs.Handlers.{handlers_seen, row_of};
-ghost use Rattle.ak_route.specs.Receiving.{receive, received, taker_of, row_taker, property_place, is_property_command, takes_built_in, handler_takes, looper_takes, own_looper_takes, counts};
+ghost use Rattle.ak_route.specs.Receiving.{receive, received, taker_of, or_else, property_taker, reaction_taker, property_place, is_property_command, takes_built_in, handler_takes, looper_takes, own_looper_takes, counts};
 
 use crate::matching::{counts_built_in, gets_built_in, row_match};
 use crate::outcome::Taker;
@@ -15,7 +15,7 @@ use ak_property::HandlerRow;
 use ak_specifier::{current, left};
 
 /// The first handler that takes it of the chain that begins with the target.
-#[tactic(auto, using(crate::proofs::MappedFilters::handlers_as_seen, crate::proofs::Takers::receiving_steps))]
+#[tactic(auto, using(crate::proofs::Mapped::handlers_as_seen, crate::proofs::Takers::receiving_steps))]
 pub(crate) fn receive<R: HandlerRow + Drop>(
     set: &HandlerSet<R>,
     loopers: &[Text],
@@ -57,14 +57,15 @@ fn taker_of<R: HandlerRow + Drop>(
 }
 
 fn own_taker<R: HandlerRow + Drop>(set: &HandlerSet<R>, m: &Message, token: u64) -> Option<Taker>
-    ensures { result ≡ row_taker (row_of (handlers_seen R.told set.now) token) m.now }
+    ensures { let row = row_of (handlers_seen R.told set.now) token in
+        result ≡ or_else (property_taker row m.now (current_of m.now)) (reaction_taker row m.now) }
 {
     row_taker(set.by_token(token)?, m)
 }
 
 // As a property, else as a reaction.
 fn row_taker<R: HandlerRow>(row: &R, m: &Message) -> Option<Taker>
-    ensures { result ≡ row_taker (R.told row.now) m.now }
+    ensures { result ≡ or_else (property_taker (R.told row.now) m.now (current_of m.now)) (reaction_taker (R.told row.now) m.now) }
 {
     if let Some(place) = property_place(row, m) {
         return Some(Taker::Property(place));
@@ -79,10 +80,7 @@ fn property_place<R: HandlerRow>(row: &R, m: &Message) -> Option<u32>
     if !is_property_command(m.what()) {
         return None;
     }
-    let table = row.table();
-    let place = row_match(table, m, current(m).ok()?)?;
-    // It fits: a table has at most 64 rows.
-    let _ = table.as_slice();
+    let place = row_match(row.table(), m, current(m).ok()?)?;
     Some(place as u32)
 }
 

@@ -1,7 +1,7 @@
-ghost use Rattle.std.specs.Prelude.{◌≡◌, ◌≤◌, length};
+ghost use Rattle.std.specs.Prelude.{◌≡◌};
 ghost use Rattle.ak_route.specs.Handlers.{handlers_seen, first_target};
 ghost use Rattle.ak_handler.specs.Changes.{is_there};
-ghost use Rattle.ak_route.specs.Filtering.{settle};
+ghost use Rattle.ak_route.specs.Filtering.{passing_after, settle};
 ghost use Rattle.ak_route.specs.Routing.{delivered, route_of};
 ghost use Rattle.ak_route.specs.Seen.{origin_of};
 
@@ -17,7 +17,8 @@ use ak_property::HandlerRow;
 
 /// The route of a message that came to a looper: `local` where its sender's team is the looper's, `dropped`
 /// where a user dropped it, and `first` is the target that it was sent to. What led on its way is popped,
-/// and it has the code that the filters gave it; where a filter skips it, its code stays. Takes no memory.
+/// and it has the code that the filters gave it; where a filter skips it, its code stays. There is no
+/// answer for want of memory.
 pub fn route<R: HandlerRow + Drop>(
     set: &HandlerSet<R>,
     common: &FilterList,
@@ -27,19 +28,19 @@ pub fn route<R: HandlerRow + Drop>(
     first: Target,
     place: &Place<'_>,
 ) -> Route
-    requires { length place.now.loopers.now ≤ 8 }
     ensures { record { route = result; message = m.new }
-        ≡ route_of (handlers_seen R.told set.now) place.now.loopers.now (record { local = local; dropped = dropped }) common.now m.old first }
+        ≡ route_of (handlers_seen R.told set.now) place.now (record { local = local; dropped = dropped }) common.now m.old first }
 {
     let Some(token) = first_target(set, first) else {
         return Route::Dropped;
     };
-    match resolve(set, m, first, place.loopers, token) {
+    let loopers = place.loopers();
+    match resolve(set, m, first, loopers, token) {
         Destination::Nowhere => Route::NotUnderstood,
         Destination::Looper(looper) => Route::Forward { looper },
         Destination::Handler(token) => {
             let origin = Origin { local, dropped };
-            deliver(set, common, m, origin, place.loopers, token)
+            deliver(set, common, m, origin, loopers, token)
         }
     }
 }
@@ -54,7 +55,7 @@ fn first_target<R: HandlerRow + Drop>(set: &HandlerSet<R>, first: Target) -> Opt
     }
 }
 
-#[tactic(auto, using(crate::proofs::MappedFilters::held_there))]
+#[tactic(auto, using(crate::proofs::Mapped::held_there))]
 fn is_there<R: HandlerRow + Drop>(set: &HandlerSet<R>, token: u64) -> bool
     ensures { result ≡ is_there (handlers_seen R.told set.now).list token }
 {
@@ -72,7 +73,7 @@ fn deliver<R: HandlerRow + Drop>(
 ) -> Route
     ensures { record { route = result; message = m.new }
         ≡ delivered (handlers_seen R.told set.now) loopers.now m.old
-        (settle (handlers_seen R.told set.now) (origin_of origin) common.now (record { target = token; what = m.old.what })) }
+        (passing_after (settle (handlers_seen R.told set.now) (origin_of origin) common.now (record { target = token; what = m.old.what }))) }
 {
     let start = Passing {
         target: token,

@@ -6,28 +6,32 @@ use crate::routing::route;
 use ak_base::{Code, Items, Text};
 use ak_filter::{DeliveryIs, Filter, FilterList, SourceIs};
 use ak_handler::HandlerSet;
-use ak_message::{At, Kind, Message, Specifier, Target};
+use ak_message::{At, Kind, Message, Specifier, Target, Value};
 use ak_property::{HandlerRow, PropertyRow, PropertyTable};
 use ak_specifier::add_specifier;
 use std::alloc::Global;
 use std::test::Fail;
 
+mod settling;
+mod taking;
+
 const PING: Code = Code(0x7069_6E67);
 
 const PONG: Code = Code(0x706F_6E67);
 
-// What a handler holds here: one reaction, to no code that is sent where it is 0.
+// What a handler holds here: two reactions, each to no code that is sent where it is 0.
 #[derive(Drop)]
 struct Held {
     table: PropertyTable,
     filters: FilterList,
     reaction: Code,
+    other_reaction: Code,
 }
 
 impl HandlerRow for Held {
     ghost use Rattle.std.specs.Prelude.{◌∷◌, []};
 
-    ghost told = { λ h. record { table = h.table; filters = h.filters; reactions = h.reaction.0 ∷ [] } };
+    ghost told = { λ h. record { table = h.table; filters = h.filters; reactions = h.reaction.0 ∷ h.other_reaction.0 ∷ [] } };
 
     fn table(&self) -> &PropertyTable
         ensures { result.now ≡ self.now.table }
@@ -42,9 +46,15 @@ impl HandlerRow for Held {
     }
 
     fn reaction_on(&self, what: Code) -> Option<u32>
-        ensures { result ≡ position (λ code. code == what.0) (self.now.reaction.0 ∷ []) }
+        ensures { result ≡ position (λ code. code == what.0) (self.now.reaction.0 ∷ self.now.other_reaction.0 ∷ []) }
     {
-        if self.reaction == what { Some(0) } else { None }
+        if self.reaction == what {
+            Some(0)
+        } else if self.other_reaction == what {
+            Some(1)
+        } else {
+            None
+        }
     }
 }
 
@@ -52,20 +62,31 @@ fn text(alloc: Global, bytes: &[u8]) -> Result<Text, Fail> {
     Ok(Text::from_bytes(alloc, bytes)?)
 }
 
+// A row of that name, with these commands and forms; none of them stand for all.
+fn table_row(
+    alloc: Global,
+    name: &[u8],
+    commands: &[Code],
+    forms: &[u32],
+) -> Result<PropertyRow, Fail> {
+    Ok(PropertyRow {
+        name: text(alloc, name)?,
+        kind: Kind::Text,
+        commands: Items::from_vec(commands.to_vec(alloc)?),
+        forms: Items::from_vec(forms.to_vec(alloc)?),
+        usage: text(alloc, b"")?,
+    })
+}
+
 // A handler with that property.
 fn holding(alloc: Global, property: &[u8], reaction: Code) -> Result<Held, Fail> {
     let mut table = PropertyTable::new(alloc);
-    table.add_row(PropertyRow {
-        name: text(alloc, property)?,
-        kind: Kind::Text,
-        commands: Items::from_vec(Vec::new(alloc)),
-        forms: Items::from_vec(Vec::new(alloc)),
-        usage: text(alloc, b"")?,
-    })?;
+    table.add_row(table_row(alloc, property, &[], &[])?)?;
     Ok(Held {
         table,
         filters: FilterList::new(alloc),
         reaction,
+        other_reaction: Code(0),
     })
 }
 
@@ -100,21 +121,34 @@ fn form(alloc: Global, letter: u8) -> Result<At, Fail> {
         b'0'..=b'9' => At::Index(i32::from(letter - b'0')),
         b'a'..=b'f' => At::Reverse(i32::from(letter - b'a')),
         b'w' => At::Name(text(alloc, b"work")?),
+        b'A' => At::Name(text(alloc, b"a")?),
         _ => At::Name(text(alloc, b"none")?),
     })
 }
 
 // Two letters for each specifier, in the order of adding.
-fn message(alloc: Global, what: Code, specifiers: &[u8]) -> Result<Message, Fail> {
-    let mut message = Message::new(alloc, what);
+fn add_all(alloc: Global, message: &mut Message, specifiers: &[u8]) -> Result<(), Fail> {
     for pair in specifiers.chunks_exact(2) {
         let specifier = Specifier {
             property: text(alloc, property(pair[0]))?,
             at: form(alloc, pair[1])?,
         };
-        add_specifier(alloc, &mut message, specifier)?;
+        add_specifier(alloc, message, specifier)?;
     }
+    Ok(())
+}
+
+fn message(alloc: Global, what: Code, specifiers: &[u8]) -> Result<Message, Fail> {
+    let mut message = Message::new(alloc, what);
+    add_all(alloc, &mut message, specifiers)?;
     Ok(message)
+}
+
+// Adds a specifier of `Title` that has the code of a form, and not what that form asks for.
+fn add_bad(alloc: Global, message: &mut Message, form: u32) -> Result<(), Fail> {
+    let mut specifier = Message::new(alloc, Code(form));
+    specifier.add(b"property", Value::Text(text(alloc, b"Title")?))?;
+    Ok(message.add(b"specifiers", Value::from_message(alloc, specifier)?)?)
 }
 
 // The looper `demo` with `Count`, and the handlers `a` (1) and `b` (2) with `Title`.
@@ -129,21 +163,37 @@ fn demo(alloc: Global) -> Result<HandlerSet<Held>, Fail> {
     Ok(set)
 }
 
-// The route, how many specifiers are popped then, and the code then.
+// The route of a message that a program of the looper's team sent, how many specifiers are popped then, and
+// the code then.
 fn routed(
     alloc: Global,
     set: &HandlerSet<Held>,
     common: &FilterList,
     own: bool,
     first: Target,
+    message: Message,
+) -> Result<(Route, u32, Code), Fail> {
+    routed_from(alloc, set, common, own, (true, false), first, message)
+}
+
+// The same of one that is local or not, and that was dropped or not.
+fn routed_from(
+    alloc: Global,
+    set: &HandlerSet<Held>,
+    common: &FilterList,
+    own: bool,
+    origin: (bool, bool),
+    first: Target,
     mut message: Message,
 ) -> Result<(Route, u32, Code), Fail> {
+    let (local, dropped) = origin;
     let loopers = vec![in alloc; text(alloc, b"demo")?, text(alloc, b"work")?]?;
-    let count = if own { 2 } else { 0 };
-    let place = Place {
-        loopers: &loopers.as_slice()[..count],
+    let place = if own {
+        Place::own(loopers.as_slice())
+    } else {
+        Place::other()
     };
-    let route = route(set, common, &mut message, true, false, first, &place);
+    let route = route(set, common, &mut message, local, dropped, first, &place);
     Ok((route, message.popped(), message.what()))
 }
 
@@ -160,7 +210,7 @@ fn messages_are_routed(rt: HostRuntime) -> Result<(), Fail> {
     let row = Taker::Property(0);
     let built_in = Taker::BuiltIn;
     let lost = Route::NotUnderstood;
-    let rows: [(bool, Target, Code, &[u8], Route, u32); 34] = [
+    let rows: [(bool, Target, Code, &[u8], Route, u32); 42] = [
         (false, preferred, Code::GET, b"T.Hb", deliver(2, row), 1),
         (false, preferred, Code::GET, b"T.H3", lost, 0),
         (false, preferred, Code::GET, b"T.H1", deliver(1, row), 1),
@@ -204,6 +254,14 @@ fn messages_are_routed(rt: HostRuntime) -> Result<(), Fail> {
         (true, preferred, Code::GET, b"N.Lx", lost, 0),
         (true, preferred, Code::GET, b"N.L2", lost, 0),
         (true, preferred, Code::GET, b"N.Lb", lost, 0),
+        (false, preferred, Code::GET, b"N.Lw", lost, 0),
+        (false, preferred, Code::GET, b"N.Lb", lost, 0),
+        (false, preferred, Code::GET, b"C.L0", lost, 0),
+        (true, preferred, Code::GET, b"T.H1", deliver(1, row), 1),
+        (true, preferred, Code::GET, b"T.Hb", deliver(2, row), 1),
+        (true, preferred, Code::GET, b"T.Ha", lost, 0),
+        (true, preferred, Code::GET, b"T.HA", lost, 0),
+        (false, preferred, Code::GET, b"T.HA", lost, 0),
         (false, preferred, Code::GET, b"S.", deliver(0, built_in), 0),
         (
             false,
@@ -284,16 +342,20 @@ fn the_preferred_handler_is_asked_first(rt: HostRuntime) -> Result<(), Fail> {
     let common = FilterList::new(alloc);
     assert_eq!(rt; set.set_preferred(Some(1)), Ok(()));
     let row = Taker::Property(0);
-    let rows: [(Code, &[u8], Route); 3] = [
-        (Code::GET, b"T.", deliver(1, row)),
-        (Code::GET, b"C.", deliver(0, row)),
-        (Code::QUIT_REQUESTED, b"", deliver(0, Taker::BuiltIn)),
+    // Without a match the looper is asked, which leads on to another handler, and to the same one.
+    let rows: [(Code, &[u8], Route, u32); 6] = [
+        (Code::GET, b"T.", deliver(1, row), 0),
+        (Code::GET, b"C.", deliver(0, row), 0),
+        (Code::QUIT_REQUESTED, b"", deliver(0, Taker::BuiltIn), 0),
+        (Code::GET, b"T.H2", deliver(2, row), 1),
+        (Code::GET, b"T.H1", deliver(1, row), 1),
+        (Code::GET, b"C.H1", Route::NotUnderstood, 1),
     ];
-    for (what, specifiers, route) in rows {
+    for (what, specifiers, route, popped) in rows {
         let message = message(alloc, what, specifiers)?;
         assert_eq!(rt;
             routed(alloc, &set, &common, false, Target::Preferred, message)?,
-            (route, 0, what)
+            (route, popped, what)
         );
     }
     // Without a next handler its chain ends with it, and once it is removed its token leads nowhere.
@@ -313,6 +375,109 @@ fn the_preferred_handler_is_asked_first(rt: HostRuntime) -> Result<(), Fail> {
 }
 
 #[test]
+fn badly_formed_specifiers_lead_nowhere(rt: HostRuntime) -> Result<(), Fail> {
+    let alloc = rt.alloc();
+    let mut set = demo(alloc)?;
+    let common = FilterList::new(alloc);
+    let firsts = [
+        (Some(1), Target::Preferred),
+        (None, Target::Preferred),
+        (None, Target::Token(0)),
+        (None, Target::Token(2)),
+    ];
+    // By index without one, by name without one, and of no form.
+    for form in [2, 6, 9] {
+        for (preferred, first) in firsts {
+            set.set_preferred(preferred)?;
+            for what in [Code::GET, Code::QUIT_REQUESTED, PING] {
+                let mut bad = message(alloc, what, b"")?;
+                add_bad(alloc, &mut bad, form)?;
+                assert_eq!(rt;
+                    routed(alloc, &set, &common, true, first, bad)?,
+                    (Route::NotUnderstood, 0, what),
+                    "form {form}"
+                );
+            }
+        }
+    }
+    Ok(())
+}
+
+#[test]
+fn badly_formed_specifiers_count_once_they_are_current(rt: HostRuntime) -> Result<(), Fail> {
+    let alloc = rt.alloc();
+    let set = demo(alloc)?;
+    let common = FilterList::new(alloc);
+    let row = Taker::Property(0);
+    let rows: [(u32, Code, &[u8], Route, u32); 5] = [
+        (1, Code::GET, b"H1", deliver(1, row), 1),
+        (2, Code::GET, b"H1", Route::NotUnderstood, 1),
+        (9, Code::GET, b"H1", Route::NotUnderstood, 1),
+        (2, Code::GET, b"C.", deliver(0, row), 0),
+        (9, Code::SET, b"C.", deliver(0, row), 0),
+    ];
+    for (form, what, later, route, popped) in rows {
+        let mut message = Message::new(alloc, what);
+        add_bad(alloc, &mut message, form)?;
+        add_all(alloc, &mut message, later)?;
+        assert_eq!(rt;
+            routed(alloc, &set, &common, false, Target::Preferred, message)?,
+            (route, popped, what),
+            "form {form}"
+        );
+    }
+    // A message without specifiers, or with well formed ones alone, goes to the looper as ever.
+    let looper = Target::Token(0);
+    let rows: [(Code, &[u8], Taker); 3] = [
+        (Code::QUIT_REQUESTED, b"", Taker::BuiltIn),
+        (Code::GET, b"C.", row),
+        (Code::GET, b"S.", Taker::BuiltIn),
+    ];
+    for (what, specifiers, taker) in rows {
+        let message = message(alloc, what, specifiers)?;
+        assert_eq!(rt;
+            routed(alloc, &set, &common, false, looper, message)?,
+            (deliver(0, taker), 0, what)
+        );
+    }
+    Ok(())
+}
+
+#[test]
+fn the_looper_is_next_to_one_whose_next_is_removed(rt: HostRuntime) -> Result<(), Fail> {
+    let alloc = rt.alloc();
+    let mut set = demo(alloc)?;
+    let common = FilterList::new(alloc);
+    let first = Target::Token(1);
+    set.set_next(2, None)?;
+    set.set_next(1, Some(2))?;
+    let rows = [
+        (PING, deliver(2, Taker::Reaction(0)), Route::NotUnderstood),
+        (
+            Code::QUIT_REQUESTED,
+            Route::NotUnderstood,
+            deliver(0, Taker::BuiltIn),
+        ),
+    ];
+    for (what, with, _) in rows {
+        let message = message(alloc, what, b"")?;
+        assert_eq!(rt;
+            routed(alloc, &set, &common, false, first, message)?,
+            (with, 0, what)
+        );
+    }
+    assert_eq!(rt; set.remove(2).is_ok(), true);
+    for (what, _, without) in rows {
+        let message = message(alloc, what, b"")?;
+        assert_eq!(rt;
+            routed(alloc, &set, &common, false, first, message)?,
+            (without, 0, what)
+        );
+    }
+    Ok(())
+}
+
+#[test]
 fn common_filters_run_in_order(rt: HostRuntime) -> Result<(), Fail> {
     let alloc = rt.alloc();
     let set = demo(alloc)?;
@@ -327,8 +492,11 @@ fn common_filters_run_in_order(rt: HostRuntime) -> Result<(), Fail> {
         Some(PING),
     ))?;
     common.push(filter(Some(PING), false, None, Some(PONG)))?;
-    let rows: [(Code, &[u8], Route, Code); 4] = [
+    // The code of a `SET` message changes twice, though no handler has the name to which it is passed.
+    let rows: [(Code, &[u8], Route, Code); 6] = [
         (Code::GET, b"C.", Route::Skipped, Code::GET),
+        (Code::SET, b"", Route::NotUnderstood, PONG),
+        (Code::SET, b"C.", Route::NotUnderstood, PONG),
         (
             Code::COUNT,
             b"C.",

@@ -8,6 +8,7 @@ mod popping;
 mod reading;
 mod writing;
 
+pub use ak_message::{At, AtRef, Specifier, SpecifierRef};
 pub use laws::{
     a_pop_leaves_one_less, a_pop_shows_the_one_before, specifiers_are_read_as_shown,
     written_specifiers_are_read,

@@ -1,13 +1,17 @@
 use ak_base::{NoMemory, RawFault, TextFault};
+use ak_filter::FilterFault;
 use ak_flatten::{FlattenFault, UnflattenFault};
+use ak_handler::HandlerFault;
 use ak_message::AddFault;
+use ak_property::RowFault;
 use std::alloc::{AllocError, AllocFailed};
 
 /// Why there is no sum.
 #[derive(Clone, Copy, Debug, PartialEq, Eq)]
 pub enum BenchFault {
     NoMemory,
-    /// A message could not be made, flattened or read, which happens to none of the four.
+    /// A message could not be made, flattened or read, or handlers could not be made, which happens to none of
+    /// those that are timed.
     Refused,
 }
 
@@ -70,6 +74,33 @@ impl From<UnflattenFault> for BenchFault {
         match fault {
             UnflattenFault::NoMemory => BenchFault::NoMemory,
             UnflattenFault::Bad(_) => BenchFault::Refused,
+        }
+    }
+}
+
+impl From<FilterFault> for BenchFault {
+    fn from(fault: FilterFault) -> BenchFault {
+        match fault {
+            FilterFault::NoMemory => BenchFault::NoMemory,
+            FilterFault::FilterLimit => BenchFault::Refused,
+        }
+    }
+}
+
+impl From<RowFault> for BenchFault {
+    fn from(fault: RowFault) -> BenchFault {
+        match fault {
+            RowFault::NoMemory => BenchFault::NoMemory,
+            RowFault::RowLimit => BenchFault::Refused,
+        }
+    }
+}
+
+impl From<HandlerFault> for BenchFault {
+    fn from(fault: HandlerFault) -> BenchFault {
+        match fault {
+            HandlerFault::NoMemory => BenchFault::NoMemory,
+            _ => BenchFault::Refused,
         }
     }
 }

@@ -1,18 +1,28 @@
 //! A program to time. `kit_bench flat NAME N` makes one of four messages, flattens it and reads its flat text
 //! N times, and prints `flat NAME N checksum C`, where C is a sum over every flat text and every message that
-//! was read. `bench/flat` times it.
+//! was read. `bench/flat` times it. `kit_bench route HANDLERS FILTERS N` makes a looper with so many handlers,
+//! itself counted, and so many filters each, routes a message through all of them N times, and prints
+//! `route HANDLERS FILTERS N delivered D`, where D is how often it came to the looper. `bench/route` times it.
 //!
-//! NAME is `ask`, `reply`, `deep` or `raw`, and N is 1 to 10,000,000. At other words it prints how it is used,
-//! and ends with status 1. The status is 4 where the line cannot be written, 5 where a message is refused,
-//! which happens to none of the four, and 6 where memory runs out.
+//! NAME is `ask`, `reply`, `deep` or `raw`, HANDLERS is 1 to 64, FILTERS is 0 to 32, and N is 1 to 10,000,000.
+//! At other words it prints how it is used, and ends with status 1. The status is 4 where the line cannot be
+//! written, 5 where a message or a handler is refused, which happens to none of these, and 6 where memory runs out.
 #![tactic(auto)]
 
+ghost use Rattle.std.specs.Prelude.{◌≡◌, ◌≤◌, IfSome};
+ghost use Rattle.kit_bench.specs.Order.{IsShape, IsWork, status_of};
+
 mod fault;
+mod held;
+mod routes;
 mod samples;
 
+use ak_filter::FILTER_LIMIT;
 use ak_flatten::{flatten, unflatten};
+use ak_handler::HANDLER_LIMIT;
 use ak_message::Message;
 use fault::BenchFault;
+use routes::{Shape, deliveries};
 use samples::Sample;
 use std::alloc::Global;
 use std::env::Env;
@@ -23,31 +33,59 @@ use std::{env, io};
 /// The most rounds of one run.
 const ROUND_LIMIT: u32 = 10_000_000;
 
+/// What is done in each round.
+#[derive(Clone, Copy, Debug, PartialEq, Eq)]
+enum Work {
+    Flat(Sample),
+    Route(Shape),
+}
+
 /// What the words ask for.
 #[derive(Clone, Copy, Debug, PartialEq, Eq)]
 struct Order {
-    sample: Sample,
+    work: Work,
     rounds: u32,
 }
 
-fn read_rounds(word: &str) -> Option<u32> {
-    let rounds = word.parse::<u32>().ok()?;
-    if rounds == 0 || rounds > ROUND_LIMIT {
+fn read_number(word: &str, least: u32, most: u32) -> Option<u32>
+    ensures { IfSome result (λ number. (least ≤ number) × (number ≤ most)) }
+{
+    let number = word.parse::<u32>().ok()?;
+    if number < least || number > most {
         return None;
     }
-    Some(rounds)
+    Some(number)
 }
 
-fn read_order(words: &[String]) -> Option<Order> {
-    let [first, name, rounds] = words else {
-        return None;
-    };
-    if first.as_str() != "flat" {
-        return None;
+fn read_shape(handlers: &str, filters: &str) -> Option<Shape>
+    ensures { IfSome result IsShape }
+{
+    let handlers = read_number(handlers, 1, HANDLER_LIMIT as u32)?;
+    let filters = read_number(filters, 0, FILTER_LIMIT as u32)?;
+    Some(Shape { handlers, filters })
+}
+
+fn read_work(words: &[String]) -> Option<Work>
+    ensures { IfSome result IsWork }
+{
+    match words {
+        [first, name] if first.as_str() == "flat" => Some(Work::Flat(Sample::named(
+            name.as_str(),
+        )?)),
+        [first, handlers, filters] if first.as_str() == "route" => {
+            Some(Work::Route(read_shape(handlers.as_str(), filters.as_str())?))
+        }
+        _ => None,
     }
-    let sample = Sample::named(name.as_str())?;
-    let rounds = read_rounds(rounds.as_str())?;
-    Some(Order { sample, rounds })
+}
+
+fn read_order(words: &[String]) -> Option<Order>
+    ensures { IfSome result (λ order. (1 ≤ order.rounds) × (order.rounds ≤ ROUND_LIMIT)) }
+{
+    let (rounds, others) = words.split_last()?;
+    let rounds = read_number(rounds.as_str(), 1, ROUND_LIMIT)?;
+    let work = read_work(others)?;
+    Some(Order { work, rounds })
 }
 
 /// The order that the command line gives. `None` at other words, and where they are no text.
@@ -77,10 +115,10 @@ fn round_sum(text: &[u8], read: &Message) -> u64 {
         .wrapping_add(u64::from(read.count_names()))
 }
 
-fn checksum(alloc: Global, order: Order) -> Result<u64, BenchFault> {
-    let message = order.sample.message(alloc)?;
+fn checksum(alloc: Global, sample: Sample, rounds: u32) -> Result<u64, BenchFault> {
+    let message = sample.message(alloc)?;
     let mut sum: u64 = 0;
-    for _ in 0..order.rounds {
+    for _ in 0..rounds {
         let text = flatten(alloc, &message)?;
         let read = unflatten(alloc, text.as_slice())?;
         sum = sum.wrapping_add(round_sum(text.as_slice(), &read));
@@ -88,14 +126,10 @@ fn checksum(alloc: Global, order: Order) -> Result<u64, BenchFault> {
     Ok(sum)
 }
 
-fn print_sum(rt: &impl Print, order: Order, sum: u64) -> io::Result<()> {
-    let name = order.sample.name();
-    let rounds = order.rounds;
-    println!(rt; "flat {name} {rounds} checksum {sum}")
-}
-
 fn print_usage(rt: &impl Print) -> io::Result<()> {
-    println!(rt; "usage: kit_bench flat ask|reply|deep|raw N")
+    println!(rt;
+        "usage: kit_bench flat ask|reply|deep|raw N\n       kit_bench route HANDLERS FILTERS N"
+    )
 }
 
 /// The status where the line is written, or 4 where it is not.
@@ -106,17 +140,42 @@ fn written(line: io::Result<()>, status: u8) -> u8 {
     }
 }
 
-fn carry_out(rt: &(impl Print + AllocGlobal), order: Order) -> u8 {
-    match checksum(rt.alloc(), order) {
-        Ok(sum) => written(print_sum(rt, order, sum), 0),
-        Err(BenchFault::Refused) => 5,
-        Err(BenchFault::NoMemory) => 6,
+/// The status of a fault.
+fn faulted(fault: BenchFault) -> u8
+    ensures { result ≡ status_of fault }
+{
+    match fault {
+        BenchFault::Refused => 5,
+        BenchFault::NoMemory => 6,
+    }
+}
+
+fn time_flat(rt: &(impl Print + AllocGlobal), sample: Sample, rounds: u32) -> u8 {
+    let name = sample.name();
+    match checksum(rt.alloc(), sample, rounds) {
+        Ok(sum) => written(println!(rt; "flat {name} {rounds} checksum {sum}"), 0),
+        Err(fault) => faulted(fault),
+    }
+}
+
+fn time_route(rt: &(impl Print + AllocGlobal), shape: Shape, rounds: u32) -> u8 {
+    let handlers = shape.handlers;
+    let filters = shape.filters;
+    match deliveries(rt.alloc(), shape, rounds) {
+        Ok(count) => {
+            let line = println!(rt; "route {handlers} {filters} {rounds} delivered {count}");
+            written(line, 0)
+        }
+        Err(fault) => faulted(fault),
     }
 }
 
 fn main(rt: HostRuntime) -> ExitCode {
     let status = match given_order(&rt) {
-        Ok(Some(order)) => carry_out(&rt, order),
+        Ok(Some(order)) => match order.work {
+            Work::Flat(sample) => time_flat(&rt, sample, order.rounds),
+            Work::Route(shape) => time_route(&rt, shape, order.rounds),
+        },
         Ok(None) => written(print_usage(&rt), 1),
         Err(_) => 6,
     };

@@ -1,3 +1,5 @@
+ghost use Rattle.std.specs.Prelude.{◌≡◌};
+
 use crate::fault::BenchFault;
 use ak_base::{Bytes, Code, RAW_LIMIT, Raw, Text};
 use ak_message::{Message, Value};
@@ -20,7 +22,11 @@ pub enum Sample {
 }
 
 impl Sample {
-    pub fn named(name: &str) -> Option<Sample> {
+    ghost use Rattle.kit_bench.specs.Sample.{name_of, sample_named};
+
+    pub fn named(name: &str) -> Option<Sample>
+        ensures { result ≡ sample_named name.now }
+    {
         match name {
             "ask" => Some(Sample::Ask),
             "reply" => Some(Sample::Reply),
@@ -30,7 +36,9 @@ impl Sample {
         }
     }
 
-    pub fn name(self) -> &'static str {
+    pub fn name(self) -> &'static str
+        ensures { result.now ≡ name_of self }
+    {
         match self {
             Sample::Ask => "ask",
             Sample::Reply => "reply",

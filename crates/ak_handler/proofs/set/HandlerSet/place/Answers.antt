@@ -4,7 +4,12 @@ use Rattle.std.proofs.lemmas.Option.{IfSome_then}
 use Rattle.ak_handler.specs.Handlers.{has_token}
 use Rattle.ak_handler.specs.Seen.{handler_seen, list_seen}
 use Rattle.ak_handler.proofs.Looking.{position-map, is_some-position, position-within}
+use Rattle.ak_handler.proofs.Halving.{rows_rise}
+use Rattle.ak_handler.specs.Seen.{Rise}
 use Rattle.ak_handler.proofs.set.HandlerSet.place.Goals as goal
+
+pub place_with-requires : goal.place_with-requires
+place_with-requires g c = subst Rise (sym c.deref.ensures.value) (rows_rise c.self.inside.rows.items c.self.invariant.tokens_rise)
 
 pub returns : goal.returns
 returns g c =

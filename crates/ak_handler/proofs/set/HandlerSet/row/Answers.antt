@@ -1,8 +1,14 @@
--- The row that is found is the handler that is found.
-use Rattle.std.proofs.Common.{◌∙◌, ap, find, ◌==◌}
-use Rattle.ak_handler.proofs.Looking.{row_found}
+-- The row at the place of a handler is that handler.
+use Rattle.std.proofs.Common.{◌≡◌, Some, sym, subst}
+use Rattle.ak_handler.specs.Handlers.{handler_of, place_of}
+use Rattle.ak_handler.proofs.Halving.{none_there, row_placed}
 use Rattle.ak_handler.proofs.set.HandlerSet.row.Goals as goal
 
 pub returns : goal.returns
 returns g c =
-    rw (← c.self.view_is) (row_found c.self.inside.rows.items c.args.token c.row_with.result (c.row_with.ensures ∙ ap (find (λ row. row.token == c.args.token)) c.deref.ensures.value))
+    let at = subst (λ s. Some c.in_ok-place.place ≡ place_of s.list c.args.token) (sym c.self.view_is) c.in_ok-place.ensures.place in
+    rw (← c.self.view_is) (row_placed c.self.inside.rows.items c.args.token c.in_ok-place.place c.index.result.now c.self.invariant.tokens_rise at c.index.ensures)
+
+pub returns-in_err-place : goal.returns-in_err-place
+returns-in_err-place g c =
+    rw c.from_residual.ensures (none_there (handler_of c.args.self.now.list c.args.token) c.in_err-place.ensures.found)
