@@ -1,6 +1,6 @@
 //! The handlers through which a message goes, so that a route can be timed.
 
-ghost use Rattle.std.specs.Prelude.{◌≡◌, ◌≢◌, ◌≤◌, ◌↔◌, ◌++◌, IfOk, IsTrue, codes, length, max, true, false};
+ghost use Rattle.std.specs.Prelude.{◌≡◌, ◌≢◌, ◌≤◌, ◌↔◌, IfOk, IsTrue, length, max, true, false};
 ghost use Rattle.std.specs.Fmt.{decimal};
 ghost use Rattle.ak_filter.specs.Filter.{admits};
 
@@ -80,9 +80,9 @@ fn handlers(alloc: Global, shape: Shape) -> Result<HandlerSet<Held>, BenchFault>
 }
 
 fn name(alloc: Global, place: u32) -> Result<Text, BenchFault>
-    ensures { IfOk result (λ name. name ≡ codes "handler " ++ decimal place) }
+    ensures { IfOk result (λ name. name ≡ decimal place) }
 {
-    let name = format!(in alloc; "handler {place}")?;
+    let name = place.to_string(alloc)?;
     Ok(Text::from_bytes(alloc, name.as_bytes())?)
 }
 
