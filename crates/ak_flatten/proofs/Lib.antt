@@ -7,3 +7,4 @@ pub mod LawsHold
 pub mod Lengths
 pub mod Writings
 pub mod Growing
+pub mod Items

@@ -5,3 +5,5 @@ pub mod Popped
 pub mod Reading
 pub mod Seen
 pub mod Spelling
+pub mod Item
+pub mod Inside

@@ -52,6 +52,16 @@ pub enum UnflattenFault {
     NoMemory,
 }
 
+/// Why a flat text is kept as no item. They are tested in this order.
+#[derive(Clone, Copy, Debug, PartialEq, Eq)]
+pub enum ItemFault {
+    /// The bytes are no flat text.
+    Bad(FlatFault),
+    /// More specifiers are said to be popped than the message has.
+    Popped,
+    NoMemory,
+}
+
 impl From<NoMemory> for FlattenFault {
     ghost use Rattle.std.specs.Prelude.{◌≡◌};
     ghost use Rattle.ak_flatten.specs.declared.fault.FlattenFault.TheVariants as fault;
@@ -82,5 +92,19 @@ impl From<FlatFault> for UnflattenFault {
 
     fn from(fault: FlatFault) -> UnflattenFault {
         UnflattenFault::Bad(fault)
+    }
+}
+
+impl From<UnflattenFault> for ItemFault {
+    ghost use Rattle.std.specs.Prelude.{◌≡◌};
+    ghost use Rattle.ak_flatten.specs.Item.{unread_fault};
+
+    ghost from_gives = { λ f e. e ≡ unread_fault f };
+
+    fn from(fault: UnflattenFault) -> ItemFault {
+        match fault {
+            UnflattenFault::Bad(fault) => ItemFault::Bad(fault),
+            UnflattenFault::NoMemory => ItemFault::NoMemory,
+        }
     }
 }
