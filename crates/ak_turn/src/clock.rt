@@ -1,6 +1,8 @@
 ghost use Rattle.std.specs.Prelude.{◌≡◌, ◌+◌, ◌<◌, ◌^◌, max};
 
+use crate::waiting::rest_for_ever;
 use ak_base::ThreadId;
+use std::sync::Wait;
 
 /// The clock of one thread. It is no clock of the world: it makes the stamp of each new entry, of whatever
 /// object, greater than those of the thread's earlier ones and than that of the object's last entry. A
@@ -22,5 +24,14 @@ impl Clock {
     {
         self.time = 1 + self.time.max(last_stamp);
         self.time
+    }
+
+    /// Waits, and returns only where the time is below 2^63: a run that came to so many stamps would not return.
+    pub fn ready<R: Wait>(&self, rt: &R)
+        ensures { self.now.time < 2 ^ 63 }
+    {
+        if self.time >= 1 << 63 {
+            rest_for_ever(rt);
+        }
     }
 }
