@@ -1,4 +1,8 @@
+mod calls;
+mod four;
+mod shared;
 mod tally;
+mod two_locks;
 
 use crate::{Book, Clock};
 use ak_base::ThreadId;

@@ -4,6 +4,7 @@ ghost use Rattle.std.specs.Prelude.{◌≡◌, ◌++◌, ◌∷◌, [], OnOk, On
 use crate::Book;
 use ak_base::{NoMemory, ThreadId};
 use std::alloc::Global;
+use std::marker::Model;
 
 #[derive(Clone, Copy, Debug, PartialEq, Eq)]
 pub struct Count {
@@ -17,9 +18,18 @@ pub struct Tally {
     entries: Vec<Count>,
 }
 
+impl Model for Tally {
+    ghost use Rattle.std.specs.Prelude.{List};
+    ghost use Rattle.ak_turn.specs.declared.tests.tally.Count.{Count};
+
+    ghost Value = { List Count };
+
+    ghost view = { λ tally. tally.entries.items };
+}
+
 impl Tally {
     pub fn new(alloc: Global) -> Tally
-        ensures { result.entries.items ≡ [] }
+        ensures { result ≡ [] }
     {
         Tally {
             entries: Vec::new(alloc),
@@ -27,8 +37,8 @@ impl Tally {
     }
 
     pub fn add(&mut self, count: Count) -> Result<(), NoMemory>
-        ensures ok { OnOk result (self.new.entries.items ≡ self.old.entries.items ++ count ∷ []) }
-        ensures err { OnErr result (self.new.entries.items ≡ self.old.entries.items) }
+        ensures ok { OnOk result (self.new ≡ self.old ++ count ∷ []) }
+        ensures err { OnErr result (self.new ≡ self.old) }
     {
         self.entries.push(count)?;
         Ok(())
@@ -44,7 +54,7 @@ impl Book for Tally {
 
     ghost opening = { λ _. tt };
 
-    ghost lines = { λ tally. tally.entries.items };
+    ghost lines = { λ tally. tally };
 
     ghost plain = { λ count. count };
 
