@@ -31,8 +31,8 @@ module _ {B O L : Type 0} (opening : B → O) (lines : B → List L) (at_rest : 
         subst (λ x. KnowsWhole by (seat_seen lock x)) (sym now) base,
       )
 
-  pub seat_given : (old : SeatData O L) (lock lock' : LockId) (v : View O L) (waits ticket : ℕ) (m n : Sat B O L) (w : View O L) → seat_seen lock v ≡ old → lock' ≡ lock → m ≡ (staged (Waits waits) v, [])
-      → TakesTurn opening lines at_rest by ticket m n → w ≡ n.0 → IsGiven by old (seat_seen lock' w) × KnowsWhole by (seat_seen lock' w)
-  seat_given old lock lock' v waits ticket m n w was same m_is t w_is =
+  pub seat_given : (old : SeatData O L) (lock lock' : LockId) (v : View O L) (waits ticket : ℕ) (m n p : Sat B O L) (slots : List (ℕ × Option B)) → seat_seen lock v ≡ old → lock' ≡ lock
+      → m ≡ (staged (Waits waits) v, []) → TakesTurn opening lines at_rest by ticket m n → p ≡ (n.0, slots) → IsGiven by old (seat_seen lock' p.0) × KnowsWhole by (seat_seen lock' p.0)
+  seat_given old lock lock' v waits ticket m n p slots was same m_is t p_is =
       let base = from_view lock v waits ticket n (subst (λ x. TakesTurn opening lines at_rest by ticket x n) m_is t) in
-      subst (λ (p : SeatData O L × LockId × View O L). Given p.0 (seat_seen p.1 p.2)) (λ i. (was i, sym same i, sym w_is i)) base
+      subst (λ (q : SeatData O L × LockId × View O L). Given q.0 (seat_seen q.1 q.2)) (λ i. (was i, sym same i, (sym p_is i).0)) base
