@@ -1,0 +1,13 @@
+pub mod Lists
+pub mod Placing
+pub mod Seating
+pub mod Drawing
+pub mod Looking
+pub mod Adding
+pub mod Passing
+pub mod Splitting
+pub mod Joining
+pub mod Starting
+pub mod Locking
+pub mod Finishing
+pub mod Calls

@@ -1,0 +1,12 @@
+use Rattle.ak_turn.specs.Lines.{maker}
+use Rattle.ak_turn.proofs.Calls.{seen_then_seen, seen_then_called, known_is_made}
+use Rattle.ak_turn.proofs.laws.fronts_go_on.Goals as goal
+
+pub returns-clause-seen : goal.returns-clause-seen
+returns-clause-seen g c = seen_then_seen (maker g.B.Book.plain g.B.Book.by)
+
+pub returns-clause-called : goal.returns-clause-called
+returns-clause-called g c = seen_then_called (maker g.B.Book.plain g.B.Book.by)
+
+pub returns-clause-made : goal.returns-clause-made
+returns-clause-made g c = known_is_made (maker g.B.Book.plain g.B.Book.by)

@@ -1,0 +1,6 @@
+use Rattle.std.proofs.Common.{arith}
+use Rattle.ak_turn.proofs.Passing.{passes}
+use Rattle.ak_turn.proofs.steps.pass_on.Goals as goal
+
+pub fetch_add-requires : goal.fetch_add-requires
+fetch_add-requires g c = (c.requires.of, omega (arith, c.requires.wide.0), passes _ _ _ _ _ _ c.args.book.now.value _ c.requires.holds c.requires.same c.requires.rest c.requires.opening)

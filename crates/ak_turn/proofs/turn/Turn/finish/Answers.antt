@@ -1,0 +1,13 @@
+use Rattle.std.proofs.Common.{ap, sym}
+use Rattle.ak_turn.specs.Lines.{maker}
+use Rattle.ak_turn.proofs.Finishing.{holds_book, holds_noted}
+use Rattle.ak_turn.proofs.turn.Turn.finish.Goals as goal
+
+pub note_entry-requires-clause-holds : goal.note_entry-requires-clause-holds
+note_entry-requires-clause-holds g c =
+    holds_book g.B.Book.lines c.seat.inside.place.me.0 _ c.self.inside.book c.of-kept.result.value _ (ap (λ s. s.turn) c.seat.view_is) c.requires.turn c.put_back.ensures.after (sym c.of-kept.ensures)
+
+pub pass_on-served-requires-clause-holds : goal.pass_on-served-requires-clause-holds
+pass_on-served-requires-clause-holds g c =
+    holds_noted g.B.Book.lines (maker g.B.Book.plain g.B.Book.by) c.of-kept.result.value _ _
+    (holds_book g.B.Book.lines c.seat.inside.place.me.0 _ c.self.inside.book c.of-kept.result.value _ (ap (λ s. s.turn) c.seat.view_is) c.requires.turn c.put_back.ensures.after (sym c.of-kept.ensures)) c.note_entry.ensures.noted

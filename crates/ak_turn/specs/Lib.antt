@@ -1,0 +1,7 @@
+pub mod Laws
+pub mod Lending
+pub mod Lines
+pub mod Rule
+pub mod Seats
+pub mod Seen
+pub mod Steps

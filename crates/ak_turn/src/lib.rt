@@ -1,0 +1,26 @@
+//! Turns of a shared object. An object is a book of the entries that threads made, which stand in one list;
+//! each has a stamp by its thread's clock and the object's last stamp. A thread has a seat at the object's
+//! lock: at its turn it has the book, and knows the whole list, in which the entries by its thread are just
+//! those that it made. The list has one history, of which every seat has seen a beginning. `lock`, `ready`
+//! and `wait_past` may wait; that a wait ends is not promised.
+#![tactic(auto)]
+
+mod book;
+mod clock;
+mod laws;
+mod lock;
+mod plays;
+mod seat;
+mod steps;
+#[cfg(test)]
+mod tests;
+mod turn;
+mod view;
+mod waiting;
+
+pub use book::Book;
+pub use clock::Clock;
+pub use laws::fronts_go_on;
+pub use lock::TurnLock;
+pub use seat::Seat;
+pub use turn::Turn;

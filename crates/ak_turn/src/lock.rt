@@ -1,0 +1,157 @@
+ghost use Rattle.std.specs.Prelude.{◌≡◌, ◌<◌, ◌^◌, All, None, Some, IfOk, false};
+ghost use Rattle.std.specs.Arc.{arc_value};
+ghost use Rattle.ak_turn.specs.Lines.{last_stamp_of, maker, places};
+ghost use Rattle.ak_turn.specs.Seats.{IsGiven, KnowsWhole, first_seat, new_seat, titled_seat, joined_seat};
+ghost use Rattle.ak_turn.specs.Steps.{IsNewName, names_with};
+
+use crate::book::Book;
+use crate::plays::{Board, Start};
+use crate::seat::Seat;
+use crate::steps::{await_turn, draw, join_in, split_off, split_off_head, take_out};
+use crate::turn::Turn;
+use crate::waiting::{rest_for_entry, rest_for_ever};
+use ak_base::{NoMemory, ThreadId};
+use atomic_table::Table;
+use std::alloc::Global;
+use std::marker::{Brand, Model};
+use std::snapshot::Snapshot;
+use std::sync::atomic::AtomicU64;
+use std::sync::{Arc, Wait};
+
+/// The lock of one object. Threads take turns, in the order in which they ask; the thread whose turn it is
+/// has the object's book.
+#[derive(Drop)]
+pub struct TurnLock<B: Book> {
+    pub(crate) board: Board<B>,
+    pub(crate) watchers: AtomicU64,
+}
+
+impl<B: Book> Model for TurnLock<B> {
+    ghost use Rattle.ak_turn.specs.Seats.{LockId};
+    ghost use Rattle.ak_turn.specs.Steps.{IsWide};
+    ghost use Rattle.atomic_table.specs.Seated.{table_id_coded};
+
+    ghost Value = { LockId };
+
+    ghost coded = { table_id_coded };
+
+    ghost view = { λ l. l.board.shared.table_id };
+
+    ghost invariant = { λ l. IsWide l.board.shared.table_id };
+}
+
+// The number of a thread.
+fn number_of(thread: ThreadId) -> u32
+    ensures { result ≡ thread.0 }
+{
+    thread.0
+}
+
+impl<B: Book> TurnLock<B> {
+    /// A lock for that book, and its first seat, for that thread. It is the head, and all entries are its own.
+    pub fn new(
+        alloc: Global,
+        book: B,
+        thread: ThreadId,
+    ) -> Result<(Arc<TurnLock<B>>, Seat<B>), NoMemory>
+        requires rest { B.at_rest book }
+        requires own { All (λ line. B.by (B.plain line) ≡ thread.0) (B.lines book) }
+        ensures { IfOk result (λ made. made.1 ≡ first_seat (arc_value made.0) (B.opening book) (B.lines book) (places (maker B.plain B.by) thread.0 (B.lines book)) thread.0) }
+    {
+        let start = Start {
+            book: Snapshot::of(&book),
+            thread: number_of(thread),
+        };
+        let seen = book.len();
+        let mut slots = Vec::with_capacity(alloc, 1)?;
+        slots.push(Some(book))?;
+        let Ok((board, place)) = Table::new(alloc, &[0, 0, seen], slots, &start) else {
+            return Err(NoMemory);
+        };
+        let lock = Arc::new(
+            alloc,
+            TurnLock {
+                board,
+                watchers: AtomicU64::new(0),
+            },
+        )?;
+        Ok((lock, Seat { place, seen }))
+    }
+
+    /// Waits for the seat's turn, and gives it the book. The book's list goes on from the seat's front by
+    /// entries of other threads; the seat has seen them all. It returns only where the last stamp is below
+    /// 2^63. Takes no memory.
+    pub fn lock<'a, R: Wait>(&'a self, rt: &R, seat: &mut Seat<B>) -> Turn<'a, B>
+        requires of { seat.old.lock ≡ self.now }
+        requires idle { seat.old.turn ≡ false }
+        ensures of { result.lock ≡ self.now }
+        ensures rest { B.at_rest result.book }
+        ensures opening { seat.old.opening ≡ Some (B.opening result.book) }
+        ensures seen { IsGiven (maker B.plain B.by) seat.old seat.new }
+        ensures known { KnowsWhole (maker B.plain B.by) seat.new }
+        ensures list { B.lines result.book ≡ seat.new.front }
+        ensures stamp { last_stamp_of (λ line. B.stamp (B.plain line)) (B.lines result.book) < 2 ^ 63 }
+    {
+        let common = &self.board.shared;
+        let mine = draw(common, &mut seat.place);
+        await_turn(rt, common, &mut seat.place, mine);
+        let book = take_out(common, &mut seat.place);
+        if book.last_stamp() >= 1 << 63 {
+            rest_for_ever(rt);
+        }
+        seat.seen = book.len();
+        Turn { lock: self, book }
+    }
+
+    /// Waits while the object has just so many entries as `seen`. It may also return for no reason.
+    pub fn wait_past<R: Wait>(&self, rt: &R, seen: u64) {
+        rest_for_entry(rt, &self.board.shared, &self.watchers, seen);
+    }
+
+    /// A seat for a new thread. It has seen as much as the seat, and none of the entries is its own. The seat
+    /// stays the head. Takes no memory.
+    pub fn split(&self, seat: &mut Seat<B>, thread: ThreadId) -> Seat<B>
+        requires of { seat.old.lock ≡ self.now }
+        requires idle { seat.old.turn ≡ false }
+        requires name { IsNewName seat.old.names thread.0 }
+        ensures old { seat.new ≡ titled_seat (names_with seat.old.names thread.0) seat.old }
+        ensures new { result ≡ new_seat thread.0 None seat.old }
+    {
+        let place = split_off::<B, Brand>(&self.board.shared, &mut seat.place, number_of(thread));
+        Seat {
+            place,
+            seen: seat.seen,
+        }
+    }
+
+    /// The same, and the new seat is the head from then on. Takes no memory.
+    pub fn split_head(&self, seat: &mut Seat<B>, thread: ThreadId) -> Seat<B>
+        requires of { seat.old.lock ≡ self.now }
+        requires idle { seat.old.turn ≡ false }
+        requires name { IsNewName seat.old.names thread.0 }
+        ensures old { seat.new ≡ titled_seat None seat.old }
+        ensures new { result ≡ new_seat thread.0 (names_with seat.old.names thread.0) seat.old }
+    {
+        let place = split_off_head::<B, Brand>(
+            &self.board.shared,
+            &mut seat.place,
+            number_of(thread),
+        );
+        Seat {
+            place,
+            seen: seat.seen,
+        }
+    }
+
+    /// The seat knows what both knew: at its next turn the list goes on from both fronts, and what the other
+    /// made is all that there is by its thread. It is the head where one of the two was. Takes no memory.
+    pub fn join(&self, seat: &mut Seat<B>, other: Seat<B>)
+        requires of { (seat.old.lock ≡ self.now) × (other.lock ≡ self.now) }
+        requires idle { seat.old.turn ≡ false }
+        requires other_idle { other.turn ≡ false }
+        ensures { seat.new ≡ joined_seat seat.old other }
+    {
+        let Seat { place, seen: _ } = other;
+        join_in(&self.board.shared, &mut seat.place, place);
+    }
+}
