@@ -103,7 +103,7 @@ impl<B: Book> TurnLock<B> {
         Turn { lock: self, book }
     }
 
-    /// Waits while the object has just so many entries as `seen`, which a seat tells. Takes no memory.
+    /// Waits while the object has just so many entries as `seen`. It may also return for no reason.
     pub fn wait_past<R: Wait>(&self, rt: &R, seen: u64) {
         rest_for_entry(rt, &self.board.shared, &self.watchers, seen);
     }
