@@ -9,7 +9,7 @@ use crate::plays::{Board, Start};
 use crate::seat::Seat;
 use crate::steps::{await_turn, draw, join_in, split_off, split_off_head, take_out};
 use crate::turn::Turn;
-use crate::waiting::{rest_for_entry, rest_for_ever};
+use crate::waiting::{rest_before_ticket, rest_for_entry, rest_for_ever};
 use ak_base::{NoMemory, ThreadId};
 use atomic_table::Table;
 use std::alloc::Global;
@@ -18,12 +18,13 @@ use std::snapshot::Snapshot;
 use std::sync::atomic::AtomicU64;
 use std::sync::{Arc, Wait};
 
-/// The lock of one object. Threads take turns, in the order in which they ask; the thread whose turn it is
-/// has the object's book.
+/// The lock of one object. Threads take turns, in the order of the tickets that they draw; a thread that asks while
+/// others have tickets may first sleep a few times. The thread whose turn it is has the object's book.
 #[derive(Drop)]
 pub struct TurnLock<B: Book> {
     pub(crate) board: Board<B>,
     pub(crate) watchers: AtomicU64,
+    pub(crate) sleepers: AtomicU64,
 }
 
 impl<B: Book> Model for TurnLock<B> {
@@ -73,6 +74,7 @@ impl<B: Book> TurnLock<B> {
             TurnLock {
                 board,
                 watchers: AtomicU64::new(0),
+                sleepers: AtomicU64::new(0),
             },
         )?;
         Ok((lock, Seat { place, seen }))
@@ -93,6 +95,7 @@ impl<B: Book> TurnLock<B> {
         ensures stamp { last_stamp_of (λ line. B.stamp (B.plain line)) (B.lines result.book) < 2 ^ 63 }
     {
         let common = &self.board.shared;
+        rest_before_ticket(rt, common, &self.sleepers);
         let mine = draw(common, &mut seat.place);
         await_turn(rt, common, &mut seat.place, mine);
         let book = take_out(common, &mut seat.place);
@@ -103,7 +106,7 @@ impl<B: Book> TurnLock<B> {
         Turn { lock: self, book }
     }
 
-    /// Waits while the object has just so many entries as `seen`. It may also return for no reason.
+    /// Waits while the object has just so many entries as `seen`, which a seat tells. Takes no memory.
     pub fn wait_past<R: Wait>(&self, rt: &R, seen: u64) {
         rest_for_entry(rt, &self.board.shared, &self.watchers, seen);
     }

@@ -57,7 +57,7 @@ impl<'a, B: Book> Turn<'a, B> {
         note_entry(common, &mut seat.place, &kept, is_longer);
         seat.seen = count;
         let served = pass_on(common, &mut seat.place, &kept);
-        wake(common, &lock.watchers, served, is_longer);
+        wake(common, &lock.watchers, &lock.sleepers, served, is_longer);
     }
 
     /// Gives the book out, and never passes the turn on. Takes no memory.
