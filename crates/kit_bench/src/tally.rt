@@ -11,7 +11,7 @@ use std::marker::Model;
 pub struct Count {
     pub stamp: u64,
     pub by: ThreadId,
-    pub number: u64,
+    pub number: u32,
 }
 
 #[derive(Drop)]

@@ -60,15 +60,15 @@ pub fn count_after_wait<R: Threads + Wait + time::Clock + Sync>(
         seat: lock.split(&mut seat, thread),
         thread,
     };
-    let (held, waited) = join(
+    let (waited, held) = join(
         rt,
+        || -> Result<Seat<Tally>, NoMemory>
+            requires { IsReady lock.now other.thread.0 other.seat }
+        { work_later(rt, lock, other) },
         || -> Seat<Tally>
             requires { IsIdleAt lock.now seat }
             ensures { IsIdleAt lock.entry.now result }
         { hold(rt, lock, seat, milliseconds) },
-        || -> Result<Seat<Tally>, NoMemory>
-            requires { IsReady lock.now other.thread.0 other.seat }
-        { work_later(rt, lock, other) },
     );
     waited?;
     Ok(count_entries(rt, lock, held))
@@ -113,7 +113,7 @@ fn work<R: Wait>(
     let Worker { mut seat, thread } = worker;
     let mut clock = Clock { thread, time: 0 };
     for number in 0..each {
-        enter(rt, lock, &mut seat, &mut clock, u64::from(number))?;
+        enter(rt, lock, &mut seat, &mut clock, number)?;
     }
     Ok(seat)
 }
@@ -138,7 +138,7 @@ fn enter(
     lock: &TurnLock<Tally>,
     seat: &mut Seat<Tally>,
     clock: &mut Clock,
-    number: u64,
+    number: u32,
 ) -> Result<Count, NoMemory>
     requires of { seat.old.lock ≡ lock.now }
     requires idle { seat.old.turn ≡ false }
