@@ -83,6 +83,8 @@ impl<B: Book> TurnLock<B> {
     /// Waits for the seat's turn, and gives it the book. The book's list goes on from the seat's front by
     /// entries of other threads; the seat has seen them all. It returns only where the last stamp is below
     /// 2^63. Takes no memory.
+    // Part of its caller, as `finish` is: a turn that nobody waits for takes less time where the book is not moved about in memory.
+    #[inline(always)]
     pub fn lock<'a, R: Wait>(&'a self, rt: &R, seat: &mut Seat<B>) -> Turn<'a, B>
         requires of { seat.old.lock ≡ self.now }
         requires idle { seat.old.turn ≡ false }

@@ -39,6 +39,7 @@ impl<'a, B: Book> Turn<'a, B> {
 
     /// Gives the book back, with a new entry or as it was, and passes the turn on. The seat has then seen the
     /// whole list. Takes no memory.
+    #[inline(always)]
     pub fn finish(self, seat: &mut Seat<B>)
         requires of { seat.old.lock ≡ self.lock }
         requires turn { seat.old.turn ≡ true }

@@ -1,4 +1,5 @@
 //! How a thread waits. No clause depends on it, and nobody burns a processor.
+ghost use Rattle.std.specs.Prelude.{◌<◌};
 ghost use Rattle.ak_turn.specs.Steps.{IsWide};
 
 use crate::book::Book;
@@ -44,12 +45,11 @@ fn becomes_free<B: Book>(common: &Common<B>) -> bool
     false
 }
 
-// Waits a while before a ticket is drawn, until nobody has one. Whoever draws a ticket while others have the turn
-// must run before anybody else can have it, so threads that ask again and again would change places for each turn.
-// Here a thread sleeps instead, and the others go on. After so many naps it draws its ticket all the same, and none
-// that is drawn later comes before it. A thread that a nap has ended says again that threads may sleep, so that its
-// own turn ends the nap of the next one.
-pub(crate) fn rest_before_ticket<B: Book, R: Wait>(rt: &R, common: &Common<B>, sleepers: &AtomicU64)
+// Waits a while, until nobody has a ticket. A thread that a nap has ended says again that threads may sleep, so that
+// its own turn ends the nap of the next one.
+#[cold]
+#[inline(never)]
+fn await_free<B: Book, R: Wait>(rt: &R, common: &Common<B>, sleepers: &AtomicU64)
     requires { IsWide common.now.table_id }
 {
     if becomes_free(common) {
@@ -65,7 +65,21 @@ pub(crate) fn rest_before_ticket<B: Book, R: Wait>(rt: &R, common: &Common<B>, s
     sleepers.store(1, SeqCst);
 }
 
+// Waits a while before a ticket is drawn, where others have one. Whoever draws a ticket while others have the turn
+// must run before anybody else can have it, so threads that ask again and again would change places for each turn.
+// Here a thread sleeps instead, and the others go on. After so many naps it draws its ticket all the same, and none
+// that is drawn later comes before it.
+pub(crate) fn rest_before_ticket<B: Book, R: Wait>(rt: &R, common: &Common<B>, sleepers: &AtomicU64)
+    requires { IsWide common.now.table_id }
+{
+    if !is_free(common) {
+        await_free(rt, common, sleepers);
+    }
+}
+
 // Waits for a while, or until another number is served.
+#[cold]
+#[inline(never)]
 pub(crate) fn rest_for_turn<B: Book, R: Wait>(rt: &R, common: &Common<B>, serving: u64, tries: u32)
     requires { IsWide common.now.table_id }
 {
@@ -79,10 +93,22 @@ pub(crate) fn rest_for_turn<B: Book, R: Wait>(rt: &R, common: &Common<B>, servin
 }
 
 // Wakes one of those who sleep without a ticket, if one may.
+#[cold]
+#[inline(never)]
 fn end_nap(sleepers: &AtomicU64) {
-    if sleepers.load(SeqCst) != 0 && sleepers.swap(0, SeqCst) != 0 {
+    if sleepers.swap(0, SeqCst) != 0 {
         sleepers.wake_one();
     }
+}
+
+// Wakes those who sleep on that word.
+#[cold]
+#[inline(never)]
+fn wake_sleepers<B: Book>(common: &Common<B>, word: usize)
+    requires wide { IsWide common.now.table_id }
+    requires word { word < 3 }
+{
+    common.wake_all(word);
 }
 
 // Wakes those who wait for their turn, once the number was served, and, after a new entry, those who wait for
@@ -99,12 +125,12 @@ pub(crate) fn wake<B: Book>(
     requires { IsWide common.now.table_id }
 {
     if common.peek(TICKET) != served.wrapping_add(1) {
-        common.wake_all(SERVING);
-    } else {
+        wake_sleepers(common, SERVING);
+    } else if sleepers.load(SeqCst) != 0 {
         end_nap(sleepers);
     }
     if is_longer && watchers.load(SeqCst) != 0 {
-        common.wake_all(COUNT);
+        wake_sleepers(common, COUNT);
     }
 }
 
@@ -128,6 +154,8 @@ pub(crate) fn rest_for_entry<B: Book, R: Wait>(
 }
 
 // Never returns.
+#[cold]
+#[inline(never)]
 pub(crate) fn rest_for_ever<R: Wait>(rt: &R)
     ensures { ⊥ }
 {
