@@ -12,7 +12,7 @@ use std::sync::atomic::Ordering::SeqCst;
 use std::thread::yield_now;
 
 /// How often a thread looks again at once.
-const LOOKS: u32 = 100;
+const LOOKS: u32 = 20;
 
 /// How often a thread with a ticket then lets others run, before it parks.
 const YIELDS: u32 = 2;
