@@ -1,5 +1,5 @@
 -- Names that are below a number.
-use Rattle.std.proofs.Common.{◌≡◌, ◌≢◌, ℕ, ◌+◌, ◌<◌, List, [], ◌∷◌, ◌++◌, All, Option, Some, None, arith}
+use Rattle.std.proofs.Common.{◌≢◌, ℕ, ◌+◌, ◌<◌, List, Option, Some, None, arith}
 use Rattle.std.proofs.lemmas.List.Elements.{All-weaker, All-push}
 use Rattle.ak_turn.specs.Steps.{IsNewName, names_with}
 use Rattle.kit_bench.specs.Turns.{AreNamesBelow}

@@ -1,7 +1,6 @@
 -- The threads that take turns.
 use Rattle.std.specs.Prelude.{◌≡◌, ℕ, ◌<◌, false, List, [], All, Option, Some, None}
 use Rattle.ak_turn.specs.Seats.{LockId, SeatData}
-use Rattle.kit_bench.specs.declared.tally.Count.{Count}
 
 module _ {O L : Type 0} where
   -- a seat of that lock, without a turn
