@@ -1,0 +1,17 @@
+pub mod Fields
+pub mod GoingOn
+pub mod Growing
+pub mod Holding
+pub mod LawCalls
+pub mod LawCases
+pub mod LawCounts
+pub mod LawReplay
+pub mod LawReply
+pub mod LawSteps
+pub mod Lending
+pub mod Placing
+pub mod Reacting
+pub mod Rooms
+pub mod Rows
+pub mod Stages
+pub mod Sums

@@ -1,0 +1,16 @@
+pub mod Acts
+pub mod Building
+pub mod Doing
+pub mod DoingSeen
+pub mod Interp
+pub mod InterpCode
+pub mod InterpInside
+pub mod Laws
+pub mod Number
+pub mod Properties
+pub mod Row
+pub mod State
+pub mod Steps
+pub mod Template
+pub mod Values
+pub mod Words

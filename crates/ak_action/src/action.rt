@@ -1,0 +1,477 @@
+ghost use Rattle.std.specs.Prelude.{◌≡◌, ◌++◌, ◌∷◌, [], ◌≤◌, ◌↔◌, length, IfOk, IsErrOf, OnOk, OnErr};
+
+use crate::number::Number;
+use crate::template::{Given, Template};
+use ak_base::{AppWord, Code, NoMemory, Text};
+use std::alloc::{AllocFailed, Global};
+use std::marker::Model;
+
+/// How many actions a reaction may have.
+pub const ACTION_LIMIT: usize = 16;
+
+/// Where an action sends a message.
+#[derive(Drop)]
+pub enum Dest {
+    /// The preferred target of its own looper.
+    Own,
+    /// The preferred target of the application's looper of that name.
+    Looper(Text),
+    /// The handler of its own looper that has that name then.
+    Handler(Text),
+    /// The preferred target of a running application's own looper.
+    App(AppWord),
+}
+
+/// One thing that a handler does on a message.
+#[derive(Drop)]
+pub enum Action {
+    /// The first one is the reply.
+    Reply {
+        message: Template,
+    },
+    /// Sends a message and waits for nothing; `back` asks for an answer to this handler.
+    Post {
+        to: Dest,
+        message: Template,
+        back: bool,
+    },
+    /// Sends a message and waits for its reply. Where the reply has `result` of that property's kind, the
+    /// property's first element gets its first value.
+    Ask {
+        to: Dest,
+        message: Template,
+        into: Option<Text>,
+    },
+    /// Gives the first element of the property that value.
+    Set {
+        property: Text,
+        value: Given,
+    },
+    /// Adds that number to the first element of the property.
+    Add {
+        property: Text,
+        amount: Number,
+    },
+    /// No further action is carried out.
+    Stop,
+    /// The looper ends after this message.
+    Quit,
+}
+
+/// Why an action was not added.
+#[derive(Clone, Copy, Debug, PartialEq, Eq)]
+pub enum ActionFault {
+    /// There are 16 actions.
+    ActionLimit,
+    NoMemory,
+}
+
+impl<T: Drop> From<AllocFailed<T>> for ActionFault {
+    ghost use Rattle.std.specs.Prelude.{◌≡◌};
+    ghost use Rattle.ak_action.specs.declared.action.ActionFault.TheVariants.{NoMemory};
+
+    ghost from_gives = { λ _ e. e ≡ NoMemory };
+
+    fn from(_error: AllocFailed<T>) -> ActionFault {
+        ActionFault::NoMemory
+    }
+}
+
+/// Actions in the order in which they are carried out, at most 16. Contracts see their list.
+#[derive(Drop)]
+pub struct ActionList {
+    list: Vec<Action>,
+}
+
+impl Model for ActionList {
+    ghost use Rattle.std.specs.Prelude.{◌≤◌, List, length};
+    ghost use Rattle.std.specs.Coded.{coded_list};
+    ghost use Rattle.ak_action.specs.contracts.action.Action.{the_row};
+    ghost use Rattle.ak_action.specs.declared.action.Action.{Action};
+
+    ghost Value = { List Action };
+
+    ghost coded = { coded_list the_row.coded };
+
+    ghost view = { λ l. l.list.items };
+
+    ghost invariant = { λ l. length l.list.items ≤ 16 };
+}
+
+/// What a handler does on messages of that code.
+#[derive(Drop)]
+pub struct Reaction {
+    pub what: Code,
+    pub actions: ActionList,
+}
+
+impl Dest {
+    /// An equal one.
+    pub fn try_clone(&self) -> Result<Dest, NoMemory>
+        ensures { IfOk result (λ d. d ≡ self.now) }
+    {
+        match self {
+            Dest::Own => Ok(Dest::Own),
+            Dest::Looper(name) => Ok(Dest::Looper(name.try_clone()?)),
+            Dest::Handler(name) => Ok(Dest::Handler(name.try_clone()?)),
+            Dest::App(word) => Ok(Dest::App(word.try_clone()?)),
+        }
+    }
+}
+
+impl Action {
+    /// An equal one.
+    pub fn try_clone(&self) -> Result<Action, NoMemory>
+        ensures { IfOk result (λ a. a ≡ self.now) }
+    {
+        match self {
+            Action::Reply { message } => Ok(Action::Reply {
+                message: message.try_clone()?,
+            }),
+            Action::Post { to, message, back } => Ok(Action::Post {
+                to: to.try_clone()?,
+                message: message.try_clone()?,
+                back: *back,
+            }),
+            Action::Ask { to, message, into } => Ok(Action::Ask {
+                to: to.try_clone()?,
+                message: message.try_clone()?,
+                into: copied_name(into)?,
+            }),
+            Action::Set { property, value } => Ok(Action::Set {
+                property: property.try_clone()?,
+                value: value.try_clone()?,
+            }),
+            Action::Add { property, amount } => Ok(Action::Add {
+                property: property.try_clone()?,
+                amount: *amount,
+            }),
+            Action::Stop => Ok(Action::Stop),
+            Action::Quit => Ok(Action::Quit),
+        }
+    }
+}
+
+impl ActionList {
+    /// No actions. Takes no memory.
+    pub fn new(alloc: Global) -> ActionList
+        ensures { result ≡ [] }
+    {
+        ActionList {
+            list: Vec::new(alloc),
+        }
+    }
+
+    /// Adds an action at the end. `ActionLimit` at 16 actions. An `Err` changes nothing, and the action is
+    /// dropped.
+    pub fn push(&mut self, action: Action) -> Result<(), ActionFault>
+        ensures limit { IsErrOf result ActionFault.ActionLimit ↔ (length self.old ≡ 16) }
+        ensures ok { OnOk result (self.new ≡ self.old ++ action ∷ []) }
+        ensures err { OnErr result (self.new ≡ self.old) }
+    {
+        if self.list.len() >= ACTION_LIMIT {
+            return Err(ActionFault::ActionLimit);
+        }
+        self.list.push(action)?;
+        Ok(())
+    }
+
+    /// The actions in order.
+    pub fn as_slice(&self) -> &[Action]
+        ensures value { result.now ≡ self.now }
+        ensures limit { length self.now ≤ 16 }
+    {
+        self.list.as_slice()
+    }
+
+    /// Equal actions.
+    pub fn try_clone(&self) -> Result<ActionList, NoMemory>
+        ensures { IfOk result (λ l. l ≡ self.now) }
+    {
+        let list = copied_actions(*self.list.allocator(), &self.list)?;
+        Ok(ActionList { list })
+    }
+}
+
+impl Reaction {
+    /// An equal one.
+    pub fn try_clone(&self) -> Result<Reaction, NoMemory>
+        ensures { IfOk result (λ r. r ≡ self.now) }
+    {
+        Ok(Reaction {
+            what: self.what,
+            actions: self.actions.try_clone()?,
+        })
+    }
+}
+
+/// How many reactions a handler may have.
+pub const REACTION_LIMIT: usize = 64;
+
+/// Why a reaction was not added.
+#[derive(Clone, Copy, Debug, PartialEq, Eq)]
+pub enum ReactionFault {
+    /// There are 64 reactions.
+    ReactionLimit,
+    NoMemory,
+}
+
+impl<T: Drop> From<AllocFailed<T>> for ReactionFault {
+    ghost use Rattle.std.specs.Prelude.{◌≡◌};
+    ghost use Rattle.ak_action.specs.declared.action.ReactionFault.TheVariants.{NoMemory};
+
+    ghost from_gives = { λ _ e. e ≡ NoMemory };
+
+    fn from(_error: AllocFailed<T>) -> ReactionFault {
+        ReactionFault::NoMemory
+    }
+}
+
+/// The reactions of a handler, at most 64. Contracts see their list.
+#[derive(Drop)]
+pub struct ReactionList {
+    list: Vec<Reaction>,
+}
+
+impl Model for ReactionList {
+    ghost use Rattle.std.specs.Prelude.{◌≤◌, List, length};
+    ghost use Rattle.std.specs.Coded.{coded_list};
+    ghost use Rattle.ak_action.specs.contracts.action.Reaction.{the_row};
+    ghost use Rattle.ak_action.specs.declared.action.Reaction.{Reaction};
+
+    ghost Value = { List Reaction };
+
+    ghost coded = { coded_list the_row.coded };
+
+    ghost view = { λ l. l.list.items };
+
+    ghost invariant = { λ l. length l.list.items ≤ 64 };
+}
+
+impl ReactionList {
+    /// No reactions. Takes no memory.
+    pub fn new(alloc: Global) -> ReactionList
+        ensures { result ≡ [] }
+    {
+        ReactionList {
+            list: Vec::new(alloc),
+        }
+    }
+
+    /// Adds a reaction at the end. `ReactionLimit` at 64 reactions. An `Err` changes nothing, and the
+    /// reaction is dropped.
+    pub fn push(&mut self, reaction: Reaction) -> Result<(), ReactionFault>
+        ensures limit { IsErrOf result ReactionFault.ReactionLimit ↔ (length self.old ≡ 64) }
+        ensures ok { OnOk result (self.new ≡ self.old ++ reaction ∷ []) }
+        ensures err { OnErr result (self.new ≡ self.old) }
+    {
+        if self.list.len() >= REACTION_LIMIT {
+            return Err(ReactionFault::ReactionLimit);
+        }
+        self.list.push(reaction)?;
+        Ok(())
+    }
+
+    /// The reactions in order.
+    pub fn as_slice(&self) -> &[Reaction]
+        ensures value { result.now ≡ self.now }
+        ensures limit { length self.now ≤ 64 }
+    {
+        self.list.as_slice()
+    }
+
+    /// Equal reactions.
+    pub fn try_clone(&self) -> Result<ReactionList, NoMemory>
+        ensures { IfOk result (λ l. l ≡ self.now) }
+    {
+        let list = copied_reactions(*self.list.allocator(), &self.list)?;
+        Ok(ReactionList { list })
+    }
+}
+
+fn copied_actions(alloc: Global, actions: &[Action]) -> Result<Vec<Action>, NoMemory>
+    ensures { IfOk result (λ copies. copies.items ≡ actions.now) }
+{
+    let mut copies = Vec::with_capacity(alloc, actions.len())?;
+    for action in actions {
+        copies.push(action.try_clone()?)?;
+    }
+    Ok(copies)
+}
+
+fn copied_reactions(alloc: Global, reactions: &[Reaction]) -> Result<Vec<Reaction>, NoMemory>
+    ensures { IfOk result (λ copies. copies.items ≡ reactions.now) }
+{
+    let mut copies = Vec::with_capacity(alloc, reactions.len())?;
+    for reaction in reactions {
+        copies.push(reaction.try_clone()?)?;
+    }
+    Ok(copies)
+}
+
+fn copied_name(name: &Option<Text>) -> Result<Option<Text>, NoMemory>
+    ensures { IfOk result (λ t. t ≡ name.now) }
+{
+    match name {
+        Some(name) => Ok(Some(name.try_clone()?)),
+        None => Ok(None),
+    }
+}
+
+#[cfg(test)]
+mod tests {
+    use super::*;
+    use crate::template::TemplateFields;
+    use std::test::Fail;
+
+    fn text(alloc: Global, bytes: &[u8]) -> Result<Text, Fail> {
+        Ok(Text::from_bytes(alloc, bytes)?)
+    }
+
+    fn bare(alloc: Global, what: u32) -> Template {
+        Template {
+            what: Code(what),
+            fields: TemplateFields::new(alloc),
+        }
+    }
+
+    fn dest(dest: &Dest) -> (u8, &str) {
+        match dest {
+            Dest::Own => (b'o', ""),
+            Dest::Looper(name) => (b'l', name.as_str()),
+            Dest::Handler(name) => (b'h', name.as_str()),
+            Dest::App(AppWord::Path(path)) => (b'a', path.as_str()),
+            Dest::App(_) => (b'a', ""),
+        }
+    }
+
+    // One of each kind, in the order of the enum.
+    fn one_of_each(alloc: Global) -> Result<ActionList, Fail> {
+        let mut list = ActionList::new(alloc);
+        list.push(Action::Reply {
+            message: bare(alloc, 1),
+        })?;
+        list.push(Action::Post {
+            to: Dest::Own,
+            message: bare(alloc, 2),
+            back: true,
+        })?;
+        list.push(Action::Ask {
+            to: Dest::Looper(text(alloc, b"list")?),
+            message: bare(alloc, 3),
+            into: Some(text(alloc, b"Count")?),
+        })?;
+        list.push(Action::Set {
+            property: text(alloc, b"Title")?,
+            value: Given::Field(text(alloc, b"title")?),
+        })?;
+        list.push(Action::Add {
+            property: text(alloc, b"Count")?,
+            amount: Number::Int32(-1),
+        })?;
+        list.push(Action::Stop)?;
+        list.push(Action::Quit)?;
+        Ok(list)
+    }
+
+    // Whether it is the one at that place of `one_of_each`.
+    fn is_at(action: &Action, place: usize) -> bool {
+        match action {
+            Action::Reply { message } => place == 0 && message.what == Code(1),
+            Action::Post { to, message, back } => {
+                place == 1 && message.what == Code(2) && *back && matches!(to, Dest::Own)
+            }
+            Action::Ask { to, message, into } => {
+                place == 2
+                    && message.what == Code(3)
+                    && dest(to) == (b'l', "list")
+                    && into.as_ref().is_some_and(|name| name.as_str() == "Count")
+            }
+            Action::Set { property, value } => {
+                place == 3
+                    && property.as_str() == "Title"
+                    && matches!(value, Given::Field(name) if name.as_str() == "title")
+            }
+            Action::Add { property, amount } => {
+                place == 4 && property.as_str() == "Count" && *amount == Number::Int32(-1)
+            }
+            Action::Stop => place == 5,
+            Action::Quit => place == 6,
+        }
+    }
+
+    fn is_one_of_each(list: &ActionList) -> bool {
+        list.as_slice().len() == 7
+            && list
+                .as_slice()
+                .iter()
+                .enumerate()
+                .all(|(place, action)| is_at(action, place))
+    }
+
+    #[test]
+    fn copies_have_each_part(rt: HostRuntime) -> Result<(), Fail> {
+        let alloc = rt.alloc();
+        let mut reactions = ReactionList::new(alloc);
+        let actions = one_of_each(alloc)?;
+        assert!(rt; is_one_of_each(&actions));
+        reactions.push(Reaction {
+            what: Code::GET,
+            actions,
+        })?;
+        let copy = reactions.try_clone()?;
+        assert_eq!(rt; copy.as_slice().len(), 1);
+        assert_eq!(rt; copy.as_slice()[0].what, Code::GET);
+        assert!(rt; is_one_of_each(&copy.as_slice()[0].actions));
+        let rows: [(Dest, (u8, &str)); 3] = [
+            (Dest::Looper(text(alloc, b"list")?), (b'l', "list")),
+            (Dest::Handler(text(alloc, b"row")?), (b'h', "row")),
+            (
+                Dest::App(AppWord::Path(text(alloc, b"/boot/demo")?)),
+                (b'a', "/boot/demo"),
+            ),
+        ];
+        for (to, told) in &rows {
+            assert_eq!(rt; dest(&to.try_clone()?), *told);
+        }
+        let asks = Action::Ask {
+            to: Dest::Own,
+            message: bare(alloc, 3),
+            into: None,
+        };
+        assert!(rt; matches!(asks.try_clone()?, Action::Ask { into: None, .. }));
+        Ok(())
+    }
+
+    #[test]
+    fn a_reaction_has_up_to_16_actions(rt: HostRuntime) -> Result<(), Fail> {
+        let mut list = ActionList::new(rt.alloc());
+        for _ in 0..15 {
+            assert_eq!(rt; list.push(Action::Stop), Ok(()));
+        }
+        assert_eq!(rt; list.push(Action::Quit), Ok(()));
+        assert_eq!(rt; list.push(Action::Stop), Err(ActionFault::ActionLimit));
+        assert_eq!(rt; list.as_slice().len(), 16);
+        assert!(rt; matches!(list.as_slice()[15], Action::Quit));
+        Ok(())
+    }
+
+    #[test]
+    fn a_handler_has_up_to_64_reactions(rt: HostRuntime) -> Result<(), Fail> {
+        let alloc = rt.alloc();
+        let on = |what: u32| Reaction {
+            what: Code(what),
+            actions: ActionList::new(alloc),
+        };
+        let mut list = ReactionList::new(alloc);
+        for what in 0..64 {
+            assert_eq!(rt; list.push(on(what)), Ok(()));
+        }
+        assert_eq!(rt; list.push(on(64)), Err(ReactionFault::ReactionLimit));
+        assert_eq!(rt; list.as_slice().len(), 64);
+        for (place, reaction) in list.as_slice().iter().enumerate() {
+            assert_eq!(rt; reaction.what, Code(place as u32));
+        }
+        Ok(())
+    }
+}

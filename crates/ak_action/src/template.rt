@@ -1,0 +1,286 @@
+ghost use Rattle.std.specs.Prelude.{◌≡◌, ◌++◌, ◌∷◌, [], Some, Err, IfSome, IfNone, IfOk, IsOkUnless, OnOk, OnErr};
+ghost use Rattle.ak_action.specs.Template.{AreTemplateFields, add_fault, has_name};
+
+use crate::values::Values;
+use ak_base::{Code, NoMemory, Text, is_word};
+use ak_message::FIELD_LIMIT;
+use std::alloc::{AllocFailed, Global};
+use std::marker::Model;
+
+/// What a field gets as its values.
+#[derive(Drop)]
+pub enum Given {
+    /// These.
+    Values(Values),
+    /// The first value of the field of that name of the message that is handled.
+    Field(Text),
+    /// The value of the first element of the handler's property of that name.
+    Property(Text),
+}
+
+impl Given {
+    /// An equal one.
+    pub fn try_clone(&self) -> Result<Given, NoMemory>
+        ensures { IfOk result (λ g. g ≡ self.now) }
+    {
+        match self {
+            Given::Values(values) => Ok(Given::Values(values.try_clone()?)),
+            Given::Field(name) => Ok(Given::Field(name.try_clone()?)),
+            Given::Property(name) => Ok(Given::Property(name.try_clone()?)),
+        }
+    }
+}
+
+/// A field of a message that is still to be made.
+#[derive(Drop)]
+pub struct TemplateField {
+    pub name: Text,
+    pub given: Given,
+}
+
+/// Why a field was not added. They are tested in this order.
+#[derive(Clone, Copy, Debug, PartialEq, Eq)]
+pub enum TemplateFault {
+    /// The name is no word.
+    BadName,
+    /// There is a field of that name.
+    NameInUse,
+    /// There are 64 fields.
+    FieldLimit,
+    NoMemory,
+}
+
+impl<T: Drop> From<AllocFailed<T>> for TemplateFault {
+    ghost use Rattle.std.specs.Prelude.{◌≡◌};
+    ghost use Rattle.ak_action.specs.declared.template.TemplateFault.TheVariants as fault;
+
+    ghost from_gives = { λ _ e. e ≡ fault.NoMemory };
+
+    fn from(_error: AllocFailed<T>) -> TemplateFault {
+        TemplateFault::NoMemory
+    }
+}
+
+/// Fields in order, at most 64, whose names are words and differ. Contracts see their list.
+#[derive(Drop)]
+pub struct TemplateFields {
+    list: Vec<TemplateField>,
+}
+
+impl Model for TemplateFields {
+    ghost use Rattle.std.specs.Prelude.{List};
+    ghost use Rattle.ak_action.specs.declared.template.TemplateField.{TemplateField};
+    ghost use Rattle.std.specs.Coded.{coded_list};
+    ghost use Rattle.ak_action.specs.contracts.template.TemplateField.{the_row};
+    ghost use Rattle.ak_action.specs.Template.{AreTemplateFields};
+
+    ghost Value = { List TemplateField };
+
+    ghost coded = { coded_list the_row.coded };
+
+    ghost view = { λ t. t.list.items };
+
+    ghost invariant = { λ t. AreTemplateFields t.list.items };
+}
+
+/// A message that is still to be made: its code, and its fields. A field whose value is not there when it is
+/// made is left out.
+#[derive(Drop)]
+pub struct Template {
+    pub what: Code,
+    pub fields: TemplateFields,
+}
+
+impl TemplateFields {
+    /// No fields. Takes no memory.
+    pub fn new(alloc: Global) -> TemplateFields
+        ensures { result ≡ [] }
+    {
+        TemplateFields {
+            list: Vec::new(alloc),
+        }
+    }
+
+    /// Adds a field at the end. The faults are tested in the order of `TemplateFault`. An `Err` changes
+    /// nothing, and the field is dropped.
+    pub fn add(&mut self, field: TemplateField) -> Result<(), TemplateFault>
+        ensures refused { IfSome (add_fault self.old field.name) (λ f. result ≡ Err f) }
+        ensures only { IfNone (add_fault self.old field.name) (IsOkUnless result TemplateFault.NoMemory) }
+        ensures ok { OnOk result (self.new ≡ self.old ++ field ∷ []) }
+        ensures err { OnErr result (self.new ≡ self.old) }
+    {
+        if !is_word(field.name.as_bytes()) {
+            return Err(TemplateFault::BadName);
+        }
+        if has_name(&self.list, field.name.as_bytes()) {
+            return Err(TemplateFault::NameInUse);
+        }
+        if self.list.len() >= FIELD_LIMIT {
+            return Err(TemplateFault::FieldLimit);
+        }
+        self.list.push(field)?;
+        Ok(())
+    }
+
+    /// The fields in order.
+    pub fn as_slice(&self) -> &[TemplateField]
+        ensures value { result.now ≡ self.now }
+        ensures are_fields { AreTemplateFields self.now }
+    {
+        self.list.as_slice()
+    }
+
+    /// Equal fields.
+    pub fn try_clone(&self) -> Result<TemplateFields, NoMemory>
+        ensures { IfOk result (λ t. t ≡ self.now) }
+    {
+        let list = copied(*self.list.allocator(), &self.list)?;
+        Ok(TemplateFields { list })
+    }
+}
+
+impl TemplateField {
+    /// An equal one.
+    pub fn try_clone(&self) -> Result<TemplateField, NoMemory>
+        ensures { IfOk result (λ f. f ≡ self.now) }
+    {
+        Ok(TemplateField {
+            name: self.name.try_clone()?,
+            given: self.given.try_clone()?,
+        })
+    }
+}
+
+impl Template {
+    /// An equal one.
+    pub fn try_clone(&self) -> Result<Template, NoMemory>
+        ensures { IfOk result (λ t. t ≡ self.now) }
+    {
+        Ok(Template {
+            what: self.what,
+            fields: self.fields.try_clone()?,
+        })
+    }
+}
+
+fn copied(alloc: Global, fields: &[TemplateField]) -> Result<Vec<TemplateField>, NoMemory>
+    ensures { IfOk result (λ copies. copies.items ≡ fields.now) }
+{
+    let mut copies = Vec::with_capacity(alloc, fields.len())?;
+    for field in fields {
+        copies.push(field.try_clone()?)?;
+    }
+    Ok(copies)
+}
+
+// Whether a field of that name is among them.
+fn has_name(fields: &[TemplateField], name: &[u8]) -> bool
+    ensures { result ≡ has_name fields.now name.now }
+{
+    fields.iter().any(|field| field.name.as_bytes() == name)
+}
+
+#[cfg(test)]
+mod tests {
+    use super::*;
+    use ak_message::Value;
+    use std::test::Fail;
+
+    // A field of that name that copies the field `x`.
+    fn field(alloc: Global, name: &[u8]) -> Result<TemplateField, Fail> {
+        Ok(TemplateField {
+            name: Text::from_bytes(alloc, name)?,
+            given: Given::Field(Text::from_bytes(alloc, b"x")?),
+        })
+    }
+
+    // What it gets: a letter of the form, and the text or how many values.
+    fn told(given: &Given) -> (u8, &[u8], usize) {
+        match given {
+            Given::Values(values) => (b'v', b"", values.as_slice().len()),
+            Given::Field(name) => (b'f', name.as_bytes(), 0),
+            Given::Property(name) => (b'p', name.as_bytes(), 0),
+        }
+    }
+
+    #[test]
+    fn a_template_has_up_to_64_fields(rt: HostRuntime) -> Result<(), Fail> {
+        let alloc = rt.alloc();
+        let mut fields = TemplateFields::new(alloc);
+        assert_eq!(rt; fields.as_slice().len(), 0);
+        for i in 0..64 {
+            fields.add(field(alloc, &[b'a' + i / 8, b'a' + i % 8])?)?;
+        }
+        let rows: [(&[u8], TemplateFault); 5] = [
+            (b"more", TemplateFault::FieldLimit),
+            (b"aa", TemplateFault::NameInUse),
+            (b"hh", TemplateFault::NameInUse),
+            (b"", TemplateFault::BadName),
+            (b"two words", TemplateFault::BadName),
+        ];
+        for (name, fault) in rows {
+            assert_eq!(rt; fields.add(field(alloc, name)?), Err(fault));
+        }
+        assert_eq!(rt; fields.as_slice().len(), 64);
+        for (i, field) in fields.as_slice().iter().enumerate() {
+            let name = [b'a' + (i / 8) as u8, b'a' + (i % 8) as u8];
+            assert_eq!(rt; field.name.as_bytes(), name.as_slice());
+        }
+        Ok(())
+    }
+
+    #[test]
+    fn names_of_fields_are_words_that_differ(rt: HostRuntime) -> Result<(), Fail> {
+        let alloc = rt.alloc();
+        let mut fields = TemplateFields::new(alloc);
+        let long = [b'n'; 65];
+        let rows: [(&[u8], Result<(), TemplateFault>); 6] = [
+            (&long[..64], Ok(())),
+            (&long, Err(TemplateFault::BadName)),
+            (b"x", Ok(())),
+            (b"x", Err(TemplateFault::NameInUse)),
+            (b"X", Ok(())),
+            (b"a b", Err(TemplateFault::BadName)),
+        ];
+        for (name, answer) in rows {
+            assert_eq!(rt; fields.add(field(alloc, name)?), answer);
+        }
+        assert_eq!(rt; fields.as_slice().len(), 3);
+        Ok(())
+    }
+
+    #[test]
+    fn a_copy_has_each_part(rt: HostRuntime) -> Result<(), Fail> {
+        let alloc = rt.alloc();
+        let mut fields = TemplateFields::new(alloc);
+        let mut values = Values::one(alloc, Value::Int8(1))?;
+        values.push(Value::Int8(2))?;
+        for (name, given) in [
+            (b"a", Given::Values(values)),
+            (b"b", Given::Field(Text::from_bytes(alloc, b"from")?)),
+            (b"c", Given::Property(Text::from_bytes(alloc, b"of")?)),
+        ] {
+            fields.add(TemplateField {
+                name: Text::from_bytes(alloc, name.as_slice())?,
+                given,
+            })?;
+        }
+        let template = Template {
+            what: Code(7),
+            fields,
+        };
+        let copy = template.try_clone()?;
+        assert_eq!(rt; copy.what, Code(7));
+        let rows: [(&[u8], (u8, &[u8], usize)); 3] = [
+            (b"a", (b'v', b"", 2)),
+            (b"b", (b'f', b"from", 0)),
+            (b"c", (b'p', b"of", 0)),
+        ];
+        assert_eq!(rt; copy.fields.as_slice().len(), 3);
+        for (field, (name, given)) in copy.fields.as_slice().iter().zip(&rows) {
+            assert_eq!(rt; field.name.as_bytes(), *name);
+            assert_eq!(rt; told(&field.given), *given);
+        }
+        Ok(())
+    }
+}

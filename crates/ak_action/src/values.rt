@@ -1,0 +1,224 @@
+ghost use Rattle.std.specs.Prelude.{◌≡◌, is_some, map, Some, Err, IfSome, IfNone, IfOk, IsOkUnless, OnOk, OnErr};
+ghost use Rattle.ak_message.specs.Seen.{value_of};
+ghost use Rattle.ak_action.specs.Values.{AreValues, one_value, with_last, depth_fault, push_fault};
+
+use ak_base::NoMemory;
+use ak_message::{DEPTH_LIMIT, Kind, VALUE_LIMIT, Value};
+use std::alloc::{AllocError, AllocFailed, Global};
+use std::marker::Model;
+
+/// Why a value is not taken among values of one field. They are tested in this order.
+#[derive(Clone, Copy, Debug, PartialEq, Eq)]
+pub enum ValuesFault {
+    /// It has another kind than the first one.
+    BadType,
+    /// There are 255 values.
+    ValueLimit,
+    /// It is a message in which messages stand 16 deep, so no message can hold it.
+    TooDeep,
+    NoMemory,
+}
+
+impl From<AllocError> for ValuesFault {
+    ghost use Rattle.std.specs.Prelude.{◌≡◌};
+    ghost use Rattle.ak_action.specs.declared.values.ValuesFault.TheVariants as fault;
+
+    ghost from_gives = { λ _ e. e ≡ fault.NoMemory };
+
+    fn from(_error: AllocError) -> ValuesFault {
+        ValuesFault::NoMemory
+    }
+}
+
+impl<T: Drop> From<AllocFailed<T>> for ValuesFault {
+    ghost use Rattle.std.specs.Prelude.{◌≡◌};
+    ghost use Rattle.ak_action.specs.declared.values.ValuesFault.TheVariants as fault;
+
+    ghost from_gives = { λ _ e. e ≡ fault.NoMemory };
+
+    fn from(_error: AllocFailed<T>) -> ValuesFault {
+        ValuesFault::NoMemory
+    }
+}
+
+/// What a field of a message can hold: one value or more, at most 255, all of one kind, and where they are
+/// messages, of a depth below 16. Contracts see the kind and the list.
+#[derive(Drop)]
+pub struct Values {
+    kind: Kind,
+    list: Vec<Value>,
+}
+
+impl Model for Values {
+    ghost use Rattle.ak_action.specs.Values.{ValuesData, coded_values, values_inside, IsSound};
+
+    ghost Value = { ValuesData };
+
+    ghost coded = { coded_values };
+
+    ghost view = { values_inside };
+
+    ghost invariant = { IsSound };
+}
+
+impl Values {
+    /// This value alone.
+    pub fn one(alloc: Global, value: Value) -> Result<Values, ValuesFault>
+        ensures refused { IfSome (depth_fault (value_of value)) (λ f. result ≡ Err f) }
+        ensures only { IfNone (depth_fault (value_of value)) (IsOkUnless result ValuesFault.NoMemory) }
+        ensures ok { IfOk result (λ v. v ≡ one_value (value_of value)) }
+    {
+        if is_too_deep(&value) {
+            return Err(ValuesFault::TooDeep);
+        }
+        let kind = value.kind();
+        let mut list = Vec::with_capacity(alloc, 1)?;
+        list.push(value)?;
+        Ok(Values { kind, list })
+    }
+
+    /// Adds a value at the end. The faults are tested in the order of `ValuesFault`. An `Err` changes
+    /// nothing, and the value is dropped.
+    pub fn push(&mut self, value: Value) -> Result<(), ValuesFault>
+        ensures refused { IfSome (push_fault self.old (value_of value)) (λ f. result ≡ Err f) }
+        ensures only { IfNone (push_fault self.old (value_of value)) (IsOkUnless result ValuesFault.NoMemory) }
+        ensures ok { OnOk result (self.new ≡ with_last self.old (value_of value)) }
+        ensures err { OnErr result (self.new ≡ self.old) }
+    {
+        if self.kind != value.kind() {
+            return Err(ValuesFault::BadType);
+        }
+        if self.list.len() >= VALUE_LIMIT {
+            return Err(ValuesFault::ValueLimit);
+        }
+        if is_too_deep(&value) {
+            return Err(ValuesFault::TooDeep);
+        }
+        self.list.push(value)?;
+        Ok(())
+    }
+
+    /// The kind of each of them.
+    pub fn kind(&self) -> Kind
+        ensures value { result ≡ self.now.kind }
+        ensures are_values { AreValues self.now }
+    {
+        self.kind
+    }
+
+    /// The values in order.
+    pub fn as_slice(&self) -> &[Value]
+        ensures value { map value_of result.now ≡ self.now.list }
+        ensures are_values { AreValues self.now }
+    {
+        self.list.as_slice()
+    }
+
+    /// Equal values.
+    pub fn try_clone(&self) -> Result<Values, NoMemory>
+        ensures { IfOk result (λ v. v ≡ self.now) }
+    {
+        let list = copied(*self.list.allocator(), &self.list)?;
+        Ok(Values {
+            kind: self.kind,
+            list,
+        })
+    }
+}
+
+// Whether it is a message that no message can hold.
+fn is_too_deep(value: &Value) -> bool
+    ensures { result ≡ is_some (depth_fault (value_of value.now)) }
+{
+    value.depth() >= DEPTH_LIMIT
+}
+
+fn copied(alloc: Global, values: &[Value]) -> Result<Vec<Value>, NoMemory>
+    ensures { IfOk result (λ copies. map value_of copies.items ≡ map value_of values.now) }
+{
+    let mut copies = Vec::with_capacity(alloc, values.len())?;
+    for value in values {
+        copies.push(value.try_clone(alloc)?)?;
+    }
+    Ok(copies)
+}
+
+#[cfg(test)]
+mod tests {
+    use super::*;
+    use ak_base::Code;
+    use ak_message::Message;
+    use std::test::Fail;
+
+    // A message in which messages stand so deep, itself counted.
+    fn deep(alloc: Global, depth: u32) -> Result<Value, Fail> {
+        let mut message = Message::new(alloc, Code(1));
+        for _ in 1..depth {
+            let mut outer = Message::new(alloc, Code(1));
+            outer.add(b"m", Value::from_message(alloc, message)?)?;
+            message = outer;
+        }
+        Ok(Value::from_message(alloc, message)?)
+    }
+
+    // Whether these are the numbers from 0 on, so many.
+    fn count_up(values: &Values, count: usize) -> bool {
+        values.as_slice().len() == count
+            && values.as_slice().iter().enumerate().all(|(
+                place,
+                value,
+            )| matches!(value, Value::UInt64(n) if *n == place as u64))
+    }
+
+    #[test]
+    fn a_field_has_up_to_255_values(rt: HostRuntime) -> Result<(), Fail> {
+        let mut values = Values::one(rt.alloc(), Value::UInt64(0))?;
+        for n in 1..255 {
+            assert!(rt; count_up(&values, n as usize));
+            values.push(Value::UInt64(n))?;
+        }
+        let more = Value::UInt64(255);
+        assert_eq!(rt; values.push(more), Err(ValuesFault::ValueLimit));
+        let other = Value::Int64(255);
+        assert_eq!(rt; values.push(other), Err(ValuesFault::BadType));
+        assert!(rt; count_up(&values, 255));
+        let copy = values.try_clone()?;
+        assert_eq!(rt; copy.kind(), Kind::UInt64);
+        assert!(rt; count_up(&copy, 255));
+        Ok(())
+    }
+
+    #[test]
+    fn values_are_of_one_kind(rt: HostRuntime) -> Result<(), Fail> {
+        let mut values = Values::one(rt.alloc(), Value::Bool(true))?;
+        assert_eq!(rt; values.kind(), Kind::Bool);
+        assert_eq!(rt; values.push(Value::UInt8(1)), Err(ValuesFault::BadType));
+        assert_eq!(rt;
+            values.push(deep(rt.alloc(), 16)?),
+            Err(ValuesFault::BadType)
+        );
+        assert_eq!(rt; values.as_slice().len(), 1);
+        assert_eq!(rt; values.push(Value::Bool(false)), Ok(()));
+        assert!(rt; matches!(values.as_slice()[0], Value::Bool(true)));
+        assert!(rt; matches!(values.as_slice()[1], Value::Bool(false)));
+        Ok(())
+    }
+
+    #[test]
+    fn messages_of_depth_16_are_no_values(rt: HostRuntime) -> Result<(), Fail> {
+        let alloc = rt.alloc();
+        assert_eq!(rt;
+            Values::one(alloc, deep(alloc, 16)?).err(),
+            Some(ValuesFault::TooDeep)
+        );
+        let mut values = Values::one(alloc, deep(alloc, 15)?)?;
+        assert_eq!(rt; values.kind(), Kind::Message);
+        assert_eq!(rt; values.push(deep(alloc, 16)?), Err(ValuesFault::TooDeep));
+        assert_eq!(rt; values.as_slice().len(), 1);
+        for _ in 1..255 {
+            values.push(deep(alloc, 15)?)?;
+        }
+        assert_eq!(rt; values.push(deep(alloc, 16)?), Err(ValuesFault::ValueLimit));
+        Ok(())
+    }
+}
