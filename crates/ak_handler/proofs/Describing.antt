@@ -1,9 +1,9 @@
 -- Described handlers are numbered one by one.
-use Rattle.std.proofs.Common.{◌≡◌, ◌≢◌, ℕ, zero, suc, ◌+◌, Bool, true, false, cond, List, [], ◌∷◌, ◌++◌, length, find, AllPairs, Option, None, bytes_eq, option_map, refl, sym, ap, ◌∙◌, append_assoc, length-append, arith}
+use Rattle.std.proofs.Common.{◌≡◌, ◌≢◌, ℕ, zero, suc, ◌+◌, Bool, true, false, List, [], ◌∷◌, ◌++◌, length, AllPairs, Option, None, bytes_eq, refl, sym, ap, ◌∙◌, append_assoc, length-append, arith}
 use Rattle.std.proofs.lemmas.List.{get_or_at}
 use Rattle.std.proofs.lemmas.Slice.Eq.{bytes_eq-Decides}
 use Rattle.ak_handler.specs.Changes.{numbered_rows}
-use Rattle.ak_handler.specs.Handlers.{HandlerData, has_name, token_named}
+use Rattle.ak_handler.specs.Handlers.{HandlerData, token_named}
 
 apart : (a b : List ℕ) → a ≢ b → bytes_eq a b ≡ false
 apart a b differ = apart_by (bytes_eq a b) refl

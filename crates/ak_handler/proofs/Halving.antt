@@ -1,5 +1,5 @@
 -- Since tokens rise, a search by halves finds the row that a search row by row finds.
-use Rattle.std.proofs.Common.{◌≡◌, ℕ, ◌<◌, ◌≤◌, ◌==◌, false, List, [], ◌∷◌, length, get_or, position, AllPairs, Option, None, Some, is_some, Result, Ok, Err, refl, sym, ap, subst, ◌∙◌, eq-eqb, ne_eqb, lt-ltb, arith}
+use Rattle.std.proofs.Common.{◌≡◌, ℕ, ◌<◌, ◌≤◌, ◌==◌, List, [], ◌∷◌, length, get_or, position, AllPairs, None, Some, Result, Ok, Err, refl, sym, ap, subst, eq-eqb, ne_eqb, lt-ltb, arith}
 use Rattle.std.specs.List.{position_or_len}
 use Rattle.std.specs.List.Sorted.{IsSearchInRange, IsBinarySearchResult, IsNonDecreasingBy}
 use Rattle.std.specs.Ordering.{nat_cmp, ordering_index}

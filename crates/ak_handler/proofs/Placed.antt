@@ -1,5 +1,5 @@
 -- The handler at the place of a token is the one with that token, and to change or remove it there is to do so by token.
-use Rattle.std.proofs.Common.{◌≡◌, ℕ, ◌<◌, false, List, AllPairs, Option, None, Some, is_some, refl, sym, subst, ◌∙◌}
+use Rattle.std.proofs.Common.{◌≡◌, ℕ, ◌<◌, false, List, AllPairs, Option, None, Some, is_some, refl, sym, subst}
 use Rattle.std.specs.List.{slice_get}
 use Rattle.ak_handler.specs.Handlers.{HandlerData, HandlersData, IsHandlers, handler_of, has_token, place_of}
 use Rattle.ak_handler.proofs.Places.{IsAt, at_place}

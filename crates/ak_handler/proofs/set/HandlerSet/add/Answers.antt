@@ -1,5 +1,5 @@
 -- Nothing is at fault, so the new one can stand at the end.
-use Rattle.std.proofs.Common.{◌≡◌, ◌∙◌, ◌+◌, ◌-◌, ◌^◌, ◌<◌, false, length, is_some, sym, ap, subst, arith}
+use Rattle.std.proofs.Common.{◌≡◌, ◌+◌, ◌-◌, ◌^◌, ◌<◌, false, length, is_some, sym, ap, subst, arith}
 use Rattle.ak_handler.specs.Handlers.{IsHandlers, token_named}
 use Rattle.ak_handler.specs.Seen.{handlers_inside}
 use Rattle.ak_handler.proofs.Adding.{handlers_added}

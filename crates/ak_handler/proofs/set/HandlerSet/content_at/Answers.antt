@@ -1,5 +1,5 @@
 -- What is held is changed at the place of the token.
-use Rattle.std.proofs.Common.{◌∙◌, sym, ap, subst, refl, option_map, arith}
+use Rattle.std.proofs.Common.{◌∙◌, sym, ap, subst, refl, option_map}
 use Rattle.ak_handler.specs.Handlers.{IsHandlers}
 use Rattle.ak_handler.specs.Seen.{handlers_inside}
 use Rattle.ak_handler.proofs.Holding.{handlers_holding}
