@@ -1,5 +1,5 @@
 -- Steps along the chains of a plan, one at a time.
-use Rattle.std.proofs.Common.{◌≡◌, ◌∙◌, ℕ, zero, suc, ◌+◌, ◌-◌, ◌<◌, Bool, true, false, ◌&&◌, List, length, Option, Some, is_none, option_and_then, ap, sym, subst, ⊎_elim, arith}
+use Rattle.std.proofs.Common.{◌≡◌, ℕ, zero, suc, ◌+◌, ◌-◌, ◌<◌, false, ◌&&◌, List, length, Option, Some, is_none, option_and_then, ap, subst, ⊎_elim, arith}
 use Rattle.std.proofs.lemmas.Bool.{and_left, and_right, cases_eq}
 use Rattle.ak_action.specs.declared.plan.PlanRow.{PlanRow}
 use Rattle.ak_action.specs.Plan.{chains_end_below, next_place, place_after}

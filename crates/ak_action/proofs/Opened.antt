@@ -1,11 +1,11 @@
 -- The handlers that a plan opens are handlers of a looper: their tokens are their places.
-use Rattle.std.proofs.Common.{◌≡◌, ◌≢◌, ◌∙◌, ℕ, zero, suc, ◌+◌, ◌^◌, ◌<◌, ◌≤◌, ◌==◌, Bool, true, false, cond, List, [], ◌∷◌, ◌++◌, length, get_or, All, AllPairs, Contains, Option, None, Some, IfSome, is_none, nat_le, option_map, option_and_then, bytes_eq, position, slice_get, refl, sym, ap, subst, ⊎_elim, eq-eqb, ne_eqb, arith}
+use Rattle.std.proofs.Common.{◌≡◌, ◌≢◌, ◌∙◌, ℕ, zero, suc, ◌+◌, ◌<◌, ◌≤◌, ◌==◌, Bool, true, false, cond, List, [], ◌∷◌, ◌++◌, length, get_or, All, AllPairs, Option, None, Some, IfSome, is_none, nat_le, option_map, option_and_then, bytes_eq, slice_get, refl, sym, ap, subst, ⊎_elim, eq-eqb, ne_eqb, arith}
 use Rattle.std.proofs.lemmas.Bool.{and_parts, leb-true, cases_eq, cond-true, cond-false, cond_both}
 use Rattle.std.proofs.lemmas.List.{get_or-map, length-map}
 use Rattle.std.proofs.lemmas.List.Elements.{All-weaker}
 use Rattle.ak_base.specs.Word.{is_word}
 use Rattle.ak_handler.specs.Changes.{from_rows, numbered_rows}
-use Rattle.ak_handler.specs.Handlers.{HandlerData, BeginsWithLooper, IsHandlers, IsThere, after_steps, handler_of, has_token, next_in, tokens_of}
+use Rattle.ak_handler.specs.Handlers.{HandlerData, BeginsWithLooper, IsHandlers, IsThere, after_steps, handler_of, next_in}
 use Rattle.ak_handler.proofs.Looking.{position-within}
 use Rattle.ak_action.specs.declared.plan.PlanParts.{PlanParts}
 use Rattle.ak_action.specs.declared.plan.PlanRow.{PlanRow}
@@ -13,7 +13,7 @@ use Rattle.ak_action.specs.declared.row.DeskRow.{DeskRow}
 use Rattle.ak_action.specs.Opening.{described_from, described_rows, opening_handlers, row_of_plan}
 use Rattle.ak_action.specs.OpeningInside.{described_row, described_with, nexts_from}
 use Rattle.ak_action.specs.Plan.{IsPlan, chains_end_below, fits_table, may_be, next_place, place_after, place_named, place_or_looper}
-use Rattle.ak_action.specs.Whole.{IsNamed, IsWholePlan, IsWholeTable, PlansAreWhole}
+use Rattle.ak_action.specs.Whole.{IsNamed, IsWholeTable, PlansAreWhole}
 use Rattle.ak_action.proofs.Tested.{All-list_all, Tests, looper_is, named, names_apart, no_row, none_is, table_whole, tests_passed}
 
 -- ---- the handlers from a place on

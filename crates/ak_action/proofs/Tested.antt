@@ -1,13 +1,12 @@
 -- What the tests of a plan say of its parts.
-use Rattle.std.proofs.Common.{◌≡◌, ◌≢◌, ◌∙◌, ℕ, zero, suc, ◌≤◌, ◌<◌, Bool, true, false, cond, ◌&&◌, ◌||◌, not, find, List, [], ◌∷◌, length, map, All, AllPairs, Contains, Option, None, Some, IfSome, IsTrue, is_some, is_none, nat_le, bytes_eq, position, slice_get, refl, sym, ap, arith}
+use Rattle.std.proofs.Common.{◌≡◌, ◌≢◌, ◌∙◌, ℕ, ◌≤◌, Bool, true, false, cond, ◌&&◌, ◌||◌, not, find, List, [], ◌∷◌, length, map, All, AllPairs, Contains, Option, None, Some, IfSome, is_some, is_none, nat_le, bytes_eq, slice_get, refl, sym, ap, arith}
 use Rattle.std.specs.List.{list_all, list_any}
 use Rattle.std.proofs.lemmas.Bool.{and_parts, both_ways, not-true}
 use Rattle.std.proofs.lemmas.List.{get_or-map, length-map}
-use Rattle.std.proofs.lemmas.List.Elements.{All-nil, All-cons, All-weaker}
+use Rattle.std.proofs.lemmas.List.Elements.{All-nil, All-cons}
 use Rattle.std.proofs.lemmas.List.Kept.{AllPairs-cons}
 use Rattle.std.proofs.lemmas.List.Quantifiers.{position-Some}
 use Rattle.std.proofs.lemmas.Slice.Eq.{bytes_eq-Decides}
-use Rattle.ak_base.specs.Word.{is_word}
 use Rattle.ak_handler.proofs.Looking.{is_some-position}
 use Rattle.ak_message.specs.declared.kind.Kind.TheVariants as k
 use Rattle.ak_message.specs.Kind.{is_same_kind, same_kind-is}
@@ -16,7 +15,7 @@ use Rattle.ak_value.specs.Elements.{ElementsData}
 use Rattle.ak_action.specs.declared.plan.PlanFault.{PlanFault}
 use Rattle.ak_action.specs.declared.plan.PlanParts.{PlanParts}
 use Rattle.ak_action.specs.declared.plan.PlanRow.{PlanRow}
-use Rattle.ak_action.specs.Plan.{IsPlan, begin_with_looper, chains_end, first_of_faults, fits_actions, fits_table, is_looper, fits_kind, is_named, kinds_fit, looper_fault, may_be, names_are_there, names_are_words, names_differ, names_fault, place_named, rows_fault, table_names_differ}
+use Rattle.ak_action.specs.Plan.{IsPlan, begin_with_looper, chains_end, first_of_faults, fits_actions, fits_table, fits_kind, is_named, kinds_fit, looper_fault, may_be, names_are_there, names_are_words, names_differ, names_fault, place_named, rows_fault, table_names_differ}
 use Rattle.ak_action.specs.Whole.{IsNamed, IsWholeTable, names_of}
 
 -- ---- where there is no fault, each test passed

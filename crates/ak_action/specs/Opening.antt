@@ -2,7 +2,6 @@
 use Rattle.std.specs.Prelude.{◌≡◌, ◌≢◌, ℕ, ◌+◌, ◌-◌, ◌≤◌, Bool, true, List, [], ◌∷◌, length, AllPairs, Option, Some, IsTrue, option_and_then, slice_get}
 use Rattle.std.specs.List.{list_all, list_any}
 use Rattle.std.specs.Str.{bytes_eq}
-use Rattle.ak_filter.specs.declared.filter.Filter.{Filter}
 use Rattle.ak_handler.specs.Changes.{from_rows}
 use Rattle.ak_handler.specs.Handlers.{HandlersData}
 use Rattle.ak_action.specs.declared.action.Action.{Action}

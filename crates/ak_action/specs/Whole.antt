@@ -1,8 +1,7 @@
 -- What a plan is, in words of its own: everything that is named in it is there, and the handlers that it opens are handlers.
-use Rattle.std.specs.Prelude.{◌≡◌, ◌≢◌, ℕ, ◌≤◌, List, length, map, All, AllPairs, Contains, Option, None, Some, IfSome, IsTrue, slice_get}
+use Rattle.std.specs.Prelude.{◌≡◌, ◌≢◌, ℕ, ◌≤◌, List, length, map, All, AllPairs, Contains, Option, None, IfSome, IsTrue, slice_get}
 use Rattle.ak_base.specs.Word.{is_word}
 use Rattle.ak_handler.specs.Handlers.{IsHandlers}
-use Rattle.ak_message.specs.declared.kind.Kind.{Kind}
 use Rattle.ak_message.specs.declared.kind.Kind.TheVariants as k
 use Rattle.ak_action.specs.declared.plan.PlanParts.{PlanParts}
 use Rattle.ak_action.specs.declared.plan.PlanRow.{PlanRow}

@@ -69,8 +69,8 @@ pub enum PlanFault {
     /// Two properties of a handler have one name, or the elements are not those of the properties, one for
     /// each and of its kind, or a property is of messages.
     BadTable,
-    /// An action names a property that its handler does not have, asks a handler or its own looper, sets
-    /// several values, or adds a number of another kind than the property's.
+    /// An action names a property that its handler does not have, asks a handler, or its own looper without
+    /// naming it, sets several values, or adds a number of another kind than the property's.
     BadAction,
 }
 

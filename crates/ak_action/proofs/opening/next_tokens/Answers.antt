@@ -1,7 +1,6 @@
 -- One more next handler.
 use Rattle.std.proofs.Common.{◌∙◌, ◌∷◌, [], ◌++◌, sym, ap}
 use Rattle.ak_action.specs.OpeningInside.{nexts_from}
-use Rattle.ak_action.specs.Plan.{next_place}
 use Rattle.ak_action.proofs.Opened.{first_more}
 use Rattle.ak_action.proofs.opening.next_tokens.Goals as goal
 
