@@ -40,10 +40,12 @@ module _ (s : DeskState) (token : ℕ) where
   kept_where_none row e =
       ap (λ (list : List (HandlerData DeskRow)). record s { handlers = record s.handlers { list = list } }) (map-held_by_none token row s.handlers.list e)
 
-  -- the code's state has its numbers shown anew
-  pub kept_state : (row : DeskRow) (numbers : s.first + length s.names ≤ 32) → content_of s.handlers.list token ≡ None → record s { numbers = numbers } ≡ with_row s token row
-  kept_state row numbers e =
-      ap (λ (p : s.first + length s.names ≤ 32). record s { numbers = p }) (le_prop numbers s.numbers) ∙ sym (kept_where_none row e)
+  -- the code's state has its facts shown anew
+  pub kept_state : (row : DeskRow) (numbers : s.first + length s.names ≤ 32) (loopers : length s.names ≤ 8) → content_of s.handlers.list token ≡ None → record s { numbers = numbers; some_loopers = loopers } ≡ with_row s token row
+  kept_state row numbers loopers e =
+      ap (λ (p : s.first + length s.names ≤ 32). record s { numbers = p; some_loopers = loopers }) (le_prop numbers s.numbers)
+      ∙ ap (λ (p : length s.names ≤ 8). record s { some_loopers = p }) (le_prop loopers s.some_loopers)
+      ∙ sym (kept_where_none row e)
 
   pub row_there : (row : DeskRow) → content_of s.handlers.list token ≡ Some row → row_of s token ≡ row
   row_there row e = ap (λ (o : Option DeskRow). unwrap_or o empty_row) e

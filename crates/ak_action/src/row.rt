@@ -1,7 +1,6 @@
-ghost use Rattle.std.specs.Prelude.{◌≡◌, ◌==◌, ◌<◌, length, option_map, IfSome};
+ghost use Rattle.std.specs.Prelude.{◌≡◌, ◌==◌, ◌<◌, ◌≤◌, length, option_map, IfSome};
 ghost use Rattle.std.specs.List.{position};
 ghost use Rattle.ak_message.specs.Seen.{value_of};
-ghost use Rattle.ak_action.specs.Row.{row_data, empty_row, place_of_property, first_of};
 
 use crate::action::{Reaction, ReactionList};
 use crate::properties::ElementsList;
@@ -11,8 +10,8 @@ use ak_message::Value;
 use ak_property::{HandlerRow, PropertyTable};
 use std::alloc::Global;
 
-/// What a handler of a looper holds: its suites, its properties with their elements in the order of the
-/// table's rows, its filters and its reactions.
+/// What a handler of a looper holds: its suites, at most 16, its properties with their elements in the order
+/// of the table's rows, its filters and its reactions.
 #[derive(Drop)]
 pub struct DeskRow {
     pub suites: Items<Text>,
@@ -20,9 +19,13 @@ pub struct DeskRow {
     pub elements: ElementsList,
     pub filters: FilterList,
     pub reactions: ReactionList,
+    // A reply that tells them has room for all.
+    ghost suites_fit: { length suites ≤ 16 },
 }
 
 impl DeskRow {
+    ghost use Rattle.ak_action.specs.Row.{empty_row, place_of_property, first_of};
+
     /// A handler that holds nothing, as one that is added. Takes no memory.
     pub fn empty(alloc: Global) -> DeskRow
         ensures { result ≡ empty_row }
@@ -56,6 +59,8 @@ impl DeskRow {
 }
 
 impl HandlerRow for DeskRow {
+    ghost use Rattle.ak_action.specs.Row.{row_data};
+
     ghost told = { row_data };
 
     fn table(&self) -> &PropertyTable {

@@ -8,8 +8,8 @@ use ak_filter::FilterList;
 use ak_handler::HandlerSet;
 
 /// What messages and edits change of a looper, and what they meet there: its number in the run, its team,
-/// the number of its team's first looper, the names of the application's loopers in order, whether it
-/// refuses to quit, its handlers, and its common filters.
+/// the number of its team's first looper, the names of the application's loopers in order, at most 8, whether
+/// it refuses to quit, its handlers, and its common filters.
 #[derive(Drop)]
 pub struct DeskState {
     pub looper: u32,
@@ -21,6 +21,8 @@ pub struct DeskState {
     pub common: FilterList,
     // The numbers of its application's loopers are below 32.
     ghost numbers: { first + length names ≤ 32 },
+    // Of an application there are at most 8.
+    ghost some_loopers: { length names ≤ 8 },
 }
 
 impl DeskState {

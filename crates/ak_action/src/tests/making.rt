@@ -278,13 +278,17 @@ fn takes(stage: &Stage, a: &Answer) -> bool
 {
     match stage {
         Stage::Finding { .. } => finds(a),
-        Stage::Sent {
-            how: Sending::Post { .. },
-        } => answers_post(a),
-        Stage::Sent {
-            how: Sending::Ask { .. },
-        } => answers_ask(a),
+        Stage::Sent { how } => answers_send(how, a),
         _ => false,
+    }
+}
+
+fn answers_send(how: &Sending, a: &Answer) -> bool
+    ensures { IsTrue result → AnswersSend how.now a.now }
+{
+    match how {
+        Sending::Post { .. } => answers_post(a),
+        Sending::Ask { .. } => answers_ask(a),
     }
 }
 

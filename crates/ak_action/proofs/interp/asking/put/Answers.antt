@@ -8,4 +8,4 @@ use Rattle.ak_action.proofs.interp.asking.put.Goals as goal
 pub returns-in_default : goal.returns-in_default
 returns-in_default c =
     let none : content_of c.args.state.now.handlers.list c.args.token ≡ None = grind (arith, common_steps) in
-    kept_state c.args.state.now c.args.token _ _ none
+    kept_state c.args.state.now c.args.token _ _ _ none
