@@ -1,7 +1,7 @@
 -- What a handler holds is changed in the state, where it is there.
 use Rattle.std.proofs.Common.{◌≡◌, ℕ, Bool, true, false, cond, List, [], ◌∷◌, map, find, Option, None, Some, option_map, unwrap_or, slice_get, length, ◌+◌, ◌≤◌, refl, ap, sym, ◌∙◌}
 use Rattle.std.proofs.Math.Bridge.{le_prop}
-use Rattle.ak_handler.specs.Changes.{content_of, holding}
+use Rattle.ak_handler.specs.Changes.{content_of, holding, with_content}
 use Rattle.ak_handler.specs.Handlers.{HandlerData, handler_of, has_token}
 use Rattle.ak_value.specs.Elements.{ElementsData}
 use Rattle.ak_action.specs.declared.action.Reaction.{Reaction}
@@ -49,6 +49,16 @@ module _ (s : DeskState) (token : ℕ) where
 
   pub row_there : (row : DeskRow) → content_of s.handlers.list token ≡ Some row → row_of s token ≡ row
   row_there row e = ap (λ (o : Option DeskRow). unwrap_or o empty_row) e
+
+  -- the code's row and state have their facts shown anew
+  pub lent_state : (row : DeskRow) (change : List ElementsData → List ElementsData) (elements : List ElementsData) (fit : length row.suites ≤ 16) (numbers : s.first + length s.names ≤ 32) (loopers : length s.names ≤ 8) → content_of s.handlers.list token ≡ Some row → elements ≡ change row.elements → record s { handlers = with_content s.handlers token (record row { elements = elements; suites_fit = fit }); numbers = numbers; some_loopers = loopers } ≡ with_row s token (record (row_of s token) { elements = change (row_of s token).elements })
+  lent_state row change elements fit numbers loopers e is =
+      let held : DeskRow → DeskState = λ (r : DeskRow). with_row s token (record r { elements = change r.elements }) in
+      ap (λ (p : s.first + length s.names ≤ 32). record s { handlers = with_content s.handlers token (record row { elements = elements; suites_fit = fit }); numbers = p; some_loopers = loopers }) (le_prop numbers s.numbers)
+      ∙ ap (λ (p : length s.names ≤ 8). record s { handlers = with_content s.handlers token (record row { elements = elements; suites_fit = fit }); some_loopers = p }) (le_prop loopers s.some_loopers)
+      ∙ ap (λ (p : length row.suites ≤ 16). with_row s token (record row { elements = elements; suites_fit = p })) (le_prop fit row.suites_fit)
+      ∙ ap (λ (l : List ElementsData). with_row s token (record row { elements = l })) is
+      ∙ ap held (sym (row_there row e))
 
   -- another handler's row, or one whose elements differ: the reactions are the same
   reactions_by : (o : Option DeskRow) (elements : List ElementsData) → (unwrap_or (option_map (λ _. record (unwrap_or o empty_row) { elements = elements }) o) empty_row).reactions ≡ (unwrap_or o empty_row).reactions
