@@ -50,13 +50,12 @@ module _ (s : DeskState) (token : ℕ) where
   pub row_there : (row : DeskRow) → content_of s.handlers.list token ≡ Some row → row_of s token ≡ row
   row_there row e = ap (λ (o : Option DeskRow). unwrap_or o empty_row) e
 
-  -- the code's row and state have their facts shown anew
-  pub lent_state : (row : DeskRow) (change : List ElementsData → List ElementsData) (elements : List ElementsData) (fit : length row.suites ≤ 16) (numbers : s.first + length s.names ≤ 32) (loopers : length s.names ≤ 8) → content_of s.handlers.list token ≡ Some row → elements ≡ change row.elements → record s { handlers = with_content s.handlers token (record row { elements = elements; suites_fit = fit }); numbers = numbers; some_loopers = loopers } ≡ with_row s token (record (row_of s token) { elements = change (row_of s token).elements })
-  lent_state row change elements fit numbers loopers e is =
+  -- the same of a handler that is there
+  pub lent_state : (row : DeskRow) (change : List ElementsData → List ElementsData) (elements : List ElementsData) (numbers : s.first + length s.names ≤ 32) (loopers : length s.names ≤ 8) → content_of s.handlers.list token ≡ Some row → elements ≡ change row.elements → record s { handlers = with_content s.handlers token (record row { elements = elements }); numbers = numbers; some_loopers = loopers } ≡ with_row s token (record (row_of s token) { elements = change (row_of s token).elements })
+  lent_state row change elements numbers loopers e is =
       let held : DeskRow → DeskState = λ (r : DeskRow). with_row s token (record r { elements = change r.elements }) in
-      ap (λ (p : s.first + length s.names ≤ 32). record s { handlers = with_content s.handlers token (record row { elements = elements; suites_fit = fit }); numbers = p; some_loopers = loopers }) (le_prop numbers s.numbers)
-      ∙ ap (λ (p : length s.names ≤ 8). record s { handlers = with_content s.handlers token (record row { elements = elements; suites_fit = fit }); some_loopers = p }) (le_prop loopers s.some_loopers)
-      ∙ ap (λ (p : length row.suites ≤ 16). with_row s token (record row { elements = elements; suites_fit = p })) (le_prop fit row.suites_fit)
+      ap (λ (p : s.first + length s.names ≤ 32). record s { handlers = with_content s.handlers token (record row { elements = elements }); numbers = p; some_loopers = loopers }) (le_prop numbers s.numbers)
+      ∙ ap (λ (p : length s.names ≤ 8). record s { handlers = with_content s.handlers token (record row { elements = elements }); some_loopers = p }) (le_prop loopers s.some_loopers)
       ∙ ap (λ (l : List ElementsData). with_row s token (record row { elements = l })) is
       ∙ ap held (sym (row_there row e))
 

@@ -1,7 +1,6 @@
 -- What a handler of a looper holds, and what is found in it.
 use Rattle.std.specs.Prelude.{ℕ, List, [], map, Option, option_and_then, slice_get}
 use Rattle.std.specs.List.{position}
-use Rattle.std.proofs.Common.{arith}
 use Rattle.std.specs.Str.{bytes_eq}
 use Rattle.ak_message.specs.Message.{ValueData}
 use Rattle.ak_property.specs.HandlerRow.{RowData}
@@ -13,7 +12,7 @@ abbrev pub row_data : DeskRow → RowData
 row_data row = record { table = row.table; filters = row.filters; reactions = map (λ r. r.what.0) row.reactions }
 
 abbrev pub empty_row : DeskRow
-empty_row = record { suites = []; table = []; elements = []; filters = []; reactions = []; suites_fit = omega arith }
+empty_row = record { suites = []; table = []; elements = []; filters = []; reactions = [] }
 
 -- the place of the property of that name
 abbrev pub place_of_property : DeskRow → List ℕ → Option ℕ

@@ -1,6 +1,7 @@
-ghost use Rattle.std.specs.Prelude.{◌≡◌, ◌==◌, ◌<◌, ◌≤◌, length, option_map, IfSome};
+ghost use Rattle.std.specs.Prelude.{◌≡◌, ◌==◌, ◌<◌, length, option_map, IfSome};
 ghost use Rattle.std.specs.List.{position};
 ghost use Rattle.ak_message.specs.Seen.{value_of};
+ghost use Rattle.ak_action.specs.Row.{row_data, empty_row, place_of_property, first_of};
 
 use crate::action::{Reaction, ReactionList};
 use crate::properties::ElementsList;
@@ -10,8 +11,8 @@ use ak_message::Value;
 use ak_property::{HandlerRow, PropertyTable};
 use std::alloc::Global;
 
-/// What a handler of a looper holds: its suites, at most 16, its properties with their elements in the order
-/// of the table's rows, its filters and its reactions.
+/// What a handler of a looper holds: its suites, its properties with their elements in the order of the
+/// table's rows, its filters and its reactions.
 #[derive(Drop)]
 pub struct DeskRow {
     pub suites: Items<Text>,
@@ -19,13 +20,9 @@ pub struct DeskRow {
     pub elements: ElementsList,
     pub filters: FilterList,
     pub reactions: ReactionList,
-    // A reply that tells them has room for all.
-    ghost suites_fit: { length suites ≤ 16 },
 }
 
 impl DeskRow {
-    ghost use Rattle.ak_action.specs.Row.{empty_row, place_of_property, first_of};
-
     /// A handler that holds nothing, as one that is added. Takes no memory.
     pub fn empty(alloc: Global) -> DeskRow
         ensures { result ≡ empty_row }
@@ -59,8 +56,6 @@ impl DeskRow {
 }
 
 impl HandlerRow for DeskRow {
-    ghost use Rattle.ak_action.specs.Row.{row_data};
-
     ghost told = { row_data };
 
     fn table(&self) -> &PropertyTable {
@@ -94,15 +89,14 @@ mod tests {
     use ak_value::Elements;
     use std::test::Fail;
 
-    fn add_property(alloc: Global, row: &mut DeskRow, name: &[u8]) -> Result<(), Fail> {
-        row.table.add_row(PropertyRow {
+    fn property(alloc: Global, name: &[u8]) -> Result<PropertyRow, Fail> {
+        Ok(PropertyRow {
             name: Text::from_bytes(alloc, name)?,
             kind: Kind::Int32,
             commands: Items::from_vec(Vec::new(alloc)),
             forms: Items::from_vec(Vec::new(alloc)),
             usage: Text::from_bytes(alloc, b"")?,
-        })?;
-        Ok(())
+        })
     }
 
     fn elements(alloc: Global, number: i32) -> Result<Elements, Fail> {
@@ -111,22 +105,32 @@ mod tests {
         Ok(Elements::new(alloc, Kind::Int32, list)?)
     }
 
-    // The properties `one` and `two`, with the elements 1 and 2, and reactions on the codes 7, 8 and 7.
-    fn described(alloc: Global) -> Result<DeskRow, Fail> {
-        let mut row = DeskRow::empty(alloc);
-        add_property(alloc, &mut row, b"one")?;
-        add_property(alloc, &mut row, b"two")?;
-        let mut list = Vec::new(alloc);
-        list.push(elements(alloc, 1)?)?;
-        list.push(elements(alloc, 2)?)?;
-        row.elements = ElementsList::from_vec(list);
-        for what in [7, 8, 7] {
-            row.reactions.push(Reaction {
-                what: Code(what),
+    fn reactions(alloc: Global, codes: &[u32]) -> Result<ReactionList, Fail> {
+        let mut reactions = ReactionList::new(alloc);
+        for what in codes {
+            reactions.push(Reaction {
+                what: Code(*what),
                 actions: ActionList::new(alloc),
             })?;
         }
-        Ok(row)
+        Ok(reactions)
+    }
+
+    // The properties `one` and `two`, with the elements 1 and 2, and reactions on the codes 7, 8 and 7.
+    fn described(alloc: Global) -> Result<DeskRow, Fail> {
+        let mut table = PropertyTable::new(alloc);
+        table.add_row(property(alloc, b"one")?)?;
+        table.add_row(property(alloc, b"two")?)?;
+        let mut list = Vec::new(alloc);
+        list.push(elements(alloc, 1)?)?;
+        list.push(elements(alloc, 2)?)?;
+        Ok(DeskRow {
+            suites: Items::from_vec(Vec::new(alloc)),
+            table,
+            elements: ElementsList::from_vec(list),
+            filters: FilterList::new(alloc),
+            reactions: reactions(alloc, &[7, 8, 7])?,
+        })
     }
 
     #[test]

@@ -1,2 +1,7 @@
-pub mod Answered
-pub mod Nested
+pub mod Accessing
+pub mod AtOnce
+pub mod Coming
+pub mod Editing
+pub mod History
+pub mod Placing
+pub mod Standing

@@ -2,12 +2,10 @@
 
 ghost use Rattle.ak_desk.specs.Laws as law;
 
-/// The message that gets a property of the desk is answered with the property's value.
-pub fn each_property_is_answered()
-    ensures { law.EachPropertyIsAnswered }
-{}
-
-/// The message that gets a property that the desk does not have is not understood.
-pub fn no_other_is_answered()
-    ensures { law.NoOtherIsAnswered }
-{}
+/// However the calls of `want` and `give` go for one message, what they come to is the dispatch with all its
+/// answers at once, where no memory ran out, or ran out at some place.
+pub fn a_dispatch_comes_as_told()
+    ensures { law.ComesToDispatch }
+{
+    ak_action::calls_act();
+}

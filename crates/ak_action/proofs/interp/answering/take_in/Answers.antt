@@ -14,4 +14,4 @@ returns-in_default c =
 pub returns-in-Some : goal.returns-in-Some
 returns-in-Some c =
     let there : content_of c.args.state.now.handlers.list c.args.token ≡ Some c.in-Some.row.now = grind (arith, common_steps) in
-    lent_state c.args.state.now c.args.token c.in-Some.row.now (λ list. with_result_at list c.args.place c.args.reply) _ _ _ _ there c.take_result_at.ensures
+    lent_state c.args.state.now c.args.token c.in-Some.row.now (λ list. with_result_at list c.args.place c.args.reply) _ _ _ there c.take_result_at.ensures

@@ -15,4 +15,4 @@ returns-in_default c =
 pub returns-in-Some : goal.returns-in-Some
 returns-in-Some c =
     let there : content_of c.args.state.now.handlers.list c.args.token ≡ Some c.in-Some.row.now = grind (arith, common_steps) in
-    lent_state c.args.state.now c.args.token c.in-Some.row.now (λ list. with_first_at list c.args.place (value_of c.args.value)) _ _ _ _ there c.set_first_at.ensures
+    lent_state c.args.state.now c.args.token c.in-Some.row.now (λ list. with_first_at list c.args.place (value_of c.args.value)) _ _ _ there c.set_first_at.ensures

@@ -1,7 +1,7 @@
 use Rattle.std.proofs.Common.{sym, ap, ◌∙◌, Some}
 use Rattle.ak_message.specs.Message.{MessageData}
-use Rattle.ak_desk.proofs.Nested.{message_back}
-use Rattle.ak_desk.proofs.desk.first_specifier.Goals as goal
+use Rattle.first_desk.proofs.Nested.{message_back}
+use Rattle.first_desk.proofs.desk.first_specifier.Goals as goal
 
 pub returns-in-Ok-Message : goal.returns-in-Ok-Message
 returns-in-Ok-Message c =

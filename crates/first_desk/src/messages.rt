@@ -1,7 +1,7 @@
 //! The messages of the first path, made field by field.
 
 ghost use Rattle.std.specs.Prelude.{◌≡◌, IfOk};
-ghost use Rattle.ak_desk.specs.Messages.{bare, specifier_of, get_of, ready_to_run, value_reply, no_reply, not_understood};
+ghost use Rattle.first_desk.specs.Messages.{bare, specifier_of, get_of, ready_to_run, value_reply, no_reply, not_understood};
 
 use ak_base::{Code, NoMemory, Text};
 use ak_message::{Message, Value};

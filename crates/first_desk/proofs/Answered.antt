@@ -6,10 +6,10 @@ use Rattle.std.specs.Str.{bytes_eq}
 use Rattle.std.proofs.lemmas.Bool.{cases_Bool, and_parts, not-true, both_ways}
 use Rattle.std.proofs.lemmas.List.Folds.{list_any_at}
 use Rattle.std.proofs.lemmas.Slice.Eq.{bytes_eq-Decides}
-use Rattle.ak_desk.specs.Messages.{get_of}
-use Rattle.ak_desk.specs.Replies.{first_reply, answer}
-use Rattle.ak_desk.specs.Rows.{names_differ, value_of_row}
-use Rattle.ak_desk.specs.Laws.{EachPropertyIsAnswered, NoOtherIsAnswered}
+use Rattle.first_desk.specs.Messages.{get_of}
+use Rattle.first_desk.specs.Replies.{first_reply, answer}
+use Rattle.first_desk.specs.Rows.{names_differ, value_of_row}
+use Rattle.first_desk.specs.Laws.{EachPropertyIsAnswered, NoOtherIsAnswered}
 
 bytes_eq-refl : (name : List ℕ) → bytes_eq name name ≡ true
 bytes_eq-refl name = (bytes_eq-Decides name name).1 refl

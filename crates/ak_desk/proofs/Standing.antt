@@ -1,0 +1,97 @@
+-- How a desk stands as its messages are begun, go on and end.
+use Rattle.std.proofs.Common.{◌≡◌, ℕ, ◌+◌, ◌<◌, ◌≤◌, max, Bool, true, false, List, [], ◌∷◌, ◌++◌, Option, None, Some, option_map, Result, Ok, Err, IfOk, OnErr, vec_len, vec_capacity, refl, ap, subst, sym, ◌∙◌, arith}
+use Rattle.ak_flatten.specs.declared.item.Taken.{Taken}
+use Rattle.ak_action.specs.declared.state.DeskState.{DeskState}
+use Rattle.ak_desk.specs.Desk.{BegunData, DeskData, Edits, begun_at, clock_after, ended_event, line_after, stamp_in, with_line, with_task}
+use Rattle.ak_desk.specs.DeskInside.{IsBegun, Stands}
+use Rattle.ak_desk.specs.Line.{LineData}
+use Rattle.ak_desk.specs.Laws.{ComesToDispatch}
+use Rattle.ak_desk.specs.Machine.{Edited, EditsHandlers, IsHistory, dispatches, edit_of, gave_up, is_no_memory}
+use Rattle.ak_base.specs.declared.no_memory.NoMemory.{NoMemory}
+use Rattle.ak_handler.specs.Handlers.{HandlersData}
+use Rattle.ak_action.specs.declared.answer.Answer.{Answer}
+use Rattle.ak_action.specs.declared.answer.Want.{Want}
+use Rattle.ak_action.specs.declared.row.DeskRow.{DeskRow}
+use Rattle.ak_turn.specs.declared.clock.Clock.{Clock}
+use Rattle.ak_desk.specs.declared.entry.DeskEvent.{DeskEvent}
+use Rattle.ak_desk.specs.declared.entry.DeskEvent.TheVariants as event
+use Rattle.ak_desk.specs.declared.entry.Edit.{Edit}
+use Rattle.ak_desk.specs.declared.entry.EditAnswer.{EditAnswer}
+use Rattle.ak_desk.specs.declared.entry.EditAnswer.TheVariants as answered
+use Rattle.ak_desk.specs.declared.entry.EntryRoute.TheVariants as entry
+use Rattle.ak_desk.specs.declared.task.Task.{Task}
+use Rattle.ak_desk.specs.Task.{Heard, IsDone, MayWant, TakesAnswer, heard_of, place_in, wants, wants_none, want_of}
+use Rattle.ak_desk.specs.Task as the
+use Rattle.ak_desk.proofs.History.{ends_on, fails_on, gave_up_then, hears_on, history_push, wants_on}
+
+fresh : (opening : DeskState) (lines : List LineData) (s : DeskState) (taken : Taken) → IsHistory opening lines s → taken.position ≡ dispatches lines → IsBegun opening lines (begun_at s taken) s
+fresh opening lines s taken h e =
+    record { history = h; position = e; route = refl; asked = []; heard = []; comes = the.begun }
+
+pub begins : (opening : DeskState) (old lines : List LineData) (was : Option BegunData) (b : BegunData) (s : DeskState) (taken : Taken) → b ≡ begun_at s taken → was ≡ None → lines ≡ old → Stands opening old was s → taken.position ≡ dispatches old → IsBegun opening lines b s
+begins opening old lines was b s taken seen none same h e =
+    let rest : IsHistory opening old s = subst (λ (o : Option BegunData). Stands opening old o s) none h in
+    subst (λ (x : BegunData). IsBegun opening lines x s) (sym seen)
+    (subst (λ (l : List LineData). IsBegun opening l (begun_at s taken) s) (sym same) (fresh opening old s taken rest e))
+
+-- ---- going on
+module _ (opening : DeskState) (lines : List LineData) (b : BegunData) (s : DeskState) (h : IsBegun opening lines b s) where
+  pub given_stands : (a : Answer) (t : Task) (v : DeskState) → TakesAnswer b.task a → heard_of b.task s a ≡ record { task = t; state = v } → IsBegun opening lines (with_task b t) v
+  given_stands a t v takes e = subst (λ (x : Heard). IsBegun opening lines (with_task b x.task) x.state) e (hears_on opening lines b s h a takes)
+
+  pub wanted_stands : (r : Result Want NoMemory) (u : Task) (v : DeskState) → MayWant b.task → IfOk r (λ w. want_of None b.task s ≡ wants w u v) → OnErr r (want_of (Some (place_in u)) b.task s ≡ wants_none u v) → IsBegun opening lines (with_task b u) v
+  wanted_stands (Ok w) u v may ok err = wants_on opening lines b s h w u v may ok
+  wanted_stands (Err n) u v may ok err = fails_on opening lines b s h u v may err
+
+-- ---- one line more
+later : (a b : ℕ) → b < 1 + max a b
+later a b = omega arith
+
+module _ (opening : DeskState) (lines : List LineData) (clock : Clock) where
+  pub ended_stands : (b : BegunData) (s : DeskState) (e : DeskEvent) (new : List LineData) → ComesToDispatch → IsBegun opening lines b s → IsDone b.task → clock.thread.0 ≡ 10000 + opening.looper → e ≡ ended_event b → new ≡ lines ++ line_after lines clock e (Some b.item) ∷ [] → IsHistory opening new s
+  ended_stands b s e new comes h done by is grown =
+      subst (λ (l : List LineData). IsHistory opening l s) (sym grown)
+      (ends_on opening lines b s h comes done (line_after lines clock e (Some b.item)) is refl by (later clock.time (stamp_in lines)))
+
+  pub given_up_stands : (s : DeskState) (position : ℕ) (new : List LineData) → IsHistory opening lines s → clock.thread.0 ≡ 10000 + opening.looper → position ≡ dispatches lines → new ≡ lines ++ line_after lines clock (event.Dispatched position entry.NoMemory [] false) None ∷ [] → IsHistory opening new s
+  given_up_stands s position new h by at grown =
+      subst (λ (l : List LineData). IsHistory opening l s) (sym grown)
+      (history_push opening lines s (line_after lines clock (event.Dispatched position entry.NoMemory [] false) None) s h
+      (record { by = by; event = (at, (refl, (refl, refl))) })
+      (later clock.time (stamp_in lines)))
+
+  pub gave_up_now : (position : ℕ) (new : List LineData) → new ≡ lines ++ line_after lines clock (event.Dispatched position entry.NoMemory [] false) None ∷ [] → gave_up new ≡ true
+  gave_up_now position new grown = ap gave_up grown ∙ gave_up_then lines (line_after lines clock (event.Dispatched position entry.NoMemory [] false) None) refl
+
+-- ---- edits
+edits_so : (h : HandlersData DeskRow) (e : Edit) (answer : EditAnswer) (new : HandlersData DeskRow) → EditsHandlers h e answer new → is_no_memory answer ≡ false → edit_of h e ≡ record { answer = answer; handlers = new }
+edits_so h e answered.Done new is other = is
+edits_so h e (answered.Token token) new is other = is
+edits_so h e (answered.Refused f) new is other = is
+edits_so h e answered.NoMemory new is other = absurd cc
+
+pub no_memory_so : (h : HandlersData DeskRow) (e : Edit) (answer : EditAnswer) (new : HandlersData DeskRow) → EditsHandlers h e answer new → is_no_memory answer ≡ true → (answer ≡ answered.NoMemory) × (new ≡ h)
+no_memory_so h e answered.Done new is other = absurd cc
+no_memory_so h e (answered.Token token) new is other = absurd cc
+no_memory_so h e (answered.Refused f) new is other = absurd cc
+no_memory_so h e answered.NoMemory new is other = (refl, is)
+
+pub edited_stands : (opening : DeskState) (lines : List LineData) (clock : Clock) (s : DeskState) (e : Edit) (answer : EditAnswer) (h : HandlersData DeskRow) (t : DeskState) (new : List LineData) → IsHistory opening lines s → EditsHandlers s.handlers e answer h → is_no_memory answer ≡ false → t ≡ record s { handlers = h } → new ≡ lines ++ line_after lines clock (event.Edited e answer) None ∷ [] → IsHistory opening new t
+edited_stands opening lines clock s e answer h t new history edits other is grown =
+    let so = edits_so s.handlers e answer h edits other in
+    subst (λ (l : List LineData). IsHistory opening l t) (sym grown)
+    (history_push opening lines s (line_after lines clock (event.Edited e answer) None) t history
+    (record { by = tt; event = (refl, ap (λ (x : Edited). x.answer) so, is ∙ ap (λ (x : Edited). record s { handlers = x.handlers }) (sym so)) })
+    (later clock.time (stamp_in lines)))
+
+told_as : (d : DeskData) (clock : Clock) (e : Edit) (answer : EditAnswer) (d' : DeskData) (clock' : Clock) → is_no_memory answer ≡ false → answer ≡ (edit_of d.state.handlers e).answer → d' ≡ with_line (record d { state = record d.state { handlers = (edit_of d.state.handlers e).handlers } }) clock (event.Edited e (edit_of d.state.handlers e).answer) None → clock' ≡ clock_after d clock → Edits d clock e answer d' clock'
+told_as d clock e answered.Done d' clock' other a is c = (a, is, c)
+told_as d clock e (answered.Token token) d' clock' other a is c = (a, is, c)
+told_as d clock e (answered.Refused f) d' clock' other a is c = (a, is, c)
+told_as d clock e answered.NoMemory d' clock' other a is c = absurd cc
+
+pub edits_told : (d : DeskData) (clock : Clock) (e : Edit) (answer : EditAnswer) (h : HandlersData DeskRow) (d' : DeskData) (clock' : Clock) → EditsHandlers d.state.handlers e answer h → is_no_memory answer ≡ false → d' ≡ with_line (record d { state = record d.state { handlers = h } }) clock (event.Edited e answer) None → clock' ≡ clock_after d clock → Edits d clock e answer d' clock'
+edits_told d clock e answer h d' clock' edits other is c =
+    let so = edits_so d.state.handlers e answer h edits other in
+    told_as d clock e answer d' clock' other (ap (λ (x : Edited). x.answer) (sym so))
+    (is ∙ ap (λ (x : Edited). with_line (record d { state = record d.state { handlers = x.handlers } }) clock (event.Edited e x.answer) None) (sym so)) c
