@@ -1,3 +1,4 @@
+pub mod Chained
 pub mod Fields
 pub mod GoingOn
 pub mod Growing
@@ -8,6 +9,7 @@ pub mod LawCounts
 pub mod LawReplay
 pub mod LawReply
 pub mod LawSteps
+pub mod Opened
 pub mod Lending
 pub mod Placing
 pub mod Reacting
@@ -15,3 +17,4 @@ pub mod Rooms
 pub mod Rows
 pub mod Stages
 pub mod Sums
+pub mod Tested

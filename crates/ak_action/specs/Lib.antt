@@ -7,10 +7,14 @@ pub mod InterpCode
 pub mod InterpInside
 pub mod Laws
 pub mod Number
+pub mod Opening
+pub mod OpeningInside
+pub mod Plan
 pub mod Properties
 pub mod Row
 pub mod State
 pub mod Steps
 pub mod Template
 pub mod Values
+pub mod Whole
 pub mod Words

@@ -11,6 +11,8 @@ mod doing;
 mod interp;
 mod laws;
 mod number;
+mod opening;
+mod plan;
 mod properties;
 mod row;
 mod state;
@@ -32,6 +34,9 @@ pub use laws::{
     words_replay,
 };
 pub use number::Number;
+pub use plan::{
+    CAPACITY_LIMIT, LooperPlan, PlanFault, PlanParts, PlanRow, SUITE_LIMIT, plans_are_whole,
+};
 pub use properties::ElementsList;
 pub use row::DeskRow;
 pub use state::DeskState;

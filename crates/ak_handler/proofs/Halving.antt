@@ -1,5 +1,5 @@
 -- Since tokens rise, a search by halves finds the row that a search row by row finds.
-use Rattle.std.proofs.Common.{◌≡◌, ℕ, ◌<◌, ◌≤◌, ◌==◌, false, List, [], ◌∷◌, length, get_or, position, AllPairs, Option, None, Some, is_some, Result, Ok, Err, refl, sym, ap, subst, ◌∙◌, eq-eqb, ne_eqb, lt-ltb, arith}
+use Rattle.std.proofs.Common.{◌≡◌, ℕ, ◌<◌, ◌≤◌, ◌==◌, List, [], ◌∷◌, length, get_or, position, AllPairs, None, Some, Result, Ok, Err, refl, sym, ap, subst, eq-eqb, ne_eqb, lt-ltb, arith}
 use Rattle.std.specs.List.{position_or_len}
 use Rattle.std.specs.List.Sorted.{IsSearchInRange, IsBinarySearchResult, IsNonDecreasingBy}
 use Rattle.std.specs.Ordering.{nat_cmp, ordering_index}
@@ -10,10 +10,7 @@ use Rattle.std.proofs.lemmas.List.{length-map, get_or-map}
 use Rattle.std.proofs.lemmas.List.Sums.{position_or_len_is}
 use Rattle.std.proofs.lemmas.List.Sorted.{IsNonDecreasingBy-from_default}
 use Rattle.ak_handler.specs.declared.rows.Row.{Row}
-use Rattle.ak_handler.specs.Handlers.{handler_of, has_token, place_of}
-use Rattle.ak_handler.proofs.Places.{at_place}
-use Rattle.ak_handler.proofs.Tokens.{tokens_alone}
-use Rattle.ak_handler.specs.Seen.{handler_seen, list_seen, Rise}
+use Rattle.ak_handler.specs.Rows.{handler_seen, list_seen, Rise}
 
 module _ {R : Type 0} where
   -- ---- in rows that there are
@@ -55,6 +52,11 @@ module _ {R : Type 0} where
   place-halved [] token (Err i) rise within parted = refl
   place-halved (row ∷ rest) token r rise within searched = halved row rest rise token r within searched
 
+  -- ---- where the token is the place of its row
+  pub place_here : (rows : List (Row R)) (token place : ℕ) → Rise rows → place < length rows → ((d : Row R) → (get_or rows place d).token ≡ token) → Some place ≡ position (λ row. row.token == token) rows
+  place_here [] token place rise within here = absurd (omega (arith, within))
+  place_here (row ∷ rest) token place rise within here = place_at row rest rise token place within (here row)
+
   -- ---- as handlers' tokens do
   pub rows_rise : (rows : List (Row R)) → AllPairs (λ a b. a.token < b.token) (list_seen rows) → Rise rows
   rows_rise rows rise i j d lt within =
@@ -62,14 +64,3 @@ module _ {R : Type 0} where
       let e : (k : ℕ) → k < length rows → get_or (list_seen rows) k (handler_seen d) ≡ handler_seen (get_or rows k d) = λ k fits. get_or-map handler_seen rows k d (handler_seen d) fits in
       let both = rise i j (handler_seen d) lt many in
       subst (λ h. h.token < (get_or rows j d).token) (e i (omega arith)) (subst (λ h. (get_or (list_seen rows) i (handler_seen d)).token < h.token) (e j within) both)
-
-  -- ---- the row at the place of a handler is that handler
-  pub row_placed : (rows : List (Row R)) (token place : ℕ) (row : Row R) → AllPairs (λ a b. a.token < b.token) (list_seen rows) → Some place ≡ place_of (list_seen rows) token → row ≡ get_or rows place row → Some (handler_seen row) ≡ handler_of (list_seen rows) token
-  row_placed rows token place row rise at is =
-      let found = at_place (has_token token) (list_seen rows) place (tokens_alone (list_seen rows) token rise) (sym at) in
-      let seen : get_or (list_seen rows) place (handler_seen row) ≡ handler_seen (get_or rows place row) = get_or-map handler_seen rows place row (handler_seen row) (omega (arith, length-map rows handler_seen, found.within)) in
-      sym (found.found (handler_seen row) ∙ ap Some (seen ∙ ap handler_seen (sym is)))
-
-pub none_there : {X : Type 0} (o : Option X) → false ≡ is_some o → None ≡ o
-none_there None e = refl
-none_there (Some x) e = absurd cc

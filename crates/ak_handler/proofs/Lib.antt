@@ -8,6 +8,7 @@ pub mod Linking
 pub mod Looking
 pub mod Mapped
 pub mod Meeting
+pub mod Named
 pub mod Pigeons
 pub mod Placed
 pub mod Places

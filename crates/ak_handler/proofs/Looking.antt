@@ -1,13 +1,10 @@
 -- Looking up among the rows is looking up among the handlers.
-use Rattle.std.proofs.Common.{◌≡◌, ◌+◌, Bool, true, false, cond, not, List, [], ◌∷◌, length, map, find, position, option_map, Option, None, Some, IfSome, All, is_some, nat_lt, ℕ, bytes_eq, refl, sym, ap, ◌∙◌, ◌<◌, one-add, ltb-true, lt-ltb, arith}
+use Rattle.std.proofs.Common.{◌≡◌, ◌+◌, Bool, true, false, cond, not, List, [], ◌∷◌, length, map, find, position, option_map, Option, None, Some, IfSome, All, is_some, nat_lt, ℕ, refl, sym, ap, ◌∙◌, ◌<◌, one-add, ltb-true, lt-ltb, arith}
 use Prim.Native.Nat.compare
 use Rattle.std.specs.List.{position_or_len}
 use Rattle.std.proofs.lemmas.Bool.{cond_both}
 use Rattle.std.proofs.lemmas.List.{length-map}
 use Rattle.std.proofs.lemmas.List.Elements.{All-head, All-tail}
-use Rattle.ak_handler.specs.declared.rows.Row.{Row}
-use Rattle.ak_handler.specs.Handlers.{has_name, token_named}
-use Rattle.ak_handler.specs.Seen.{handler_seen, list_seen}
 
 module _ {A B : Type 0} (f : A → B) (p : B → Bool) where
   either : (b : Bool) (x : A) (o : Option A) → cond b (Some (f x)) (option_map f o) ≡ option_map f (cond b (Some x) o)
@@ -57,12 +54,3 @@ module _ {X : Type 0} (p : X → Bool) where
   pub position-within : (xs : List X) → IfSome (position p xs) (λ i. i < length xs)
   position-within xs =
       cond_both (nat_lt (position_or_len p xs) (length xs)) (Some (position_or_len p xs)) None (λ o. IfSome o (λ i. i < length xs)) (λ e. ltb-true _ _ e) (λ _. tt)
-
-option_map-map : {A B C : Type 0} (f : B → C) (g : A → B) (o : Option A) → option_map f (option_map g o) ≡ option_map (λ x. f (g x)) o
-option_map-map f g None = refl
-option_map-map f g (Some x) = refl
-
-module _ {R : Type 0} where
-  pub name_found : (rows : List (Row R)) (name : List ℕ) → token_named (list_seen rows) name ≡ option_map (λ row. row.token) (find (λ row. bytes_eq row.name name) rows)
-  name_found rows name =
-      ap (option_map (λ h. h.token)) (find-map handler_seen (has_name name) rows) ∙ option_map-map (λ h. h.token) handler_seen (find (λ row. bytes_eq row.name name) rows)

@@ -1,7 +1,8 @@
 -- A list of which at most one element passes a test: the place of that one, and the list with it changed or without it.
-use Rattle.std.proofs.Common.{◌≡◌, ℕ, zero, suc, ◌<◌, Bool, true, false, cond, not, ◌⊎◌, inl, inr, ⊎_elim, List, [], ◌∷◌, length, get_or, set, map, filter, find, remove, position, All, AllPairs, None, Some, refl, sym, ap, subst, one-add, arith, tests}
-use Rattle.std.specs.List.{position_or_len}
+use Rattle.std.proofs.Common.{◌≡◌, ℕ, zero, suc, ◌<◌, Bool, true, false, cond, not, ◌⊎◌, inl, inr, ⊎_elim, List, [], ◌∷◌, length, map, filter, find, remove, position, All, AllPairs, None, Some, refl, sym, ap, subst, one-add, arith, tests}
+use Rattle.std.specs.List.{position_or_len, slice_get}
 use Rattle.std.proofs.lemmas.List.Elements.{All-head, All-tail}
+use Rattle.ak_handler.specs.Rows.{changed_at}
 
 module _ {X : Type 0} (p : X → Bool) where
   -- no two elements pass
@@ -11,8 +12,8 @@ module _ {X : Type 0} (p : X → Bool) where
   -- the one element that passes stands at that place
   pub record IsAt (xs : List X) (place : ℕ) : Type 0 where
     pub within : place < length xs
-    pub found : (d : X) → find p xs ≡ Some (get_or xs place d)
-    pub changed : (f : X → X) (d : X) → set xs place (f (get_or xs place d)) ≡ map (λ x. cond (p x) (f x) x) xs
+    pub found : find p xs ≡ slice_get xs place
+    pub changed : (f : X → X) → changed_at xs place f ≡ map (λ x. cond (p x) (f x) x) xs
     pub removed : remove xs place ≡ filter (λ x. not (p x)) xs
 
   -- no element passes
@@ -41,8 +42,8 @@ module _ {X : Type 0} (p : X → Bool) where
   behind x xs true e alone _ =
       inr (record {
         within = rw e (omega arith);
-        found = λ d. rw e refl;
-        changed = λ f d. rw e (ap (λ l. f x ∷ l) (sym (map_none f xs (alone refl))));
+        found = rw e refl;
+        changed = λ f. rw e (ap (λ l. f x ∷ l) (sym (map_none f xs (alone refl))));
         removed = rw e (sym (filter_none xs (alone refl)));
       })
   behind x xs false e alone (inl h) =
@@ -50,8 +51,8 @@ module _ {X : Type 0} (p : X → Bool) where
   behind x xs false e alone (inr h) =
       inr (record {
         within = rw e (omega (arith, h.within));
-        found = λ d. rw (e, one-add) (h.found d);
-        changed = λ f d. rw (e, one-add) (ap (λ l. x ∷ l) (h.changed f d));
+        found = rw (e, one-add) h.found;
+        changed = λ f. rw (e, one-add) (ap (λ l. x ∷ l) (h.changed f));
         removed = rw (e, one-add) (ap (λ l. x ∷ l) h.removed);
       })
 

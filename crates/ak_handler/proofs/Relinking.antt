@@ -1,29 +1,17 @@
--- A list that is changed element by element from the front.
-use Rattle.std.proofs.Common.{◌≡◌, ℕ, ◌+◌, ◌<◌, List, [], ◌∷◌, ◌++◌, length, get_or, set, map, take, drop, sym, ap, ◌∙◌, length-drop, drop-drop, drop-set-lt, arith}
-use Rattle.std.proofs.lemmas.List.{take_more, take_more_set, map_push, drop_more}
+-- A list that is changed place by place from the front.
+use Rattle.std.proofs.Common.{◌≡◌, ℕ, zero, suc, ◌+◌, List, [], ◌∷◌, ◌++◌, map, take, drop, refl, ap, ◌∙◌, arith}
+use Rattle.ak_handler.specs.Rows.{changed_at}
 
-module _ {A B : Type 0} (see : A → B) (f : B → B) (now old : List A) (i : ℕ) where
+module _ {X : Type 0} (f : X → X) where
   -- the first so many are changed, and the others are as they were
-  pub record IsDone : Type 0 where
-    pub done : map see (take i now) ≡ map f (map see (take i old))
-    pub left : drop i now ≡ drop i old
+  abbrev pub so_far : List X → ℕ → List X
+  so_far xs count = map f (take count xs) ++ drop count xs
 
-  module _ (d y : A) (h : IsDone) (lt : i < length now) where
-    old_within : i < length old
-    old_within = omega (arith, length-drop i now, length-drop i old, ap length h.left)
+  one_more : (xs : List X) (count : ℕ) → changed_at (so_far xs count) count f ≡ so_far xs (suc count)
+  one_more [] zero = refl
+  one_more [] (suc count) = refl
+  one_more (x ∷ xs) zero = refl
+  one_more (x ∷ xs) (suc count) = ap (λ l. f x ∷ l) (one_more xs count)
 
-    as_before : get_or old i d ≡ get_or now i d
-    as_before =
-        sym (ap (λ l. get_or l 0 d) (drop_more old i d old_within)) ∙ ap (λ l. get_or l 0 d) (sym h.left) ∙ ap (λ l. get_or l 0 d) (drop_more now i d lt)
-
-    map_old : map see (take (i + 1) old) ≡ map see (take i old) ++ see (get_or now i d) ∷ []
-    map_old =
-        ap (map see) (take_more old i d old_within ∙ ap (λ z. take i old ++ z ∷ []) as_before) ∙ map_push see (take i old) (get_or now i d)
-
-    pub done_more : see y ≡ f (see (get_or now i d)) → map see (take (i + 1) (set now i y)) ≡ map f (map see (take (i + 1) old))
-    done_more changed =
-        ap (map see) (take_more_set now i y lt) ∙ map_push see (take i now) y ∙ (λ k. h.done k ++ changed k ∷ []) ∙ sym (ap (map f) map_old ∙ map_push f (map see (take i old)) (see (get_or now i d)))
-
-    pub left_more : drop (i + 1) (set now i y) ≡ drop (i + 1) old
-    left_more =
-        drop-set-lt (i + 1) now i y (omega arith) ∙ sym (drop-drop 1 i now) ∙ ap (drop 1) h.left ∙ drop-drop 1 i old
+  pub so_far_more : (xs : List X) (count : ℕ) → changed_at (so_far xs count) count f ≡ so_far xs (count + 1)
+  so_far_more xs count = let e : suc count ≡ count + 1 = omega arith in one_more xs count ∙ ap (so_far xs) e

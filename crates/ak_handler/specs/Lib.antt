@@ -2,4 +2,5 @@ pub mod Changes
 pub mod Handlers
 pub mod Laws
 pub mod Lending
+pub mod Rows
 pub mod Seen

@@ -3,7 +3,7 @@ ghost use Rattle.std.specs.Result.{result_ok};
 ghost use Rattle.ak_handler.specs.Changes.{add_fault, with_handler, remove_fault, without_handler, preferred_fault, content_of, may_be};
 
 use crate::fault::HandlerFault;
-use crate::rows::{Row, relink_all, unless};
+use crate::rows::{Row, unless};
 use crate::set::{HANDLER_LIMIT, HandlerSet, LOOPER};
 use ak_base::Text;
 
@@ -52,7 +52,7 @@ impl<R: Drop> HandlerSet<R> {
             return Err(HandlerFault::IsLooper);
         }
         let row = self.rows.remove(place);
-        relink_all(&mut self.rows, token);
+        self.rows.relink_all(token);
         self.preferred = unless(token, None, self.preferred);
         Ok(row.content)
     }

@@ -29,7 +29,7 @@ impl<R: Drop> HandlerSet<R> {
         if self.meets(next, token) {
             return Err(HandlerFault::ChainLoop);
         }
-        self.rows[place].next = next;
+        self.rows.set_next(place, next);
         Ok(())
     }
 

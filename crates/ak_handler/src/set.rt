@@ -1,11 +1,11 @@
-ghost use Rattle.std.specs.Prelude.{◌≡◌, ◌<◌, Some, length, is_some, IfOk, IfSome, option_map};
+ghost use Rattle.std.specs.Prelude.{◌≡◌, ◌≢◌, ◌<◌, Some, length, is_some, AllPairs, IfOk, IfSome, option_map};
 ghost use Rattle.std.specs.Option.{option_copied_mut};
 ghost use Rattle.std.specs.Borrow.{sem};
 ghost use Rattle.ak_handler.specs.Changes.{looper_alone, content_of, from_rows, numbered_rows};
 ghost use Rattle.ak_handler.specs.Handlers.{handler_of, next_in, place_of, token_at, token_named};
-ghost use Rattle.ak_handler.specs.Seen.{handler_seen, list_seen};
+ghost use Rattle.ak_handler.specs.Rows.{handler_seen};
 
-use crate::rows::{Row, place_with, token_with_name};
+use crate::rows::{Row, Rows};
 use ak_base::{NoMemory, Text};
 use std::alloc::Global;
 use std::marker::Model;
@@ -20,7 +20,7 @@ pub const LOOPER: u64 = 0;
 /// Tokens are birth numbers and are not used again. (The Be Book, BLooper and BHandler.)
 #[derive(Drop)]
 pub struct HandlerSet<R> {
-    pub(crate) rows: Vec<Row<R>>,
+    pub(crate) rows: Rows<R>,
     pub(crate) preferred: Option<u64>,
     pub(crate) next_token: u64,
 }
@@ -46,7 +46,7 @@ impl<R: Drop> HandlerSet<R> {
     pub fn new(alloc: Global, name: Text, content: R) -> Result<HandlerSet<R>, NoMemory>
         ensures { IfOk result (λ s. s ≡ looper_alone name content) }
     {
-        let mut rows = Vec::with_capacity(alloc, 1)?;
+        let mut rows = Rows::with_capacity(alloc, 1)?;
         rows.push(Row {
             token: LOOPER,
             name,
@@ -116,7 +116,7 @@ impl<R: Drop> HandlerSet<R> {
         ensures* writes_back { sem 𝓛 (lends_content R.row self.entry token result) }
         ensures value { Some result.now ≡ content_of self.old.list token }
     {
-        &mut self.rows[place].content
+        self.rows.content_mut(place)
     }
 
     /// The name of the handler with that token. `None` where there is none. Takes no memory.
@@ -131,14 +131,14 @@ impl<R: Drop> HandlerSet<R> {
     pub fn by_name(&self, name: &Text) -> Option<u64>
         ensures { result ≡ token_named self.now.list name.now }
     {
-        token_with_name(&self.rows, name.as_bytes())
+        self.rows.token_named(name)
     }
 
     /// The token of the handler at that place, the looper at 0. `None` past the last one. Takes no memory.
     pub fn at(&self, index: u32) -> Option<u64>
         ensures { result ≡ token_at self.now.list index }
     {
-        let row = self.rows.get(index as usize)?;
+        let row = self.rows.at(index as usize)?;
         Some(row.token)
     }
 
@@ -164,7 +164,7 @@ impl<R: Drop> HandlerSet<R> {
         ensures found { is_some result ≡ is_some (handler_of self.now.list token) }
         ensures within { IfSome result (λ place. (place < length self.now.list) × (place < 64)) }
     {
-        place_with(&self.rows, token)
+        self.rows.place(token)
     }
 
     // The row with that token.
@@ -172,7 +172,7 @@ impl<R: Drop> HandlerSet<R> {
         ensures { option_map (λ x. handler_seen x.now) result ≡ handler_of self.now.list token }
     {
         let place = self.place(token)?;
-        Some(&self.rows[place])
+        self.rows.at(place)
     }
 }
 
@@ -180,10 +180,11 @@ impl<R: Drop> HandlerSet<R> {
 fn numbered<R: Drop>(
     alloc: Global,
     described: Vec<(Text, Option<u64>, R)>,
-) -> Result<Vec<Row<R>>, NoMemory>
-    ensures { IfOk result (λ rows. list_seen rows.items ≡ numbered_rows 0 described.items) }
+) -> Result<Rows<R>, NoMemory>
+    requires { AllPairs (λ a b. a.name ≢ b.name) (numbered_rows 0 described.items) }
+    ensures { IfOk result (λ rows. rows ≡ numbered_rows 0 described.items) }
 {
-    let mut rows = Vec::with_capacity(alloc, described.len())?;
+    let mut rows = Rows::with_capacity(alloc, described.len())?;
     for (name, next, content) in described {
         let token = rows.len() as u64;
         rows.push(Row {

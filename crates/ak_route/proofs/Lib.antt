@@ -3,6 +3,7 @@ pub mod Delivered
 pub mod Forwarded
 pub mod Leading
 pub mod Mapped
+pub mod Marked
 pub mod Passed
 pub mod Steps
 pub mod Takers

@@ -1,9 +1,10 @@
 -- What routing sees of handlers keeps their tokens, names and next handlers, and so all that is looked up by them.
-use Rattle.std.proofs.Common.{◌≡◌, ℕ, zero, suc, List, ◌∷◌, length, map, find, option_map, option_and_then, unwrap_or, Option, None, Some, is_some, refl, sym, ap, ◌∙◌}
+use Rattle.std.proofs.Common.{◌≡◌, ℕ, zero, suc, List, [], ◌∷◌, length, map, find, option_map, option_and_then, unwrap_or, Option, None, Some, is_some, refl, sym, ap, ◌∙◌}
 use Rattle.std.proofs.lemmas.List.{length-map}
-use Rattle.ak_handler.specs.Handlers.{HandlerData, HandlersData, handler_of, has_token, has_name, token_named, next_in, chain_of, chain_from}
+use Rattle.ak_handler.specs.Handlers.{HandlerData, HandlersData, handler_of, has_token, has_name, place_of, token_named, next_in, chain_of, chain_from}
 use Rattle.ak_handler.specs.Changes.{content_of, is_there}
-use Rattle.ak_handler.proofs.Looking.{find-map}
+use Rattle.ak_handler.proofs.Looking.{find-map, is_some-position}
+use Rattle.ak_handler.proofs.Placed.{none_there}
 use Rattle.ak_property.specs.HandlerRow.{RowData}
 use Rattle.ak_route.specs.Handlers.{no_row, row_seen, handlers_seen, row_of}
 use Rattle.ak_route.specs.Filtering.{target_after}
@@ -78,5 +79,11 @@ module _ {R : Type 0} (f : R → RowData) where
 
   pub target_after-seen : (s : HandlersData R) (name : List ℕ) (target : ℕ) → target_after (handlers_seen f s) (Some name) target ≡ unwrap_or (token_named s.list name) target
   target_after-seen s name target = ap (λ o. unwrap_or o target) (token_named-seen s.list name)
+
+  -- ---- where there is no such handler, no filters run
+  pub no_filters : (s : HandlersData R) (token : ℕ) → place_of s.list token ≡ None → (row_of (handlers_seen f s) token).filters ≡ []
+  no_filters s token nowhere =
+      let none = none_there (handler_of s.list token) (sym (ap is_some nowhere) ∙ is_some-position (has_token token) s.list) in
+      ap (λ row. row.filters) (row-missing s token (ap (option_map (λ h. h.content)) none))
 
 pub ruleset handlers_as_seen = (content_of-seen, token_named-seen, next_in-seen, is_there-seen, length-seen, chain_from-seen)

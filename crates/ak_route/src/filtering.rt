@@ -36,12 +36,16 @@ pub(crate) fn settle<R: HandlerRow + Drop>(
         ≡ passing_after (settle (handlers_seen R.told set.now) (origin_of origin) common.now (passing_of passing)) }
 {
     let mut passing = run_list(set, origin, common.as_slice(), passing)?;
-    let mut asked = [0; HANDLER_LIMIT];
-    for count in 0..set.len() as usize {
-        if asked[..count].contains(&passing.target) {
+    // Those whose filters ran, by their places in the set.
+    let mut asked = [false; HANDLER_LIMIT];
+    for _ in 0..set.len() {
+        let Some(place) = set.index_of(passing.target) else {
+            return Some(passing);
+        };
+        if asked[place as usize] {
             return Some(passing);
         }
-        asked[count] = passing.target;
+        asked[place as usize] = true;
         passing = run_own(set, origin, passing)?;
     }
     Some(passing)

@@ -124,7 +124,7 @@ module _ {O L : Type 0} where
     pub is : part.thread ≡ thread
     pub made_so : made_by by thread part.front ≡ made
 
-  -- a seat by itself, whose thread has made just these lines
+  -- a seat of that lock and thread, without a turn, whose thread has made just these lines
   pub record HasMade (by : L → ℕ) (lock : LockId) (thread : ℕ) (made : List L) (seat : SeatData O L) : Type 0 where
     pub of : seat.lock ≡ lock
     pub idle : seat.turn ≡ false

@@ -39,6 +39,7 @@ impl<'a, B: Book> Turn<'a, B> {
 
     /// Gives the book back, with a new entry or as it was, and passes the turn on. The seat has then seen the
     /// whole list. Takes no memory.
+    #[inline(always)]
     pub fn finish(self, seat: &mut Seat<B>)
         requires of { seat.old.lock ≡ self.lock }
         requires turn { seat.old.turn ≡ true }
@@ -57,7 +58,7 @@ impl<'a, B: Book> Turn<'a, B> {
         note_entry(common, &mut seat.place, &kept, is_longer);
         seat.seen = count;
         let served = pass_on(common, &mut seat.place, &kept);
-        wake(common, &lock.watchers, served, is_longer);
+        wake(common, &lock.watchers, &lock.sleepers, served, is_longer);
     }
 
     /// Gives the book out, and never passes the turn on. Takes no memory.

@@ -1,44 +1,136 @@
 //! How a thread waits. No clause depends on it, and nobody burns a processor.
+ghost use Rattle.std.specs.Prelude.{◌<◌};
 ghost use Rattle.ak_turn.specs.Steps.{IsWide};
 
 use crate::book::Book;
 use crate::plays::Common;
 use crate::steps::{COUNT, SERVING, TICKET};
+use std::hint::spin_loop;
 use std::sync::Wait;
 use std::sync::atomic::AtomicU64;
 use std::sync::atomic::Ordering::SeqCst;
 use std::thread::yield_now;
 
-/// How often a thread tries before it parks.
-const TRIES: u32 = 20;
+/// How often a thread looks again at once.
+const LOOKS: u32 = 20;
+
+/// How often a thread with a ticket then lets others run, before it parks.
+const YIELDS: u32 = 2;
+
+/// How often a thread without a ticket parks, before it draws one all the same.
+const NAPS: u32 = 8;
 
 // The part of a word that a thread can park on.
 fn low(number: u64) -> u32 {
     (number & 0xFFFF_FFFF) as u32
 }
 
+// Whether nobody has a ticket, as far as two looks can tell.
+fn is_free<B: Book>(common: &Common<B>) -> bool
+    requires { IsWide common.now.table_id }
+{
+    common.peek(TICKET) == common.peek(SERVING)
+}
+
+// Looks for a short while whether nobody has a ticket, and answers whether that was seen.
+fn becomes_free<B: Book>(common: &Common<B>) -> bool
+    requires { IsWide common.now.table_id }
+{
+    for _ in 0..LOOKS {
+        if is_free(common) {
+            return true;
+        }
+        spin_loop();
+    }
+    false
+}
+
+// Waits a while, until nobody has a ticket. A thread that a nap has ended says again that threads may sleep, so that
+// its own turn ends the nap of the next one.
+#[cold]
+#[inline(never)]
+fn await_free<B: Book, R: Wait>(rt: &R, common: &Common<B>, sleepers: &AtomicU64)
+    requires { IsWide common.now.table_id }
+{
+    if becomes_free(common) {
+        return;
+    }
+    for _ in 0..NAPS {
+        sleepers.store(1, SeqCst);
+        if is_free(common) {
+            return;
+        }
+        sleepers.park(rt, 1);
+    }
+    sleepers.store(1, SeqCst);
+}
+
+// Waits a while before a ticket is drawn, where others have one. Whoever draws a ticket while others have the turn
+// must run before anybody else can have it, so threads that ask again and again would change places for each turn.
+// Here a thread sleeps instead, and the others go on. After so many naps it draws its ticket all the same, and none
+// that is drawn later comes before it.
+pub(crate) fn rest_before_ticket<B: Book, R: Wait>(rt: &R, common: &Common<B>, sleepers: &AtomicU64)
+    requires { IsWide common.now.table_id }
+{
+    if !is_free(common) {
+        await_free(rt, common, sleepers);
+    }
+}
+
 // Waits for a while, or until another number is served.
+#[cold]
+#[inline(never)]
 pub(crate) fn rest_for_turn<B: Book, R: Wait>(rt: &R, common: &Common<B>, serving: u64, tries: u32)
     requires { IsWide common.now.table_id }
 {
-    if tries < TRIES {
+    if tries < LOOKS {
+        spin_loop();
+    } else if tries < LOOKS + YIELDS {
         yield_now();
     } else {
         common.park(rt, SERVING, low(serving));
     }
 }
 
+// Wakes one of those who sleep without a ticket, if one may.
+#[cold]
+#[inline(never)]
+fn end_nap(sleepers: &AtomicU64) {
+    if sleepers.swap(0, SeqCst) != 0 {
+        sleepers.wake_one();
+    }
+}
+
+// Wakes those who sleep on that word.
+#[cold]
+#[inline(never)]
+fn wake_sleepers<B: Book>(common: &Common<B>, word: usize)
+    requires wide { IsWide common.now.table_id }
+    requires word { word < 3 }
+{
+    common.wake_all(word);
+}
+
 // Wakes those who wait for their turn, once the number was served, and, after a new entry, those who wait for
 // one. Whoever drew a ticket before the turn was passed on is seen in the count of tickets, and whoever draws
-// one later finds the next number. Nobody is woken where nobody waits.
-pub(crate) fn wake<B: Book>(common: &Common<B>, watchers: &AtomicU64, served: u64, is_longer: bool)
+// one later finds the next number; where nobody has one, one of those who sleep without a ticket is woken.
+// Where nobody has waited, nobody is woken.
+pub(crate) fn wake<B: Book>(
+    common: &Common<B>,
+    watchers: &AtomicU64,
+    sleepers: &AtomicU64,
+    served: u64,
+    is_longer: bool,
+)
     requires { IsWide common.now.table_id }
 {
     if common.peek(TICKET) != served.wrapping_add(1) {
-        common.wake_all(SERVING);
+        wake_sleepers(common, SERVING);
+    } else if sleepers.load(SeqCst) != 0 {
+        end_nap(sleepers);
     }
     if is_longer && watchers.load(SeqCst) != 0 {
-        common.wake_all(COUNT);
+        wake_sleepers(common, COUNT);
     }
 }
 
@@ -62,6 +154,8 @@ pub(crate) fn rest_for_entry<B: Book, R: Wait>(
 }
 
 // Never returns.
+#[cold]
+#[inline(never)]
 pub(crate) fn rest_for_ever<R: Wait>(rt: &R)
     ensures { ⊥ }
 {

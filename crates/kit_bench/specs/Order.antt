@@ -14,6 +14,8 @@ pub record IsShape (s : Shape) : Type 0 where
 abbrev pub IsWork : Work → Type 0
 IsWork (work.Flat sample) = Unit {0}
 IsWork (work.Route shape) = IsShape shape
+IsWork (work.Turns threads) = (1 ≤ threads) × (threads ≤ 8)
+IsWork work.LongTurn = Unit {0}
 
 abbrev pub status_of : BenchFault → ℕ
 status_of fault.Refused = 5

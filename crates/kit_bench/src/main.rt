@@ -3,10 +3,14 @@
 //! was read. `bench/flat` times it. `kit_bench route HANDLERS FILTERS N` makes a looper with so many handlers,
 //! itself counted, and so many filters each, routes a message through all of them N times, and prints
 //! `route HANDLERS FILTERS N delivered D`, where D is how often it came to the looper. `bench/route` times it.
+//! `kit_bench turn THREADS N` starts so many threads, which take N turns each at one lock and make an entry in each,
+//! and prints `turn THREADS N entries E`, where E is how many entries there are at the end; in `kit_bench turn wait N`
+//! one thread has the turn for N milliseconds and makes no entry, while another waits for it. `bench/turn` times both.
 //!
-//! NAME is `ask`, `reply`, `deep` or `raw`, HANDLERS is 1 to 64, FILTERS is 0 to 32, and N is 1 to 10,000,000.
-//! At other words it prints how it is used, and ends with status 1. The status is 4 where the line cannot be
-//! written, 5 where a message or a handler is refused, which happens to none of these, and 6 where memory runs out.
+//! NAME is `ask`, `reply`, `deep` or `raw`, HANDLERS is 1 to 64, FILTERS is 0 to 32, THREADS is 1 to 8, and N is 1
+//! to 10,000,000. At other words it prints how it is used, and ends with status 1. The status is 4 where the line
+//! cannot be written, 5 where a message or a handler is refused, which happens to none of these, and 6 where memory
+//! runs out.
 #![tactic(auto)]
 
 ghost use Rattle.std.specs.Prelude.{◌≡◌, ◌≤◌, IfSome};
@@ -16,6 +20,8 @@ mod fault;
 mod held;
 mod routes;
 mod samples;
+mod tally;
+mod turns;
 
 use ak_filter::FILTER_LIMIT;
 use ak_flatten::{flatten, unflatten};
@@ -28,16 +34,27 @@ use std::alloc::Global;
 use std::env::Env;
 use std::io::ErrorKind;
 use std::process::ExitCode;
+use std::sync::Wait;
+use std::thread::Threads;
+use std::time::Clock;
 use std::{env, io};
+use turns::{count_after_wait, count_turns};
 
 /// The most rounds of one run.
 const ROUND_LIMIT: u32 = 10_000_000;
+
+/// The most threads that take turns.
+const THREAD_LIMIT: u32 = 8;
 
 /// What is done in each round.
 #[derive(Clone, Copy, Debug, PartialEq, Eq)]
 enum Work {
     Flat(Sample),
     Route(Shape),
+    /// Turns of that many threads.
+    Turns(u32),
+    /// A turn of so many milliseconds as there are rounds, for which another thread waits.
+    LongTurn,
 }
 
 /// What the words ask for.
@@ -65,6 +82,15 @@ fn read_shape(handlers: &str, filters: &str) -> Option<Shape>
     Some(Shape { handlers, filters })
 }
 
+fn read_turns(word: &str) -> Option<Work>
+    ensures { IfSome result IsWork }
+{
+    if word == "wait" {
+        return Some(Work::LongTurn);
+    }
+    Some(Work::Turns(read_number(word, 1, THREAD_LIMIT)?))
+}
+
 fn read_work(words: &[String]) -> Option<Work>
     ensures { IfSome result IsWork }
 {
@@ -75,6 +101,7 @@ fn read_work(words: &[String]) -> Option<Work>
         [first, handlers, filters] if first.as_str() == "route" => {
             Some(Work::Route(read_shape(handlers.as_str(), filters.as_str())?))
         }
+        [first, second] if first.as_str() == "turn" => read_turns(second.as_str()),
         _ => None,
     }
 }
@@ -128,7 +155,7 @@ fn checksum(alloc: Global, sample: Sample, rounds: u32) -> Result<u64, BenchFaul
 
 fn print_usage(rt: &impl Print) -> io::Result<()> {
     println!(rt;
-        "usage: kit_bench flat ask|reply|deep|raw N\n       kit_bench route HANDLERS FILTERS N"
+        "usage: kit_bench flat ask|reply|deep|raw N\n       kit_bench route HANDLERS FILTERS N\n       kit_bench turn THREADS|wait N"
     )
 }
 
@@ -170,11 +197,34 @@ fn time_route(rt: &(impl Print + AllocGlobal), shape: Shape, rounds: u32) -> u8 
     }
 }
 
+fn time_turns<R: Print + AllocGlobal + Threads + Wait + Sync>(
+    rt: &R,
+    threads: u32,
+    each: u32,
+) -> u8 {
+    match count_turns(rt, rt.alloc(), threads, each) {
+        Ok(count) => written(println!(rt; "turn {threads} {each} entries {count}"), 0),
+        Err(fault) => faulted(fault),
+    }
+}
+
+fn time_wait<R: Print + AllocGlobal + Threads + Wait + Clock + Sync>(
+    rt: &R,
+    milliseconds: u32,
+) -> u8 {
+    match count_after_wait(rt, rt.alloc(), milliseconds) {
+        Ok(count) => written(println!(rt; "turn wait {milliseconds} entries {count}"), 0),
+        Err(fault) => faulted(fault),
+    }
+}
+
 fn main(rt: HostRuntime) -> ExitCode {
     let status = match given_order(&rt) {
         Ok(Some(order)) => match order.work {
             Work::Flat(sample) => time_flat(&rt, sample, order.rounds),
             Work::Route(shape) => time_route(&rt, shape, order.rounds),
+            Work::Turns(threads) => time_turns(&rt, threads, order.rounds),
+            Work::LongTurn => time_wait(&rt, order.rounds),
         },
         Ok(None) => written(print_usage(&rt), 1),
         Err(_) => 6,

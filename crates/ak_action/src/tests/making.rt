@@ -192,22 +192,26 @@ fn alone(alloc: Global, value: Value) -> Result<Elements, Fail> {
 // Holds `count` with that value, `title` with the words `t`, and `none` of whole numbers without an
 // element; and that one reaction.
 fn holding(alloc: Global, count: Value, actions: ActionList) -> Result<DeskRow, Fail> {
-    let mut row = DeskRow::empty(alloc);
-    row.table.add_row(property(alloc, b"count", count.kind())?)?;
-    row.table.add_row(property(alloc, b"title", Kind::Text)?)?;
-    row.table.add_row(property(alloc, b"none", Kind::Int32)?)?;
+    let mut table = PropertyTable::new(alloc);
+    table.add_row(property(alloc, b"count", count.kind())?)?;
+    table.add_row(property(alloc, b"title", Kind::Text)?)?;
+    table.add_row(property(alloc, b"none", Kind::Int32)?)?;
     let mut elements = Vec::new(alloc);
     elements.push(alone(alloc, count)?)?;
     elements.push(alone(alloc, Value::Text(text(alloc, b"t")?))?)?;
     elements.push(Elements::new(alloc, Kind::Int32, Vec::new(alloc))?)?;
-    row.elements = ElementsList::from_vec(elements);
     let mut reactions = ReactionList::new(alloc);
     reactions.push(Reaction {
         what: Code(7),
         actions,
     })?;
-    row.reactions = reactions;
-    Ok(row)
+    Ok(DeskRow {
+        suites: Items::from_vec(Vec::new(alloc)),
+        table,
+        elements: ElementsList::from_vec(elements),
+        filters: FilterList::new(alloc),
+        reactions,
+    })
 }
 
 // The second looper of an application, with a handler `side` whose token is 1. The looper has the reaction.
@@ -287,8 +291,19 @@ fn answers_send(how: &Sending, a: &Answer) -> bool
     ensures { IsTrue result → AnswersSend how.now a.now }
 {
     match how {
-        Sending::Post { .. } => answers_post(a),
-        Sending::Ask { .. } => answers_ask(a),
+        Sending::Post { .. } => match a {
+            Answer::Written(_)
+            | Answer::Full
+            | Answer::Closed
+            | Answer::Spent
+            | Answer::TooLong
+            | Answer::NoMemory => true,
+            _ => false,
+        },
+        Sending::Ask { .. } => match a {
+            Answer::Closed | Answer::Spent | Answer::TooLong | Answer::NoMemory => true,
+            _ => false,
+        },
     }
 }
 
@@ -296,29 +311,6 @@ fn finds(a: &Answer) -> bool
     ensures { IsTrue result → AnswersFind a.now }
 {
     matches!(a, Answer::Team { .. } | Answer::NoTeam | Answer::NoMemory)
-}
-
-fn answers_post(a: &Answer) -> bool
-    ensures { IsTrue result → (back : Option Address) → AnswersSend (Sending.Post back) a.now }
-{
-    matches!(
-        a,
-        Answer::Written(_)
-            | Answer::Full
-            | Answer::Closed
-            | Answer::Spent
-            | Answer::TooLong
-            | Answer::NoMemory
-    )
-}
-
-fn answers_ask(a: &Answer) -> bool
-    ensures { IsTrue result → (into : Option ℕ) → AnswersSend (Sending.Ask into) a.now }
-{
-    matches!(
-        a,
-        Answer::Closed | Answer::Spent | Answer::TooLong | Answer::NoMemory
-    )
 }
 
 fn hand_reply(

@@ -1,11 +1,8 @@
--- The closure gives a row's token.
-use Rattle.std.proofs.Common.{◌∙◌, rules}
-use Rattle.std.proofs.lemmas.List.Sorted.{answers_always}
-use Rattle.ak_handler.proofs.Halving.{place-halved}
+-- The row at the token's place has that token.
+use Rattle.ak_handler.proofs.Halving.{place_here}
 use Rattle.ak_handler.proofs.rows.place_with.Goals as goal
 
-pub returns : goal.returns
-returns g c =
-    let facts = c.binary_search_by_key.ensures in
-    let by_token = facts.position (λ row. row.token) (answers_always _ _ _ (λ f a r g called. search rules)) in
-    c.ok.ensures.value ∙ place-halved c.args.rows.now c.args.token c.binary_search_by_key.result c.requires facts.bound by_token
+pub returns-then-stands_at : goal.returns-then-stands_at
+returns-then-stands_at g c =
+    let stands = c.stands_at.ensures c.if-stands_at.true in
+    place_here c.args.rows.now c.args.token c.args.token c.requires stands.0 stands.1

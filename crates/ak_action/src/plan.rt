@@ -1,0 +1,192 @@
+ghost use Rattle.std.specs.Prelude.{◌≡◌, Some, Err, IfOk, IfSome, IfNone, IsOk};
+ghost use Rattle.ak_action.specs.Plan.{IsPlan, plan_fault, looper_fault, names_fault};
+
+use crate::action::ReactionList;
+use crate::properties::ElementsList;
+use ak_base::{Items, NoMemory, Text};
+use ak_filter::FilterList;
+use ak_property::PropertyTable;
+use std::alloc::Global;
+use std::marker::Model;
+
+mod actions;
+mod copies;
+mod rows;
+mod whole;
+
+pub(crate) use rows::{next_place, place_named};
+pub use whole::plans_are_whole;
+
+/// The most messages that a port may keep.
+pub const CAPACITY_LIMIT: u32 = 1_000;
+
+/// How many suites of its own a handler may have.
+pub const SUITE_LIMIT: usize = 16;
+
+/// A handler as it is described. `next` is the name of its next handler, in place of the looper.
+#[derive(Drop)]
+pub struct PlanRow {
+    pub name: Text,
+    pub next: Option<Text>,
+    pub suites: Items<Text>,
+    pub table: PropertyTable,
+    pub elements: ElementsList,
+    pub filters: FilterList,
+    pub reactions: ReactionList,
+}
+
+/// A looper as it is described: its name, the capacity of its port, whether it refuses to quit, the name of
+/// the preferred handler, the filters of all its handlers, and its handlers, the looper itself first.
+#[derive(Drop)]
+pub struct PlanParts {
+    pub name: Text,
+    pub capacity: u32,
+    pub quit_refused: bool,
+    pub preferred: Option<Text>,
+    pub common: FilterList,
+    pub rows: Items<PlanRow>,
+}
+
+/// Why a description is no plan. They are tested in this order.
+#[derive(Clone, Copy, Debug, PartialEq, Eq)]
+pub enum PlanFault {
+    /// There is no handler, the first one has another name than the looper, or it has a next handler.
+    BadLooper,
+    /// The capacity is not from 1 to 1,000.
+    BadCapacity,
+    /// There are over 64 handlers.
+    HandlerLimit,
+    /// A handler's name is no word.
+    BadName,
+    /// Two handlers have one name.
+    NameInUse,
+    /// A next handler, or the preferred one, is none of the handlers.
+    UnknownName,
+    /// The next handlers lead back to a handler.
+    ChainLoop,
+    /// A handler has over 16 suites.
+    SuiteLimit,
+    /// Two properties of a handler have one name, or the elements are not those of the properties, one for
+    /// each and of its kind, or a property is of messages.
+    BadTable,
+    /// An action names a property that its handler does not have, asks a handler, or its own looper without
+    /// naming it, sets several values, or adds a number of another kind than the property's.
+    BadAction,
+}
+
+/// The plan of a looper: a description in which everything that is named is there. Contracts see its
+/// parts.
+#[derive(Drop)]
+pub struct LooperPlan {
+    alloc: Global,
+    parts: PlanParts,
+}
+
+impl Model for LooperPlan {
+    ghost use Rattle.ak_action.specs.contracts.plan.PlanParts as contracts;
+    ghost use Rattle.ak_action.specs.declared.plan.PlanParts.{PlanParts};
+    ghost use Rattle.ak_action.specs.Plan.{IsPlan};
+
+    ghost Value = { PlanParts };
+
+    ghost coded = { contracts.the_row.coded };
+
+    ghost view = { λ p. p.parts };
+
+    ghost invariant = { λ p. IsPlan p.parts };
+}
+
+impl LooperPlan {
+    /// The plan of these parts. The faults are tested in the order of `PlanFault`; no other one comes. After
+    /// an `Err` the parts are dropped. Takes no memory.
+    pub fn new(alloc: Global, parts: PlanParts) -> Result<LooperPlan, PlanFault>
+        ensures refused { IfSome (plan_fault parts) (λ f. result ≡ Err f) }
+        ensures only { IfNone (plan_fault parts) (IsOk result) }
+        ensures ok { IfOk result (λ p. p ≡ parts) }
+    {
+        match parts.fault() {
+            Some(fault) => Err(fault),
+            None => Ok(LooperPlan { alloc, parts }),
+        }
+    }
+
+    /// Its parts.
+    pub fn parts(&self) -> &PlanParts
+        ensures value { result.now ≡ self.now }
+        ensures is_plan { IsPlan self.now }
+    {
+        &self.parts
+    }
+
+    /// Its parts, given back. Takes no memory.
+    pub fn into_parts(self) -> PlanParts
+        ensures value { result ≡ self }
+        ensures is_plan { IsPlan self }
+    {
+        self.parts
+    }
+
+    /// An equal plan.
+    pub fn try_clone(&self) -> Result<LooperPlan, NoMemory>
+        ensures { IfOk result (λ p. p ≡ self.now) }
+    {
+        Ok(LooperPlan {
+            alloc: self.alloc,
+            parts: self.parts.try_clone(self.alloc)?,
+        })
+    }
+}
+
+impl PlanParts {
+    // Why they are no plan.
+    fn fault(&self) -> Option<PlanFault>
+        ensures { result ≡ plan_fault self.now }
+    {
+        let rows = self.rows.as_slice();
+        if let Some(fault) = self.looper_fault(rows) {
+            return Some(fault);
+        }
+        if let Some(fault) = self.names_fault(rows) {
+            return Some(fault);
+        }
+        rows::rows_fault(rows)
+    }
+
+    // Of the looper itself, and of how many handlers there are.
+    fn looper_fault(&self, rows: &[PlanRow]) -> Option<PlanFault>
+        ensures { result ≡ looper_fault self.now rows.now }
+    {
+        if !rows::begin_with_looper(rows, &self.name) {
+            return Some(PlanFault::BadLooper);
+        }
+        if self.capacity < 1 || self.capacity > CAPACITY_LIMIT {
+            return Some(PlanFault::BadCapacity);
+        }
+        if rows.len() > 64 {
+            return Some(PlanFault::HandlerLimit);
+        }
+        None
+    }
+
+    // Of the names, and the chains that they lead to.
+    fn names_fault(&self, rows: &[PlanRow]) -> Option<PlanFault>
+        ensures { result ≡ names_fault self.now rows.now }
+    {
+        if !rows::names_are_words(rows) {
+            return Some(PlanFault::BadName);
+        }
+        if !rows::names_differ(rows) {
+            return Some(PlanFault::NameInUse);
+        }
+        if !rows::names_are_there(rows) || !rows::may_be(rows, &self.preferred) {
+            return Some(PlanFault::UnknownName);
+        }
+        if !rows::chains_end(rows) {
+            return Some(PlanFault::ChainLoop);
+        }
+        None
+    }
+}
+
+#[cfg(test)]
+pub(crate) mod tests;

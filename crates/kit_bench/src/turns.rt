@@ -1,0 +1,186 @@
+//! Threads that take turns at one lock, so that a turn and a wait can be timed.
+ghost use Rattle.std.specs.Prelude.{◌≡◌, ◌≤◌, ◌∷◌, [], length, false, All, Some, IfOk, OnOk, OnErr, vec_len};
+ghost use Rattle.ak_turn.specs.Seats.{HasCalled, HasSeen};
+ghost use Rattle.kit_bench.specs.Turns.{IsIdleAt, IsReady};
+
+use crate::fault::BenchFault;
+use crate::tally::{Count, Tally};
+use ak_base::{NoMemory, ThreadId};
+use ak_turn::{Book, Clock, Seat, TurnLock};
+use std::alloc::Global;
+use std::sync::Wait;
+use std::thread::{Threads, join, map_vec, sleep};
+use std::time;
+use std::time::Duration;
+
+/// How many milliseconds after the other thread a thread asks for the turn that it waits for.
+const LATER: u64 = 10;
+
+/// A thread, and its seat.
+#[derive(Drop)]
+pub struct Worker {
+    seat: Seat<Tally>,
+    thread: ThreadId,
+}
+
+/// That many threads enter so many numbers each, a turn for each number. Answers how many entries there are.
+pub fn count_turns<R: Threads + Wait + Sync>(
+    rt: &R,
+    alloc: Global,
+    threads: u32,
+    each: u32,
+) -> Result<u64, BenchFault> {
+    let (shared, mut seat) = TurnLock::new(alloc, Tally::new(alloc), ThreadId(0))?;
+    let lock: &TurnLock<Tally> = &shared;
+    let jobs = workers(alloc, lock, &mut seat, threads)?;
+    let done = map_vec(
+        rt,
+        jobs,
+        &|worker: Worker| -> Result<Seat<Tally>, NoMemory>
+            requires { IsReady lock.now worker.thread.0 worker.seat }
+        { work(rt, lock, worker, each) },
+    )?;
+    for seat in done {
+        seat?;
+    }
+    Ok(count_entries(rt, lock, seat))
+}
+
+/// One thread has the turn for so many milliseconds, and another one waits for it and makes an entry. Answers
+/// how many entries there are.
+pub fn count_after_wait<R: Threads + Wait + time::Clock + Sync>(
+    rt: &R,
+    alloc: Global,
+    milliseconds: u32,
+) -> Result<u64, BenchFault> {
+    let (shared, mut seat) = TurnLock::new(alloc, Tally::new(alloc), ThreadId(0))?;
+    let lock: &TurnLock<Tally> = &shared;
+    let thread = ThreadId(1);
+    let other = Worker {
+        seat: lock.split(&mut seat, thread),
+        thread,
+    };
+    let (waited, held) = join(
+        rt,
+        || -> Result<Seat<Tally>, NoMemory>
+            requires { IsReady lock.now other.thread.0 other.seat }
+        { work_later(rt, lock, other) },
+        || -> Seat<Tally>
+            requires { IsIdleAt lock.now seat }
+            ensures { IsIdleAt lock.entry.now result }
+        { hold(rt, lock, seat, milliseconds) },
+    );
+    waited?;
+    Ok(count_entries(rt, lock, held))
+}
+
+/// Seats for that many new threads, with the numbers from 1 on.
+#[tactic(auto, using(crate::proofs::Naming::naming))]
+fn workers(
+    alloc: Global,
+    lock: &TurnLock<Tally>,
+    seat: &mut Seat<Tally>,
+    count: u32,
+) -> Result<Vec<Worker>, NoMemory>
+    requires at { IsIdleAt lock.now seat.old }
+    requires head { seat.old.names ≡ Some (0 ∷ []) }
+    ensures at { IsIdleAt lock.now seat.new }
+    ensures ready { IfOk result (λ workers. All (λ worker. IsReady lock.now worker.thread.0 worker.seat) workers.items) }
+    ensures count { IfOk result (λ workers. vec_len workers ≡ count) }
+{
+    let mut workers = Vec::new(alloc);
+    for place in 0..count {
+        let thread = ThreadId(place + 1);
+        workers.push(Worker {
+            seat: lock.split(seat, thread),
+            thread,
+        })?;
+    }
+    Ok(workers)
+}
+
+/// Enters the numbers from 0 on, so many.
+fn work<R: Wait>(
+    rt: &R,
+    lock: &TurnLock<Tally>,
+    worker: Worker,
+    each: u32,
+) -> Result<Seat<Tally>, NoMemory>
+    requires { IsReady lock.now worker.thread.0 worker.seat }
+    ensures at { IfOk result (IsIdleAt lock.now) }
+    ensures each { IfOk result (λ seat. length seat.own ≡ each) }
+{
+    let Worker { mut seat, thread } = worker;
+    let mut clock = Clock { thread, time: 0 };
+    for number in 0..each {
+        enter(rt, lock, &mut seat, &mut clock, number)?;
+    }
+    Ok(seat)
+}
+
+/// Enters one number, a moment later.
+fn work_later<R: Wait + time::Clock>(
+    rt: &R,
+    lock: &TurnLock<Tally>,
+    worker: Worker,
+) -> Result<Seat<Tally>, NoMemory>
+    requires { IsReady lock.now worker.thread.0 worker.seat }
+    ensures at { IfOk result (IsIdleAt lock.now) }
+    ensures each { IfOk result (λ seat. length seat.own ≡ 1) }
+{
+    sleep(rt, Duration::from_millis(LATER));
+    work(rt, lock, worker, 1)
+}
+
+/// A turn in which that number is entered, by the seat's thread.
+fn enter(
+    rt: &impl Wait,
+    lock: &TurnLock<Tally>,
+    seat: &mut Seat<Tally>,
+    clock: &mut Clock,
+    number: u32,
+) -> Result<Count, NoMemory>
+    requires of { seat.old.lock ≡ lock.now }
+    requires idle { seat.old.turn ≡ false }
+    requires thread { seat.old.thread ≡ clock.old.thread.0 }
+    ensures clock { clock.new.thread ≡ clock.old.thread }
+    ensures called { IfOk result (λ count. HasCalled (λ c. c.by.0) count seat.old seat.new) }
+    ensures number { IfOk result (λ count. count.number ≡ number) }
+    ensures err { OnErr result (HasSeen (λ c. c.by.0) seat.old seat.new) }
+{
+    let mut turn = lock.lock(rt, seat);
+    clock.ready(rt);
+    let count = Count {
+        stamp: clock.stamp(turn.book().last_stamp()),
+        by: clock.thread,
+        number,
+    };
+    let result = turn.book().add(count);
+    turn.finish(seat);
+    result?;
+    Ok(count)
+}
+
+/// A turn that takes so many milliseconds, and leaves the list as it is.
+fn hold<R: Wait + time::Clock>(
+    rt: &R,
+    lock: &TurnLock<Tally>,
+    mut seat: Seat<Tally>,
+    milliseconds: u32,
+) -> Seat<Tally>
+    requires { IsIdleAt lock.now seat }
+    ensures { HasSeen (λ c. c.by.0) seat result }
+{
+    let turn = lock.lock(rt, &mut seat);
+    sleep(rt, Duration::from_millis(u64::from(milliseconds)));
+    turn.finish(&mut seat);
+    seat
+}
+
+/// How many entries there are. No turn comes after it.
+fn count_entries<R: Wait>(rt: &R, lock: &TurnLock<Tally>, mut seat: Seat<Tally>) -> u64
+    requires { IsIdleAt lock.now seat }
+    ensures { length seat.front ≤ result }
+{
+    lock.lock(rt, &mut seat).keep().len()
+}
