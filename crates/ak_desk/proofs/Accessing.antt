@@ -34,6 +34,10 @@ module _ (h : HandlersData DeskRow) (token : ℕ) where
       ap (λ (l : List ElementsData). record { handlers = with_content h token (record (row_in h token) { elements = l }); reply = values_reply a.values }) same
       ∙ ap (λ (m : MessageData). record { handlers = with_content h token (record (row_in h token) { elements = list }); reply = m }) (ap (λ p. p.0) e)
 
+  pub accessed_so : (r : Result AccessedAt ElementFault) (reply : MessageData) (list : List ElementsData) (new : HandlersData DeskRow) → access_told r ≡ (reply, Some list) → new ≡ with_content h token (record (row_in h token) { elements = list }) → accessed h token r ≡ record { handlers = new; reply = reply }
+  accessed_so r reply list new told is =
+      accessed_put r reply list told ∙ ap (λ (k : HandlersData DeskRow). record { handlers = k; reply = reply }) (sym is)
+
   pub accessed_none : (r : Result AccessedAt ElementFault) (reply : MessageData) → access_told r ≡ (reply, None) → accessed h token r ≡ record { handlers = h; reply = reply }
   accessed_none (Ok a) reply e =
       let lists : Some a.list ≡ None = ap (λ p. p.1) e in

@@ -1,7 +1,8 @@
 -- However the calls for one message go, they come to its dispatch with all answers at once.
-use Rattle.std.proofs.Common.{◌≡◌, ℕ, ◌+◌, Bool, true, false, List, [], ◌∷◌, ◌++◌, drop, Option, None, Some, is_some, unwrap_or, cond, refl, sym, ap, subst, ◌∙◌, append_assoc}
+use Rattle.std.proofs.Common.{◌≡◌, ℕ, ◌+◌, Bool, true, false, List, [], ◌∷◌, ◌++◌, drop, Option, None, Some, Result, Ok, Err, IfOk, OnErr, is_some, unwrap_or, cond, refl, sym, ap, subst, ◌∙◌, append_assoc}
 use Rattle.std.proofs.lemmas.List.{append-nil}
 use Rattle.ak_base.specs.declared.error.KitError.TheVariants as error
+use Rattle.ak_base.specs.declared.no_memory.NoMemory.{NoMemory}
 use Rattle.ak_message.specs.Message.{MessageData}
 use Rattle.ak_action.specs.declared.action.Action.{Action}
 use Rattle.ak_action.specs.declared.answer.Answer.{Answer}
@@ -15,8 +16,9 @@ use Rattle.ak_action.specs.declared.interp.Stage.TheVariants as stage
 use Rattle.ak_action.specs.declared.state.DeskState.{DeskState}
 use Rattle.ak_action.specs.Acts.{Acts, acts, is_at, put, want_of}
 use Rattle.ak_action.specs.Doing.{Doing, says, replies, puts, sends, finds, stops, quits, doing_of, preferred_of}
-use Rattle.ak_action.specs.Interp.{InterpData, Nexted, nexted, failed, Given, Answers, AnswersSend, AnswersStage, MayGoOn, MayGoOnFrom, actions_of, carried, give_at, give_of, go_on, hear_of_send, hear_of_team, next_at, next_of, out_of_memory, past, started, then_go_on, with_stage}
-use Rattle.ak_action.specs.Laws.{Calls, CallsAct, IsAsking, Ran, finished, found_none, got_one, is_done, ran_of, wanting}
+use Rattle.ak_action.specs.Interp.{InterpData, Nexted, nexted, failed, Given, Answers, AnswersFind, AnswersSend, AnswersStage, MayGoOn, MayGoOnFrom, actions_of, carried, give_at, give_of, go_on, hear_of_send, hear_of_team, next_at, next_of, out_of_memory, past, started, then_go_on, with_stage}
+use Rattle.ak_action.specs.Laws.{Calls, CallsAct, Ran, finished, found_none, got_one, is_done, ran_of, wanting}
+use Rattle.ak_action.specs.Laws as law
 use Rattle.ak_desk.specs.declared.task.Task.{Task}
 use Rattle.ak_desk.specs.declared.task.Task.TheVariants as task
 use Rattle.ak_route.specs.declared.outcome.Route.{Route}
@@ -27,19 +29,42 @@ use Rattle.ak_desk.specs.Dispatch.{Dispatch, by_reaction, by_route, ran_out, tak
 use Rattle.ak_desk.specs.Laws.{ComesToDispatch}
 use Rattle.ak_desk.specs.Place.{routed_of}
 use Rattle.ak_desk.specs.Replies.{none_reply, not_understood}
-use Rattle.ak_desk.specs.Task.{Comes, Wanted, wants, wants_none, IsDone, MayWant, TakesAnswer, came_to, heard_of, next_wanted, place_in, taken_as, task_by}
+use Rattle.ak_desk.specs.Task.{AnswersAsk, AnswersPost, Awaits, Comes, Wanted, wants, wants_none, IsDone, MayWant, TakesAnswer, came_to, heard_of, next_wanted, place_in, taken_as, task_by}
 use Rattle.ak_desk.specs.Task as the
 use Rattle.ak_desk.proofs.AtOnce.{ComesTo, built_in_comes, forward_comes, property_comes, ready_comes}
 
 -- ---- where a reaction stands behind a want
-abbrev Awaits : Stage → Type 0
-Awaits (stage.Finding _ _) = Unit {0}
-Awaits (stage.Sent _) = Unit {0}
-Awaits _ = ⊥
+abbrev IsWaiting : Stage → Type 0
+IsWaiting (stage.Finding _ _) = Unit {0}
+IsWaiting (stage.Sent _) = Unit {0}
+IsWaiting _ = ⊥
+
+abbrev IsFinding : Stage → Type 0
+IsFinding (stage.Finding _ _) = Unit {0}
+IsFinding _ = ⊥
+
+abbrev IsPosting : Sending → Type 0
+IsPosting (sending.Post _) = Unit {0}
+IsPosting (sending.Ask _) = ⊥
+
+abbrev IsPosted : Stage → Type 0
+IsPosted (stage.Sent how) = IsPosting how
+IsPosted _ = ⊥
+
+abbrev IsAsking : Sending → Type 0
+IsAsking (sending.Post _) = ⊥
+IsAsking (sending.Ask _) = Unit {0}
+
+abbrev IsAsked : Stage → Type 0
+IsAsked (stage.Sent how) = IsAsking how
+IsAsked _ = ⊥
 
 abbrev StandsBehind : Want → Stage → Type 0
 StandsBehind want.Done at = at ≡ stage.Ended
-StandsBehind _ at = Awaits at
+StandsBehind (want.Find _) at = IsFinding at
+StandsBehind (want.Post _ _ _) at = IsPosted at
+StandsBehind (want.Ask _ _) at = IsAsked at
+StandsBehind (want.Forward _ _) at = ⊥
 
 abbrev NextStands : Nexted → Type 0
 NextStands (nexted w i s) = StandsBehind w i.stage
@@ -80,22 +105,43 @@ module _ (memory : Option ℕ) where
   next_stands : (i : InterpData) (s : DeskState) → NextStands (next_of memory i s)
   next_stands i s = at_stands i.stage i s
 
-asking_awaits : (w : Want) (at : Stage) → IsAsking w → StandsBehind w at → Awaits at
-asking_awaits want.Done at asking h = absurd asking
-asking_awaits (want.Find word) at asking h = h
-asking_awaits (want.Post to m back) at asking h = h
-asking_awaits (want.Ask to m) at asking h = h
-asking_awaits (want.Forward looper popped) at asking h = h
+finding_waits : (at : Stage) → IsFinding at → IsWaiting at
+finding_waits stage.Ready h = absurd h
+finding_waits (stage.Finding how m) h = tt
+finding_waits (stage.Found looper how m) h = absurd h
+finding_waits (stage.Sent how) h = absurd h
+finding_waits stage.Ended h = absurd h
 
-may_not : {X : Type 0} (at : Stage) → Awaits at → MayGoOnFrom at → X
+posted_waits : (at : Stage) → IsPosted at → IsWaiting at
+posted_waits stage.Ready h = absurd h
+posted_waits (stage.Finding how m) h = absurd h
+posted_waits (stage.Found looper how m) h = absurd h
+posted_waits (stage.Sent how) h = tt
+posted_waits stage.Ended h = absurd h
+
+asked_waits : (at : Stage) → IsAsked at → IsWaiting at
+asked_waits stage.Ready h = absurd h
+asked_waits (stage.Finding how m) h = absurd h
+asked_waits (stage.Found looper how m) h = absurd h
+asked_waits (stage.Sent how) h = tt
+asked_waits stage.Ended h = absurd h
+
+asking_awaits : (w : Want) (at : Stage) → law.IsAsking w → StandsBehind w at → IsWaiting at
+asking_awaits want.Done at asking h = absurd asking
+asking_awaits (want.Find word) at asking h = finding_waits at h
+asking_awaits (want.Post to m back) at asking h = posted_waits at h
+asking_awaits (want.Ask to m) at asking h = asked_waits at h
+asking_awaits (want.Forward looper popped) at asking h = absurd h
+
+may_not : {X : Type 0} (at : Stage) → IsWaiting at → MayGoOnFrom at → X
 may_not stage.Ready h may = absurd h
 may_not (stage.Finding how m) h may = absurd may
 may_not (stage.Found looper how m) h may = absurd h
 may_not (stage.Sent how) h may = absurd may
 may_not stage.Ended h may = absurd h
 
-ended_awaits_none : {X : Type 0} (at : Stage) → Awaits at → at ≡ stage.Ended → X
-ended_awaits_none at h e = absurd (subst Awaits e h)
+ended_awaits_none : {X : Type 0} (at : Stage) → IsWaiting at → at ≡ stage.Ended → X
+ended_awaits_none at h e = absurd (subst IsWaiting e h)
 
 -- ---- behind an answer
 team_may : (how : Sending) (m : MessageData) (i : InterpData) (a : Answer) → MayGoOn (hear_of_team how m i a)
@@ -181,7 +227,7 @@ module _ (i0 : InterpData) (s0 : DeskState) where
 
   -- so does an answer, and what comes behind it
   record Waits (asked : List Want) (heard : List Answer) (i : InterpData) (s : DeskState) : Type 0 where
-    awaits : Awaits i.stage
+    awaits : IsWaiting i.stage
     calls : (a : Answer) (rest : List Answer) (r : Ran) → Calls rest (give_of i s a).interp (give_of i s a).state r → Calls (heard ++ a ∷ rest) i0 s0 (adding asked r)
 
   record Over (asked : List Want) (heard : List Answer) (i : InterpData) (s : DeskState) : Type 0 where
@@ -201,7 +247,7 @@ module _ (i0 : InterpData) (s0 : DeskState) where
   begins may = goes (record { may = may; calls = λ rest r c. c })
 
   -- ---- a want
-  asks_on : (asked : List Want) (heard : List Answer) (i : InterpData) (s : DeskState) (w : Want) (j : InterpData) (v : DeskState) → Goes asked heard i s → IsAsking w → next_of None i s ≡ nexted w j v → Waits (asked ++ w ∷ []) heard j v
+  asks_on : (asked : List Want) (heard : List Answer) (i : InterpData) (s : DeskState) (w : Want) (j : InterpData) (v : DeskState) → Goes asked heard i s → law.IsAsking w → next_of None i s ≡ nexted w j v → Waits (asked ++ w ∷ []) heard j v
   asks_on asked heard i s w j v g asking e =
       record {
         awaits = asking_awaits w j.stage asking (subst NextStands e (next_stands None i s));
@@ -211,13 +257,13 @@ module _ (i0 : InterpData) (s0 : DeskState) where
             (g.calls (a ∷ rest) (wanting w r) (got_one a rest i s w j v r asking e c));
       }
 
-  wants_on : (asked : List Want) (heard : List Answer) (i : InterpData) (s : DeskState) (w : Want) (j : InterpData) (v : DeskState) → Reacts asked heard i s → MayGoOn i → IsAsking w → next_of None i s ≡ nexted w j v → Reacts (asked ++ w ∷ []) heard j v
+  wants_on : (asked : List Want) (heard : List Answer) (i : InterpData) (s : DeskState) (w : Want) (j : InterpData) (v : DeskState) → Reacts asked heard i s → MayGoOn i → law.IsAsking w → next_of None i s ≡ nexted w j v → Reacts (asked ++ w ∷ []) heard j v
   wants_on asked heard i s w j v (goes g) may asking e = waits (asks_on asked heard i s w j v g asking e)
   wants_on asked heard i s w j v (waits h) may asking e = may_not i.stage h.awaits may
   wants_on asked heard i s w j v (over h) may asking e =
       let is : nexted want.Done (with_stage stage.Ended i) s ≡ nexted w j v = sym (ap (λ (at : Stage). next_at at None i s) h.ended) ∙ e in
       let same : want.Done ≡ w = cc in
-      absurd (subst IsAsking (sym same) asking)
+      absurd (subst law.IsAsking (sym same) asking)
 
   -- ---- the end
   last : (asked : List Want) (heard : List Answer) (i : InterpData) (s : DeskState) (j : InterpData) (v : DeskState) → Goes asked heard i s → j.stage ≡ stage.Ended → Calls [] i s (finished j v []) → Over asked heard j v
@@ -364,3 +410,56 @@ pub comes_to_dispatch : CallsAct → ComesToDispatch
 comes_to_dispatch act s item asked heard t v c end =
     let r = routed_comes act s (routed_of s item).message (routed_of s item).route asked heard t v c end in
     (r.memory, r.is)
+
+-- ---- what may come behind a want
+taken_by_stage : (w : Want) (i : InterpData) → StandsBehind w i.stage → Awaits w (task.Reaction i)
+taken_by_stage want.Done i h = h
+taken_by_stage (want.Find word) i h = λ a g. found_by i.stage a h g
+  where
+    found_by : (at : Stage) (a : Answer) → IsFinding at → AnswersFind a → AnswersStage at a
+    found_by stage.Ready a h g = absurd h
+    found_by (stage.Finding how m) a h g = g
+    found_by (stage.Found looper how m) a h g = absurd h
+    found_by (stage.Sent how) a h g = absurd h
+    found_by stage.Ended a h g = absurd h
+taken_by_stage (want.Post to m back) i h = λ a g. posted_by i.stage a h g
+  where
+    by_way : (how : Sending) (a : Answer) → IsPosting how → AnswersPost a → AnswersSend how a
+    by_way (sending.Post back) a h g = g back
+    by_way (sending.Ask into) a h g = absurd h
+    posted_by : (at : Stage) (a : Answer) → IsPosted at → AnswersPost a → AnswersStage at a
+    posted_by stage.Ready a h g = absurd h
+    posted_by (stage.Finding how m) a h g = absurd h
+    posted_by (stage.Found looper how m) a h g = absurd h
+    posted_by (stage.Sent how) a h g = by_way how a h g
+    posted_by stage.Ended a h g = absurd h
+taken_by_stage (want.Ask to m) i h = λ a g. asked_by i.stage a h g
+  where
+    by_way : (how : Sending) (a : Answer) → IsAsking how → AnswersAsk a → AnswersSend how a
+    by_way (sending.Post back) a h g = absurd h
+    by_way (sending.Ask into) a h g = g into
+    asked_by : (at : Stage) (a : Answer) → IsAsked at → AnswersAsk a → AnswersStage at a
+    asked_by stage.Ready a h g = absurd h
+    asked_by (stage.Finding how m) a h g = absurd h
+    asked_by (stage.Found looper how m) a h g = absurd h
+    asked_by (stage.Sent how) a h g = by_way how a h g
+    asked_by stage.Ended a h g = absurd h
+taken_by_stage (want.Forward looper popped) i h = absurd h
+
+pub reaction_awaits : (w : Want) (i j : InterpData) (s t : DeskState) → next_of None i s ≡ nexted w j t → Awaits w (task.Reaction j)
+reaction_awaits w i j s t e = taken_by_stage w j (subst NextStands e (next_stands None i s))
+
+pub reaction_ends : (place : ℕ) (i j : InterpData) (s t : DeskState) → next_of (Some place) i s ≡ failed j t → IsDone (task.Reaction j)
+reaction_ends place i j s t e = subst NextStands e (next_stands (Some place) i s)
+
+pub reaction_goes_on : (i j : InterpData) (s t : DeskState) (a : Answer) → Answers i a → give_of i s a ≡ record { interp = j; state = t } → MayWant (task.Reaction j)
+reaction_goes_on i j s t a h e = subst (λ (g : Given). MayGoOn g.interp) e (give_may i.stage i s a h)
+
+-- as the calls tell it
+pub reactions_await : (i : InterpData) (s : DeskState) (j : InterpData) (t : DeskState) (r : Result Want NoMemory) → IfOk r (λ w. next_of None i s ≡ nexted w j t) → IfOk r (λ w. Awaits w (task.Reaction j))
+reactions_await i s j t (Ok w) e = reaction_awaits w i j s t e
+reactions_await i s j t (Err n) e = tt
+
+pub reactions_end : (i : InterpData) (s : DeskState) (j : InterpData) (t : DeskState) (r : Result Want NoMemory) → OnErr r (next_of (Some j.place) i s ≡ failed j t) → OnErr r (j.stage ≡ stage.Ended)
+reactions_end i s j t (Ok w) e = tt
+reactions_end i s j t (Err n) e = reaction_ends j.place i j s t e

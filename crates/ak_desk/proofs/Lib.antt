@@ -5,3 +5,4 @@ pub mod Editing
 pub mod History
 pub mod Placing
 pub mod Standing
+pub mod Suites

@@ -1,5 +1,5 @@
 -- How a desk stands as its messages are begun, go on and end.
-use Rattle.std.proofs.Common.{◌≡◌, ℕ, ◌+◌, ◌<◌, ◌≤◌, max, Bool, true, false, List, [], ◌∷◌, ◌++◌, Option, None, Some, option_map, Result, Ok, Err, IfOk, OnErr, vec_len, vec_capacity, refl, ap, subst, sym, ◌∙◌, arith}
+use Rattle.std.proofs.Common.{◌≡◌, ℕ, ◌+◌, ◌<◌, ◌≤◌, max, Bool, true, false, List, [], ◌∷◌, ◌++◌, Option, None, Some, option_map, Result, Ok, Err, IfOk, OnErr, length, refl, ap, subst, sym, ◌∙◌, arith}
 use Rattle.ak_flatten.specs.declared.item.Taken.{Taken}
 use Rattle.ak_action.specs.declared.state.DeskState.{DeskState}
 use Rattle.ak_desk.specs.Desk.{BegunData, DeskData, Edits, begun_at, clock_after, ended_event, line_after, stamp_in, with_line, with_task}
@@ -22,6 +22,7 @@ use Rattle.ak_desk.specs.declared.entry.EntryRoute.TheVariants as entry
 use Rattle.ak_desk.specs.declared.task.Task.{Task}
 use Rattle.ak_desk.specs.Task.{Heard, IsDone, MayWant, TakesAnswer, heard_of, place_in, wants, wants_none, want_of}
 use Rattle.ak_desk.specs.Task as the
+use Rattle.ak_desk.proofs.Accessing.{facts_same}
 use Rattle.ak_desk.proofs.History.{ends_on, fails_on, gave_up_then, hears_on, history_push, wants_on}
 
 fresh : (opening : DeskState) (lines : List LineData) (s : DeskState) (taken : Taken) → IsHistory opening lines s → taken.position ≡ dispatches lines → IsBegun opening lines (begun_at s taken) s
@@ -95,3 +96,51 @@ edits_told d clock e answer h d' clock' edits other is c =
     let so = edits_so d.state.handlers e answer h edits other in
     told_as d clock e answer d' clock' other (ap (λ (x : Edited). x.answer) (sym so))
     (is ∙ ap (λ (x : Edited). with_line (record d { state = record d.state { handlers = x.handlers } }) clock (event.Edited e x.answer) None) (sym so)) c
+
+-- ---- an edit, with the facts of the state shown anew
+module _ (opening : DeskState) (lines new : List LineData) (was : Option BegunData) (s : DeskState) (none : was ≡ None) (h : Stands opening lines was s) where
+  rests : IsHistory opening lines s
+  rests = subst (λ (o : Option BegunData). Stands opening lines o s) none h
+
+  pub kept_stands : (e : Edit) (answer : EditAnswer) (hs : HandlersData DeskRow) (numbers : s.first + length s.names ≤ 32) (loopers : length s.names ≤ 8) → EditsHandlers s.handlers e answer hs → is_no_memory answer ≡ true → new ≡ lines → Stands opening new was (record s { handlers = hs; numbers = numbers; some_loopers = loopers })
+  kept_stands e answer hs numbers loopers edits without same =
+      let state : record s { handlers = hs; numbers = numbers; some_loopers = loopers } ≡ s =
+          facts_same s hs numbers loopers ∙ ap (λ (k : HandlersData DeskRow). record s { handlers = k }) (no_memory_so s.handlers e answer hs edits without).1 in
+      subst (λ (o : Option BegunData). Stands opening new o (record s { handlers = hs; numbers = numbers; some_loopers = loopers })) (sym none)
+      (subst (λ (l : List LineData). IsHistory opening l (record s { handlers = hs; numbers = numbers; some_loopers = loopers })) (sym same)
+      (subst (IsHistory opening lines) (sym state) rests))
+
+  pub edit_stands : (clock : Clock) (e : Edit) (answer : EditAnswer) (hs : HandlersData DeskRow) (numbers : s.first + length s.names ≤ 32) (loopers : length s.names ≤ 8) → EditsHandlers s.handlers e answer hs → is_no_memory answer ≡ false → new ≡ lines ++ line_after lines clock (event.Edited e answer) None ∷ [] → Stands opening new was (record s { handlers = hs; numbers = numbers; some_loopers = loopers })
+  edit_stands clock e answer hs numbers loopers edits other grown =
+      subst (λ (o : Option BegunData). Stands opening new o (record s { handlers = hs; numbers = numbers; some_loopers = loopers })) (sym none)
+      (edited_stands opening lines clock s e answer hs (record s { handlers = hs; numbers = numbers; some_loopers = loopers }) new rests edits other (facts_same s hs numbers loopers) grown)
+
+none_as : (d : DeskData) (clock : Clock) (e : Edit) (answer : EditAnswer) (d' : DeskData) → answer ≡ answered.NoMemory → d' ≡ d → Edits d clock e answer d' clock
+none_as d clock e answer d' is same = subst (λ (a : EditAnswer). Edits d clock e a d' clock) (sym is) (same, refl)
+
+module _ (d : DeskData) (clock : Clock) (e : Edit) (answer : EditAnswer) (hs : HandlersData DeskRow) (numbers : d.state.first + length d.state.names ≤ 32) (loopers : length d.state.names ≤ 8) (lines : List LineData) (edits : EditsHandlers d.state.handlers e answer hs) where
+  pub none_told : is_no_memory answer ≡ true → lines ≡ d.lines → Edits d clock e answer (record d { state = record d.state { handlers = hs; numbers = numbers; some_loopers = loopers }; lines = lines }) clock
+  none_told without same =
+      let so = no_memory_so d.state.handlers e answer hs edits without in
+      let state : record d.state { handlers = hs; numbers = numbers; some_loopers = loopers } ≡ d.state =
+          facts_same d.state hs numbers loopers ∙ ap (λ (k : HandlersData DeskRow). record d.state { handlers = k }) so.1 in
+      none_as d clock e answer (record d { state = record d.state { handlers = hs; numbers = numbers; some_loopers = loopers }; lines = lines }) so.0
+      (ap (λ (t : DeskState). record d { state = t; lines = lines }) state ∙ ap (λ (l : List LineData). record d { lines = l }) same)
+
+  pub edit_told : (clock' : Clock) → is_no_memory answer ≡ false → lines ≡ d.lines ++ line_after d.lines clock (event.Edited e answer) None ∷ [] → clock' ≡ clock_after d clock → Edits d clock e answer (record d { state = record d.state { handlers = hs; numbers = numbers; some_loopers = loopers }; lines = lines }) clock'
+  edit_told clock' other grown is =
+      edits_told d clock e answer hs (record d { state = record d.state { handlers = hs; numbers = numbers; some_loopers = loopers }; lines = lines }) clock' edits other
+      (ap (λ (t : DeskState). record d { state = t; lines = lines }) (facts_same d.state hs numbers loopers)
+      ∙ ap (λ (l : List LineData). record d { state = record d.state { handlers = hs }; lines = l }) grown) is
+
+-- of the desk as it is seen
+module _ (d seen : DeskData) (same : seen ≡ d) (clock : Clock) (e : Edit) (answer : EditAnswer) (hs : HandlersData DeskRow) (numbers : seen.state.first + length seen.state.names ≤ 32) (loopers : length seen.state.names ≤ 8) (lines : List LineData) (edits : EditsHandlers seen.state.handlers e answer hs) where
+  pub none_told_of : is_no_memory answer ≡ true → lines ≡ seen.lines → Edits d clock e answer (record seen { state = record seen.state { handlers = hs; numbers = numbers; some_loopers = loopers }; lines = lines }) clock
+  none_told_of without kept =
+      subst (λ (x : DeskData). Edits x clock e answer (record seen { state = record seen.state { handlers = hs; numbers = numbers; some_loopers = loopers }; lines = lines }) clock) same
+      (none_told seen clock e answer hs numbers loopers lines edits without kept)
+
+  pub edit_told_of : (clock' : Clock) → is_no_memory answer ≡ false → lines ≡ seen.lines ++ line_after seen.lines clock (event.Edited e answer) None ∷ [] → clock' ≡ clock_after seen clock → Edits d clock e answer (record seen { state = record seen.state { handlers = hs; numbers = numbers; some_loopers = loopers }; lines = lines }) clock'
+  edit_told_of clock' other grown is =
+      subst (λ (x : DeskData). Edits x clock e answer (record seen { state = record seen.state { handlers = hs; numbers = numbers; some_loopers = loopers }; lines = lines }) clock') same
+      (edit_told seen clock e answer hs numbers loopers lines edits clock' other grown is)

@@ -24,7 +24,7 @@ use Rattle.ak_desk.specs.Dispatch.{entry_route, fitting, ran_out}
 use Rattle.ak_desk.specs.Line.{LineData}
 use Rattle.ak_desk.specs.Machine.{Edited, edit_of}
 use Rattle.ak_desk.specs.Place.{routed_of}
-use Rattle.ak_desk.specs.Task.{Heard, IsDone, MayWant, TakesAnswer, Wanted, wants, wants_none, want_of, heard_of, place_in, task_of, words_of, reply_of, quits}
+use Rattle.ak_desk.specs.Task.{Awaits, Heard, IsDone, MayWant, TakesAnswer, Wanted, wants, wants_none, want_of, heard_of, place_in, task_of, words_of, reply_of, quits}
 
 -- a message that is being carried out
 pub record BegunData : Type 0 where
@@ -107,6 +107,10 @@ DeskTakes d a = OfBegun (λ t. TakesAnswer t a) d.begun
 
 abbrev pub DeskIsDone : DeskData → Type 0
 DeskIsDone d = OfBegun IsDone d.begun
+
+-- what is begun stands behind that want
+abbrev pub DeskAwaits : Want → DeskData → Type 0
+DeskAwaits w d = OfBegun (Awaits w) d.begun
 
 -- where memory ran out
 abbrev pub place_at : Option BegunData → ℕ

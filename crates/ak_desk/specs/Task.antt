@@ -15,8 +15,10 @@ use Rattle.ak_action.specs.declared.answer.AnswerWord.TheVariants as word
 use Rattle.ak_action.specs.declared.answer.Want.{Want}
 use Rattle.ak_action.specs.declared.answer.Want.TheVariants as want
 use Rattle.ak_action.specs.declared.state.DeskState.{DeskState}
+use Rattle.ak_message.specs.declared.address.Address.{Address}
+use Rattle.ak_action.specs.declared.doing.Sending.TheVariants as sending
 use Rattle.ak_action.specs.Acts.{error_of}
-use Rattle.ak_action.specs.Interp.{InterpData, started, Nexted, nexted, failed, Given, next_of, give_of, MayGoOn, Answers, HasEnded}
+use Rattle.ak_action.specs.Interp.{InterpData, started, Nexted, nexted, failed, Given, next_of, give_of, MayGoOn, Answers, AnswersFind, AnswersSend, HasEnded}
 use Rattle.ak_action.specs.Laws.{IsAsking}
 use Rattle.ak_desk.specs.declared.task.Task.{Task}
 use Rattle.ak_desk.specs.declared.task.Task.TheVariants as task
@@ -65,6 +67,13 @@ TakesAnswer (task.Reaction i) a = Answers i a
 TakesAnswer (task.Forwarding _) a = AnswersForward a
 TakesAnswer _ a = ⊥
 
+-- what answers a message that is sent without waiting, and one whose reply is waited for
+abbrev pub AnswersPost : Answer → Type 0
+AnswersPost a = (back : Option Address) → AnswersSend (sending.Post back) a
+
+abbrev pub AnswersAsk : Answer → Type 0
+AnswersAsk a = (into : Option ℕ) → AnswersSend (sending.Ask into) a
+
 -- nothing is left to do
 abbrev pub IsDone : Task → Type 0
 IsDone (task.Reaction i) = HasEnded i
@@ -108,6 +117,15 @@ want_of memory (task.BuiltIn token m) s =
 want_of memory (task.Forward looper popped spare) s = wants (want.Forward looper popped) (task.Forwarding spare) s
 want_of memory (task.Forwarding spare) s = wants want.Done (task.Forwarding spare) s
 want_of memory (task.Done w reply quit) s = wants want.Done (task.Done w reply quit) s
+
+-- ---- behind a want
+-- where that is wanted, each answer to it may come, and where nothing is, nothing is left to do
+abbrev pub Awaits : Want → Task → Type 0
+Awaits want.Done t = IsDone t
+Awaits (want.Find _) t = (a : Answer) → AnswersFind a → TakesAnswer t a
+Awaits (want.Post _ _ _) t = (a : Answer) → AnswersPost a → TakesAnswer t a
+Awaits (want.Ask _ _) t = (a : Answer) → AnswersAsk a → TakesAnswer t a
+Awaits (want.Forward _ _) t = (a : Answer) → AnswersForward a → TakesAnswer t a
 
 -- ---- what an answer makes of it
 pub record Heard : Type 0 where

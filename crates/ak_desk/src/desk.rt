@@ -60,7 +60,7 @@ impl Model for Desk {
 }
 
 impl Desk {
-    ghost use Rattle.ak_desk.specs.Desk.{opened, begun_with, given_to, wanted_next, desk_wants, desk_wants_none, place_at, DeskMayWant, DeskTakes};
+    ghost use Rattle.ak_desk.specs.Desk.{opened, begun_with, given_to, wanted_next, desk_wants, desk_wants_none, place_at, DeskAwaits, DeskIsDone, DeskMayWant, DeskTakes};
     ghost use Rattle.ak_desk.specs.Machine.{dispatches};
 
     /// A desk that begins in that state, on which nothing was done.
@@ -81,6 +81,7 @@ impl Desk {
         requires rest { self.old.begun ≡ None }
         requires position { taken.now.position ≡ dispatches self.old.lines }
         ensures ok { OnOk result (self.new ≡ begun_with self.old taken.now) }
+        ensures goes_on { OnOk result (DeskMayWant self.new) }
         ensures err { OnErr result (self.new ≡ self.old) }
     {
         let begun = begun_at(*self.lines.allocator(), &self.state, taken)?;
@@ -96,6 +97,8 @@ impl Desk {
         requires { DeskMayWant self.old }
         ensures ok { IfOk result (λ w. wanted_next None self.old ≡ desk_wants w self.new) }
         ensures err { OnErr result (wanted_next (Some (place_at self.new.begun)) self.old ≡ desk_wants_none self.new) }
+        ensures awaits { IfOk result (λ w. DeskAwaits w self.new) }
+        ensures ends { OnErr result (DeskIsDone self.new) }
     {
         let alloc = *self.lines.allocator();
         if let Some(begun) = &mut self.begun {
@@ -107,7 +110,8 @@ impl Desk {
     /// Hands it the answer to the last want. Takes no memory.
     pub fn give(&mut self, a: Answer)
         requires { DeskTakes self.old a }
-        ensures { self.new ≡ given_to self.old a }
+        ensures given { self.new ≡ given_to self.old a }
+        ensures goes_on { DeskMayWant self.new }
     {
         let alloc = *self.lines.allocator();
         if let Some(begun) = &mut self.begun {

@@ -5,7 +5,7 @@ ghost use Rattle.ak_action.specs.declared.state.DeskState.{DeskState};
 ghost use Rattle.ak_action.specs.Acts.{error_of};
 ghost use Rattle.ak_desk.specs.Dispatch.{forward_reply};
 ghost use Rattle.ak_desk.specs.Replies.{error_reply};
-ghost use Rattle.ak_desk.specs.Task.{taken_as, ready, task_by, MayWant, AnswersForward, TakesAnswer, IsDone, IsNoReaction, wants, wants_none, want_of, place_in, starved, heard_of, words_of, reply_of, quits};
+ghost use Rattle.ak_desk.specs.Task.{taken_as, ready, task_by, Awaits, MayWant, AnswersForward, TakesAnswer, IsDone, IsNoReaction, wants, wants_none, want_of, place_in, starved, heard_of, words_of, reply_of, quits};
 
 use crate::built_in::{built_in_quits, built_in_reply};
 use crate::properties::property_replied;
@@ -65,7 +65,8 @@ impl Task {
         route: Route,
     ) -> Result<Task, NoMemory>
         requires { (looper : ℕ) → route ≡ Route.Forward looper → first + looper < 2 ^ 32 }
-        ensures { IfOk result (λ t. t ≡ task_by first message route) }
+        ensures task { IfOk result (λ t. t ≡ task_by first message route) }
+        ensures goes_on { IfOk result MayWant }
     {
         match route {
             Route::Deliver { token, taker } => taken_as(alloc, token, message, taker),
@@ -85,6 +86,8 @@ impl Task {
         requires { MayWant self.old }
         ensures ok { IfOk result (λ w. want_of None self.old state.old ≡ wants w self.new state.new) }
         ensures err { OnErr result (want_of (Some (place_in self.new)) self.old state.old ≡ wants_none self.new state.new) }
+        ensures awaits { IfOk result (λ w. Awaits w self.new) }
+        ensures ends { OnErr result (IsDone self.new) }
     {
         match self {
             Task::Reaction(interp) => interp.next(state),
@@ -98,6 +101,8 @@ impl Task {
         requires other { IsNoReaction self.old }
         ensures ok { IfOk result (λ w. want_of None self.old state.old ≡ wants w self.new state.new) }
         ensures err { OnErr result (want_of (Some (place_in self.new)) self.old state.old ≡ wants_none self.new state.new) }
+        ensures awaits { IfOk result (λ w. Awaits w self.new) }
+        ensures ends { OnErr result (IsDone self.new) }
     {
         match mem::replace(self, starved(alloc)) {
             Task::Property {
@@ -132,7 +137,8 @@ impl Task {
     /// Hands it the answer to the last want. Takes no memory.
     pub(crate) fn give(&mut self, alloc: Global, state: &mut DeskState, a: Answer)
         requires { TakesAnswer self.old a }
-        ensures { heard_of self.old state.old a ≡ record { task = self.new; state = state.new } }
+        ensures heard { heard_of self.old state.old a ≡ record { task = self.new; state = state.new } }
+        ensures goes_on { MayWant self.new }
     {
         match self {
             Task::Reaction(interp) => interp.give(state, a),
@@ -144,7 +150,8 @@ impl Task {
     fn hear_of_forward(&mut self, alloc: Global, a: Answer)
         requires takes { TakesAnswer self.old a }
         requires other { IsNoReaction self.old }
-        ensures { (s : DeskState) → heard_of self.old s a ≡ record { task = self.new; state = s } }
+        ensures heard { (s : DeskState) → heard_of self.old s a ≡ record { task = self.new; state = s } }
+        ensures goes_on { MayWant self.new }
     {
         if let Task::Forwarding { spare } = mem::replace(self, starved(alloc)) {
             *self = forwarded(alloc, spare, a);

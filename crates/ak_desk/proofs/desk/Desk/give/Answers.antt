@@ -21,6 +21,6 @@ invariant_of-self c =
         subst (λ (o : Option Begun). HasPlaces c.self.inside.lines.items (option_map begun_seen o) (vec_len c.self.inside.lines) (vec_capacity c.self.inside.lines)) c.in-Some.is c.self.invariant.places in
     let takes : TakesAnswer b.task c.args.a = subst (λ (o : Option BegunData). OfBegun (λ t. TakesAnswer t c.args.a) o) seen c.requires in
     record {
-      stands = given_stands c.self.inside.opening.value c.self.inside.lines.items b c.self.inside.state stands c.args.a c.give.new.self c.give.new.state takes c.give.ensures;
+      stands = given_stands c.self.inside.opening.value c.self.inside.lines.items b c.self.inside.state stands c.args.a c.give.new.self c.give.new.state takes c.give.ensures.heard;
       places = places;
     }
