@@ -1,12 +1,19 @@
 -- A list of lines, and one more at its end.
-use Rattle.std.proofs.Common.{◌≡◌, ℕ, zero, suc, ◌+◌, ◌-◌, ◌<◌, Bool, true, false, ◌||◌, List, [], ◌∷◌, ◌++◌, length, Option, None, Some, option_map, unwrap_or, slice_get, refl, sym, ap, subst, ◌∙◌, arith}
+use Rattle.std.proofs.Common.{◌≡◌, ℕ, zero, suc, ◌+◌, ◌-◌, ◌<◌, Bool, true, false, ◌||◌, List, [], ◌∷◌, ◌++◌, All, length, Option, None, Some, option_map, unwrap_or, slice_get, refl, sym, ap, subst, ◌∙◌, arith}
+use Rattle.std.proofs.lemmas.List.Elements.{All-nil, All-push}
 use Rattle.ak_flatten.specs.Item.{ItemData}
 use Rattle.ak_turn.specs.Lines.{last_stamp_of}
 use Rattle.ak_action.specs.declared.answer.Answer.{Answer}
 use Rattle.ak_action.specs.declared.answer.Want.{Want}
 use Rattle.ak_action.specs.declared.answer.Want.TheVariants as want
 use Rattle.ak_action.specs.declared.state.DeskState.{DeskState}
-use Rattle.ak_action.specs.Laws.{IsAsking}
+use Rattle.ak_action.specs.declared.answer.Answer.TheVariants as answer
+use Rattle.ak_action.specs.declared.doing.Sending.{Sending}
+use Rattle.ak_action.specs.declared.doing.Sending.TheVariants as sending
+use Rattle.ak_action.specs.declared.interp.Stage.{Stage}
+use Rattle.ak_action.specs.declared.interp.Stage.TheVariants as stage
+use Rattle.ak_action.specs.Interp.{AnswersFind, AnswersSend, AnswersStage}
+use Rattle.ak_action.specs.Laws.{IsSpelled}
 use Rattle.ak_route.specs.declared.outcome.Route.{Route}
 use Rattle.ak_route.specs.declared.outcome.Route.TheVariants as route
 use Rattle.ak_desk.specs.declared.entry.DeskEvent.{DeskEvent}
@@ -14,6 +21,7 @@ use Rattle.ak_desk.specs.declared.entry.DeskEvent.TheVariants as event
 use Rattle.ak_desk.specs.declared.entry.EntryRoute.{EntryRoute}
 use Rattle.ak_desk.specs.declared.entry.EntryRoute.TheVariants as entry
 use Rattle.ak_desk.specs.declared.task.Task.{Task}
+use Rattle.ak_desk.specs.declared.task.Task.TheVariants as task
 use Rattle.ak_desk.specs.Desk.{BegunData, ended_event, stamp_in, with_task}
 use Rattle.ak_desk.specs.DeskInside.{IsBegun}
 use Rattle.ak_desk.specs.Dispatch.{Dispatch, dispatch_of, entry_route}
@@ -21,7 +29,7 @@ use Rattle.ak_desk.specs.Laws.{ComesToDispatch}
 use Rattle.ak_desk.specs.Line.{LineData}
 use Rattle.ak_desk.specs.Machine.{DeskStep, DispatchStep, Dispatches, EventStep, IsBy, IsHistory, Replays, StampsRise, counted, counted_all, dispatches, gave_up, gives_up}
 use Rattle.ak_desk.specs.Place.{routed_of}
-use Rattle.ak_desk.specs.Task.{Comes, IsDone, MayWant, TakesAnswer, came_to, heard_of, place_in, quits, task_of, wants, wants_none, want_of, words_of}
+use Rattle.ak_desk.specs.Task.{AnswersForward, Comes, IsDone, MayWant, TakesAnswer, came_to, heard_of, place_in, quits, task_of, wants, wants_none, want_of, words_of}
 use Rattle.ak_desk.specs.Task as the
 
 -- ---- one line more
@@ -90,6 +98,64 @@ gave_up_then (l ∷ lines) line e = by_head (gives_up l.entry.event) (gave_up_th
     by_head true h = refl
     by_head false h = h
 
+-- ---- the replies that are heard
+spelled_by_stage : (at : Stage) (a : Answer) → AnswersStage at a → IsSpelled a
+spelled_by_stage stage.Ready a h = absurd h
+spelled_by_stage (stage.Finding how m) a h = found a h
+  where
+    found : (a : Answer) → AnswersFind a → IsSpelled a
+    found (answer.Team team first) h = tt
+    found answer.NoTeam h = tt
+    found (answer.Written at) h = tt
+    found answer.Full h = tt
+    found answer.Closed h = tt
+    found answer.Spent h = tt
+    found answer.TooLong h = tt
+    found (answer.Reply flat m) h = absurd h
+    found answer.NoMemory h = tt
+spelled_by_stage (stage.Found looper how m) a h = absurd h
+spelled_by_stage (stage.Sent how) a h = sent how a h
+  where
+    sent : (how : Sending) (a : Answer) → AnswersSend how a → IsSpelled a
+    sent how (answer.Team team first) h = tt
+    sent how answer.NoTeam h = tt
+    sent how (answer.Written at) h = tt
+    sent how answer.Full h = tt
+    sent how answer.Closed h = tt
+    sent how answer.Spent h = tt
+    sent how answer.TooLong h = tt
+    sent (sending.Post back) (answer.Reply flat m) h = absurd h
+    sent (sending.Ask into) (answer.Reply flat m) h = h
+    sent how answer.NoMemory h = tt
+spelled_by_stage stage.Ended a h = absurd h
+
+spelled_by_forward : (a : Answer) → AnswersForward a → IsSpelled a
+spelled_by_forward (answer.Team team first) h = tt
+spelled_by_forward answer.NoTeam h = tt
+spelled_by_forward (answer.Written at) h = tt
+spelled_by_forward answer.Full h = tt
+spelled_by_forward answer.Closed h = tt
+spelled_by_forward answer.Spent h = tt
+spelled_by_forward answer.TooLong h = tt
+spelled_by_forward (answer.Reply flat m) h = absurd h
+spelled_by_forward answer.NoMemory h = tt
+
+spelled_taken : (t : Task) (a : Answer) → TakesAnswer t a → IsSpelled a
+spelled_taken (task.Reaction i) a h = spelled_by_stage i.stage a h
+spelled_taken (task.Property token place m) a h = absurd h
+spelled_taken (task.BuiltIn token m) a h = absurd h
+spelled_taken (task.Forward looper popped spare) a h = absurd h
+spelled_taken (task.Forwarding spare) a h = spelled_by_forward a h
+spelled_taken (task.Done word reply quit) a h = absurd h
+
+module _ {before : DeskState} {first : Task} where
+  all_spelled : (asked : List Want) (heard : List Answer) (t : Task) (s : DeskState) → Comes before first asked heard t s → All IsSpelled heard
+  all_spelled _ _ _ _ the.begun = All-nil IsSpelled
+  all_spelled _ _ _ _ (the.wanted asked heard t s w u v c may asking e) = all_spelled asked heard t s c
+  all_spelled _ _ _ _ (the.done asked heard t s u v c may e) = all_spelled asked heard t s c
+  all_spelled _ _ _ _ (the.found_none asked heard t s u v c may e) = all_spelled asked heard t s c
+  all_spelled _ _ _ _ (the.given asked heard t s a c takes) = All-push IsSpelled heard a (all_spelled asked heard t s c) (spelled_taken t a takes)
+
 -- ---- what is begun goes on
 module _ (opening : DeskState) (lines : List LineData) (b : BegunData) (s : DeskState) (h : IsBegun opening lines b s) where
   pub wants_on : (w : Want) (u : Task) (v : DeskState) → MayWant b.task → want_of None b.task s ≡ wants w u v → IsBegun opening lines (with_task b u) v
@@ -118,6 +184,7 @@ module _ (opening : DeskState) (lines : List LineData) (b : BegunData) (s : Desk
       record {
         answers = h.heard;
         memory = memory;
+        spelled = all_spelled h.asked h.heard b.task s h.comes;
         waits = ap (λ (d : Dispatch). d.waits) e;
         used = ap (λ (d : Dispatch). d.answers) e;
         words_are = ap (λ (d : Dispatch). d.words) e;

@@ -3,6 +3,7 @@ pub mod AtOnce
 pub mod Coming
 pub mod Editing
 pub mod History
+pub mod MachineLaws
 pub mod Placing
 pub mod Standing
 pub mod Suites

@@ -1,5 +1,5 @@
 -- The machine of a desk: which entry may follow, and what it makes of the handlers.
-use Rattle.std.specs.Prelude.{◌≡◌, ℕ, ◌+◌, ◌<◌, Bool, true, false, List, [], ◌∷◌, Option, None, Some}
+use Rattle.std.specs.Prelude.{◌≡◌, ℕ, ◌+◌, ◌<◌, Bool, true, false, List, [], ◌∷◌, All, Option, None, Some}
 use Rattle.std.specs.List.{list_any}
 use Rattle.ak_handler.specs.declared.fault.HandlerFault.{HandlerFault}
 use Rattle.ak_handler.specs.declared.fault.HandlerFault.TheVariants as fault
@@ -9,6 +9,7 @@ use Rattle.ak_flatten.specs.Item.{ItemData}
 use Rattle.ak_action.specs.declared.answer.Answer.{Answer}
 use Rattle.ak_action.specs.declared.answer.AnswerWord.{AnswerWord}
 use Rattle.ak_action.specs.declared.state.DeskState.{DeskState}
+use Rattle.ak_action.specs.Laws.{IsSpelled}
 use Rattle.ak_action.specs.declared.row.DeskRow.{DeskRow}
 use Rattle.ak_action.specs.Row.{empty_row}
 use Rattle.ak_route.specs.Routing.{Routed}
@@ -59,6 +60,8 @@ EditsHandlers h e answer t = edit_of h e ≡ record { answer = answer; handlers 
 pub record Dispatches (s : DeskState) (item : ItemData) (words : List AnswerWord) (quit : Bool) (t : DeskState) : Type 0 where
   pub answers : List Answer
   pub memory : Option ℕ
+  -- the flat text of a reply spells its message
+  pub spelled : All IsSpelled answers
   pub waits : (dispatch_of s item answers memory).waits ≡ false
   pub used : (dispatch_of s item answers memory).answers ≡ []
   pub words_are : (dispatch_of s item answers memory).words ≡ words

@@ -9,3 +9,15 @@ pub fn a_dispatch_comes_as_told()
 {
     ak_action::calls_act();
 }
+
+/// Of every list that the machine of a desk allows: each line stands on the state that those before it
+/// leave; a dispatched message has as its position how many were dispatched before it; a refused edit
+/// changes nothing; and the state is told by the opening and the list.
+pub fn the_list_tells_the_handlers()
+    ensures follows { law.EachLineFollows }
+    ensures positions { law.PositionsCount }
+    ensures refused { law.RefusedEditsChangeNothing }
+    ensures one { law.StateIsOne }
+{
+    ak_action::words_replay();
+}

@@ -20,5 +20,5 @@ mod task;
 
 pub use desk::Desk;
 pub use entry::{DeskEntry, DeskEvent, DeskLine, Edit, EditAnswer, EntryRoute};
-pub use laws::a_dispatch_comes_as_told;
+pub use laws::{a_dispatch_comes_as_told, the_list_tells_the_handlers};
 pub use made::Made;
