@@ -427,6 +427,7 @@ taken_by_stage (want.Post to m back) i h = λ a g. posted_by i.stage a h g
     by_way : (how : Sending) (a : Answer) → IsPosting how → AnswersPost a → AnswersSend how a
     by_way (sending.Post back) a h g = g back
     by_way (sending.Ask into) a h g = absurd h
+
     posted_by : (at : Stage) (a : Answer) → IsPosted at → AnswersPost a → AnswersStage at a
     posted_by stage.Ready a h g = absurd h
     posted_by (stage.Finding how m) a h g = absurd h
@@ -438,6 +439,7 @@ taken_by_stage (want.Ask to m) i h = λ a g. asked_by i.stage a h g
     by_way : (how : Sending) (a : Answer) → IsAsking how → AnswersAsk a → AnswersSend how a
     by_way (sending.Post back) a h g = absurd h
     by_way (sending.Ask into) a h g = g into
+
     asked_by : (at : Stage) (a : Answer) → IsAsked at → AnswersAsk a → AnswersStage at a
     asked_by stage.Ready a h g = absurd h
     asked_by (stage.Finding how m) a h g = absurd h

@@ -105,7 +105,7 @@ module _ (opening : DeskState) (lines new : List LineData) (was : Option BegunDa
   pub kept_stands : (e : Edit) (answer : EditAnswer) (hs : HandlersData DeskRow) (numbers : s.first + length s.names ≤ 32) (loopers : length s.names ≤ 8) → EditsHandlers s.handlers e answer hs → is_no_memory answer ≡ true → new ≡ lines → Stands opening new was (record s { handlers = hs; numbers = numbers; some_loopers = loopers })
   kept_stands e answer hs numbers loopers edits without same =
       let state : record s { handlers = hs; numbers = numbers; some_loopers = loopers } ≡ s =
-          facts_same s hs numbers loopers ∙ ap (λ (k : HandlersData DeskRow). record s { handlers = k }) (no_memory_so s.handlers e answer hs edits without).1 in
+      facts_same s hs numbers loopers ∙ ap (λ (k : HandlersData DeskRow). record s { handlers = k }) (no_memory_so s.handlers e answer hs edits without).1 in
       subst (λ (o : Option BegunData). Stands opening new o (record s { handlers = hs; numbers = numbers; some_loopers = loopers })) (sym none)
       (subst (λ (l : List LineData). IsHistory opening l (record s { handlers = hs; numbers = numbers; some_loopers = loopers })) (sym same)
       (subst (IsHistory opening lines) (sym state) rests))
@@ -123,7 +123,7 @@ module _ (d : DeskData) (clock : Clock) (e : Edit) (answer : EditAnswer) (hs : H
   none_told without same =
       let so = no_memory_so d.state.handlers e answer hs edits without in
       let state : record d.state { handlers = hs; numbers = numbers; some_loopers = loopers } ≡ d.state =
-          facts_same d.state hs numbers loopers ∙ ap (λ (k : HandlersData DeskRow). record d.state { handlers = k }) so.1 in
+      facts_same d.state hs numbers loopers ∙ ap (λ (k : HandlersData DeskRow). record d.state { handlers = k }) so.1 in
       none_as d clock e answer (record d { state = record d.state { handlers = hs; numbers = numbers; some_loopers = loopers }; lines = lines }) so.0
       (ap (λ (t : DeskState). record d { state = t; lines = lines }) state ∙ ap (λ (l : List LineData). record d { lines = l }) same)
 
@@ -144,3 +144,9 @@ module _ (d seen : DeskData) (same : seen ≡ d) (clock : Clock) (e : Edit) (ans
   edit_told_of clock' other grown is =
       subst (λ (x : DeskData). Edits x clock e answer (record seen { state = record seen.state { handlers = hs; numbers = numbers; some_loopers = loopers }; lines = lines }) clock') same
       (edit_told seen clock e answer hs numbers loopers lines edits clock' other grown is)
+
+-- ---- at rest
+pub history_at_rest : (d seen : DeskData) → seen ≡ d → Stands seen.opening seen.lines seen.begun seen.state → d.begun ≡ None → IsHistory d.opening d.lines d.state
+history_at_rest d seen same h none =
+    subst (λ (o : Option BegunData). Stands d.opening d.lines o d.state) none
+    (subst (λ (x : DeskData). Stands x.opening x.lines x.begun x.state) same h)

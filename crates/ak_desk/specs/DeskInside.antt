@@ -32,7 +32,6 @@ abbrev pub Stands : DeskState → List LineData → Option BegunData → DeskSta
 Stands opening lines None state = IsHistory opening lines state
 Stands opening lines (Some b) state = IsBegun opening lines b state
 
-
 -- places for the entry of what is begun, and for that of giving up once
 abbrev pub HasPlaces : List LineData → Option BegunData → ℕ → ℕ → Type 0
 HasPlaces lines None len capacity = gave_up lines ≡ false → len < capacity

@@ -12,8 +12,8 @@ use crate::built_in::is_own;
 use crate::entry::{DeskLine, EntryRoute};
 use crate::reserved::{Spare, WordRoom};
 use crate::task::Task;
-use ak_action::{Answer, DeskState, Want};
-use ak_base::NoMemory;
+use ak_action::{Answer, DeskState, LooperPlan, Want};
+use ak_base::{Items, NoMemory, Text};
 use ak_flatten::{Item, Taken};
 use ak_message::Message;
 use ak_route::{Place, Route, route};
@@ -61,7 +61,27 @@ impl Model for Desk {
 
 impl Desk {
     ghost use Rattle.ak_desk.specs.Desk.{opened, begun_with, given_to, wanted_next, desk_wants, desk_wants_none, place_at, DeskAwaits, DeskIsDone, DeskMayWant, DeskTakes};
-    ghost use Rattle.ak_desk.specs.Machine.{dispatches};
+    ghost use Rattle.ak_action.specs.Opening.{FitsPlace, Opens};
+    ghost use Rattle.ak_desk.specs.Machine.{IsHistory, dispatches};
+
+    /// The desk of the looper of the plan, on which nothing was done: the looper has that number, its team has
+    /// that one, and these are the names of the application's loopers, of which the first has the number
+    /// `first`.
+    pub fn from_plan(
+        alloc: Global,
+        plan: LooperPlan,
+        looper: u32,
+        team: u32,
+        first: u32,
+        names: Items<Text>,
+    ) -> Result<Desk, NoMemory>
+        requires { FitsPlace plan looper first names }
+        ensures opening { IfOk result (λ d. Opens plan looper team first names d.opening) }
+        ensures opened { IfOk result (λ d. d ≡ opened d.opening) }
+    {
+        let state = DeskState::from_plan(alloc, plan, looper, team, first, names)?;
+        Desk::open(alloc, state)
+    }
 
     /// A desk that begins in that state, on which nothing was done.
     pub(crate) fn open(alloc: Global, state: DeskState) -> Result<Desk, NoMemory>
@@ -73,6 +93,14 @@ impl Desk {
             lines: Vec::with_capacity(alloc, 1)?,
             begun: None,
         })
+    }
+
+    /// The handlers as they are. While nothing is begun, they are what the list makes of the opening.
+    pub fn state(&self) -> &DeskState
+        ensures value { result.now ≡ self.now.state }
+        ensures history { self.now.begun ≡ None → IsHistory self.now.opening self.now.lines self.now.state }
+    {
+        &self.state
     }
 
     /// Begins the message that was taken: it is routed, and all is reserved that its end needs. An `Err`

@@ -55,7 +55,10 @@ pub enum DeskEvent {
         answers: Items<AnswerWord>,
         quit: bool,
     },
-    Edited { edit: Edit, answer: EditAnswer },
+    Edited {
+        edit: Edit,
+        answer: EditAnswer,
+    },
 }
 
 /// One entry of a desk's list.

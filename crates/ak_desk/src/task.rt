@@ -30,7 +30,10 @@ pub(crate) enum Task {
         message: Message,
     },
     // What every handler, looper or application's own looper knows.
-    BuiltIn { token: u64, message: Message },
+    BuiltIn {
+        token: u64,
+        message: Message,
+    },
     // The message is to be sent on to that looper, with so many specifiers popped.
     Forward {
         looper: u32,
@@ -38,7 +41,9 @@ pub(crate) enum Task {
         spare: Spare,
     },
     // It was sent on, and there is no answer yet.
-    Forwarding { spare: Spare },
+    Forwarding {
+        spare: Spare,
+    },
     // Nothing is left: its word, if it has one, its reply, unless it was sent on, and whether the looper is
     // to end.
     Done {

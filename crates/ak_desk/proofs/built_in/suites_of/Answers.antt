@@ -18,8 +18,8 @@ returns-clause-suites c =
     let own : is_own c.args.state.now ≡ true = grind (arith, common_steps) in
     let suites : c.in_ok-suites.suites.items ≡ take 16 c.args.row.now.suites = c.in_ok-suites.ensures ∙ c.first_suites.ensures.suites in
     let first : c.push.new.self.items ≡ take 16 c.args.row.now.suites ++ codes "suite/vnd.Be-handler" ∷ [] =
-        c.in_ok-push.ensures.items ∙ ap (λ (l : List (List ℕ)). l ++ c.in_ok-text.field-0 ∷ []) suites
-        ∙ ap (λ (t : List ℕ). take 16 c.args.row.now.suites ++ t ∷ []) c.in_ok-text.ensures in
+    c.in_ok-push.ensures.items ∙ ap (λ (l : List (List ℕ)). l ++ c.in_ok-text.field-0 ∷ []) suites
+    ∙ ap (λ (t : List ℕ). take 16 c.args.row.now.suites ++ t ∷ []) c.in_ok-text.ensures in
     let second : c.push-2.new.self.items ≡ c.push.new.self.items ++ codes "suite/vnd.Be-looper" ∷ [] = grind (arith, common_steps) in
     let third : c.push-3.new.self.items ≡ c.push-2.new.self.items ++ codes "suite/vnd.Be-application" ∷ [] = grind (arith, common_steps) in
     of_application c.args.state.now c.args.token c.args.row.now c.requires looper c.push-3.new.self.items own

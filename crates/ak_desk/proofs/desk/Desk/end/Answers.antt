@@ -17,14 +17,14 @@ invariant_of-self-2 c =
     let b : BegunData = begun_seen c.in-Some.begun in
     let seen : c.args.self.now.begun ≡ Some b = ap (λ (d : DeskData). d.begun) (sym c.self.view_is) ∙ ap (option_map begun_seen) inside in
     let stands : IsBegun c.self.inside.opening.value c.self.inside.lines.items b c.self.inside.state =
-        subst (λ (o : Option Begun). Stands c.self.inside.opening.value c.self.inside.lines.items (option_map begun_seen o) c.self.inside.state) inside c.self.invariant.stands in
+    subst (λ (o : Option Begun). Stands c.self.inside.opening.value c.self.inside.lines.items (option_map begun_seen o) c.self.inside.state) inside c.self.invariant.stands in
     let places : vec_len c.self.inside.lines + 1 < vec_capacity c.self.inside.lines =
-        subst (λ (o : Option Begun). HasPlaces c.self.inside.lines.items (option_map begun_seen o) (vec_len c.self.inside.lines) (vec_capacity c.self.inside.lines)) inside c.self.invariant.places in
+    subst (λ (o : Option Begun). HasPlaces c.self.inside.lines.items (option_map begun_seen o) (vec_len c.self.inside.lines) (vec_capacity c.self.inside.lines)) inside c.self.invariant.places in
     let done : IsDone b.task = subst (OfBegun IsDone) seen c.requires.done in
     let none : c.take.new.self ≡ None = grind (arith, common_steps) in
     let by : c.args.clock.now.thread.0 ≡ 10000 + c.self.inside.opening.value.looper = c.requires.looper ∙ ap (λ (d : DeskData). 10000 + d.opening.looper) (sym c.self.view_is) in
     let history : IsHistory c.self.inside.opening.value c.add.new.lines.items c.self.inside.state =
-        ended_stands c.self.inside.opening.value c.self.inside.lines.items c.args.clock.now b c.self.inside.state _ c.add.new.lines.items c.a_dispatch_comes_as_told.ensures stands done by (grind (arith, common_steps)) c.add.ensures.items in
+    ended_stands c.self.inside.opening.value c.self.inside.lines.items c.args.clock.now b c.self.inside.state _ c.add.new.lines.items c.a_dispatch_comes_as_told.ensures stands done by (grind (arith, common_steps)) c.add.ensures.items in
     let room : vec_len c.add.new.lines < vec_capacity c.add.new.lines = omega (arith, c.add.ensures.len, c.add.ensures.capacity, places) in
     record {
       stands = subst (λ (o : Option Begun). Stands c.self.inside.opening.value c.add.new.lines.items (option_map begun_seen o) c.self.inside.state) (sym none) history;
