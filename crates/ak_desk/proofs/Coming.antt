@@ -14,7 +14,7 @@ use Rattle.ak_action.specs.declared.doing.Sending.TheVariants as sending
 use Rattle.ak_action.specs.declared.interp.Stage.{Stage}
 use Rattle.ak_action.specs.declared.interp.Stage.TheVariants as stage
 use Rattle.ak_action.specs.declared.state.DeskState.{DeskState}
-use Rattle.ak_action.specs.Acts.{Acts, acts, is_at, put, want_of}
+use Rattle.ak_action.specs.Acts.{acts, is_at, put, want_of}
 use Rattle.ak_action.specs.Doing.{Doing, says, replies, puts, sends, finds, stops, quits, doing_of, preferred_of}
 use Rattle.ak_action.specs.Interp.{InterpData, Nexted, nexted, failed, Given, Answers, AnswersFind, AnswersSend, AnswersStage, MayGoOn, MayGoOnFrom, actions_of, carried, give_at, give_of, go_on, hear_of_send, hear_of_team, next_at, next_of, out_of_memory, past, started, then_go_on, with_stage}
 use Rattle.ak_action.specs.Laws.{Calls, CallsAct, Ran, finished, found_none, got_one, is_done, ran_of, wanting}

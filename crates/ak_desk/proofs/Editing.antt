@@ -1,5 +1,5 @@
 -- What the calls on handlers answer is what an edit makes of them.
-use Rattle.std.proofs.Common.{◌≡◌, ◌≢◌, ℕ, true, false, List, Option, None, Some, Result, Ok, Err, IfSome, IfNone, IfOk, IsOk, IsOkUnless, OnOk, OnErr, refl, sym, ap, subst, ◌∙◌}
+use Rattle.std.proofs.Common.{◌≡◌, ◌≢◌, ℕ, true, false, List, Option, None, Some, Result, Ok, Err, IfSome, IfNone, IsOk, IsOkUnless, refl, sym, ap, subst, ◌∙◌}
 use Rattle.ak_handler.specs.declared.fault.HandlerFault.{HandlerFault}
 use Rattle.ak_handler.specs.declared.fault.HandlerFault.TheVariants as fault
 use Rattle.ak_handler.specs.Changes.{add_fault, with_handler}
@@ -10,7 +10,7 @@ use Rattle.ak_desk.specs.declared.entry.Edit.{Edit}
 use Rattle.ak_desk.specs.declared.entry.Edit.TheVariants as edit
 use Rattle.ak_desk.specs.declared.entry.EditAnswer.{EditAnswer}
 use Rattle.ak_desk.specs.declared.entry.EditAnswer.TheVariants as answered
-use Rattle.ak_desk.specs.Machine.{Edited, EditsHandlers, edited, edit_of, refusal}
+use Rattle.ak_desk.specs.Machine.{EditsHandlers, edited, edit_of, refusal}
 
 abbrev pub ok_of : {A : Type 0} → A → Result A HandlerFault
 ok_of x = Ok x

@@ -1,8 +1,7 @@
 -- A list of lines, and one more at its end.
-use Rattle.std.proofs.Common.{◌≡◌, ℕ, zero, suc, ◌+◌, ◌-◌, ◌<◌, Bool, true, false, ◌||◌, List, [], ◌∷◌, ◌++◌, All, length, Option, None, Some, option_map, unwrap_or, slice_get, refl, sym, ap, subst, ◌∙◌, arith}
+use Rattle.std.proofs.Common.{◌≡◌, ℕ, suc, ◌+◌, ◌-◌, ◌<◌, Bool, true, false, ◌||◌, List, [], ◌∷◌, ◌++◌, All, length, Option, None, Some, option_map, unwrap_or, slice_get, refl, sym, ap, subst, ◌∙◌, arith}
 use Rattle.std.proofs.lemmas.List.Elements.{All-nil, All-push}
 use Rattle.ak_flatten.specs.Item.{ItemData}
-use Rattle.ak_turn.specs.Lines.{last_stamp_of}
 use Rattle.ak_action.specs.declared.answer.Answer.{Answer}
 use Rattle.ak_action.specs.declared.answer.Want.{Want}
 use Rattle.ak_action.specs.declared.answer.Want.TheVariants as want
@@ -17,9 +16,7 @@ use Rattle.ak_action.specs.Laws.{IsSpelled}
 use Rattle.ak_route.specs.declared.outcome.Route.{Route}
 use Rattle.ak_route.specs.declared.outcome.Route.TheVariants as route
 use Rattle.ak_desk.specs.declared.entry.DeskEvent.{DeskEvent}
-use Rattle.ak_desk.specs.declared.entry.DeskEvent.TheVariants as event
 use Rattle.ak_desk.specs.declared.entry.EntryRoute.{EntryRoute}
-use Rattle.ak_desk.specs.declared.entry.EntryRoute.TheVariants as entry
 use Rattle.ak_desk.specs.declared.task.Task.{Task}
 use Rattle.ak_desk.specs.declared.task.Task.TheVariants as task
 use Rattle.ak_desk.specs.Desk.{BegunData, ended_event, stamp_in, with_task}

@@ -1,5 +1,5 @@
 -- What holds of every list that the machine of a desk allows.
-use Rattle.std.proofs.Common.{◌≡◌, ℕ, ◌+◌, Bool, true, false, List, [], ◌∷◌, ◌++◌, All, Option, None, Some, is_some, refl, sym, ap, subst, ◌∙◌}
+use Rattle.std.proofs.Common.{◌≡◌, ℕ, Bool, true, false, List, [], ◌∷◌, ◌++◌, All, Option, None, Some, refl, sym, ap, subst, ◌∙◌}
 use Rattle.ak_base.specs.declared.error.KitError.TheVariants as error
 use Rattle.ak_flatten.specs.Item.{ItemData}
 use Rattle.ak_handler.specs.declared.fault.HandlerFault.{HandlerFault}
@@ -11,7 +11,6 @@ use Rattle.ak_route.specs.declared.outcome.Taker.TheVariants as taker
 use Rattle.ak_action.specs.declared.answer.Answer.{Answer}
 use Rattle.ak_action.specs.declared.answer.AnswerWord.{AnswerWord}
 use Rattle.ak_action.specs.declared.answer.AnswerWord.TheVariants as word
-use Rattle.ak_action.specs.declared.answer.Want.{Want}
 use Rattle.ak_action.specs.declared.row.DeskRow.{DeskRow}
 use Rattle.ak_action.specs.declared.state.DeskState.{DeskState}
 use Rattle.ak_action.specs.Interp.{actions_of}
@@ -20,14 +19,13 @@ use Rattle.ak_desk.specs.declared.entry.DeskEvent.{DeskEvent}
 use Rattle.ak_desk.specs.declared.entry.DeskEvent.TheVariants as event
 use Rattle.ak_desk.specs.declared.entry.Edit.{Edit}
 use Rattle.ak_desk.specs.declared.entry.Edit.TheVariants as edit
-use Rattle.ak_desk.specs.declared.entry.EditAnswer.{EditAnswer}
 use Rattle.ak_desk.specs.declared.entry.EditAnswer.TheVariants as answered
 use Rattle.ak_desk.specs.declared.entry.EntryRoute.{EntryRoute}
 use Rattle.ak_desk.specs.declared.entry.EntryRoute.TheVariants as entry
-use Rattle.ak_desk.specs.Dispatch.{Dispatch, by_route, dispatch_of}
-use Rattle.ak_desk.specs.Laws.{EachLineFollows, PositionsCount, RefusedEditsChangeNothing, StandsBetween, StateIsOne}
+use Rattle.ak_desk.specs.Dispatch.{Dispatch, by_route}
+use Rattle.ak_desk.specs.Laws.{EachLineFollows, PositionsCount, RefusedEditsChangeNothing, StateIsOne}
 use Rattle.ak_desk.specs.Line.{LineData}
-use Rattle.ak_desk.specs.Machine.{DeskStep, DispatchStep, Dispatches, Edited, EventStep, Replays, counted, counted_all, dispatches, edited, edit_of}
+use Rattle.ak_desk.specs.Machine.{DeskStep, DispatchStep, Dispatches, EventStep, Replays, counted, counted_all, dispatches, edited, edit_of}
 use Rattle.ak_desk.specs.Place.{routed_of}
 
 -- ---- one line among the others

@@ -1,5 +1,5 @@
 -- A looper that is forwarded to is one of the application's.
-use Rattle.std.proofs.Common.{◌≡◌, ℕ, ◌+◌, ◌<◌, Bool, true, false, cond, List, [], length, arith}
+use Rattle.std.proofs.Common.{◌≡◌, ℕ, ◌+◌, ◌<◌, Bool, true, false, cond, [], length, arith}
 use Rattle.ak_action.specs.declared.state.DeskState.{DeskState}
 use Rattle.ak_action.specs.Row.{row_data}
 use Rattle.ak_flatten.specs.Item.{ItemData, message_of}

@@ -1,5 +1,5 @@
 -- How a desk stands as its messages are begun, go on and end.
-use Rattle.std.proofs.Common.{◌≡◌, ℕ, ◌+◌, ◌<◌, ◌≤◌, max, Bool, true, false, List, [], ◌∷◌, ◌++◌, Option, None, Some, option_map, Result, Ok, Err, IfOk, OnErr, length, refl, ap, subst, sym, ◌∙◌, arith}
+use Rattle.std.proofs.Common.{◌≡◌, ℕ, ◌+◌, ◌<◌, ◌≤◌, max, true, false, List, [], ◌∷◌, ◌++◌, Option, None, Some, Result, Ok, Err, IfOk, OnErr, length, refl, ap, subst, sym, ◌∙◌, arith}
 use Rattle.ak_flatten.specs.declared.item.Taken.{Taken}
 use Rattle.ak_action.specs.declared.state.DeskState.{DeskState}
 use Rattle.ak_desk.specs.Desk.{BegunData, DeskData, Edits, begun_at, clock_after, ended_event, line_after, stamp_in, with_line, with_task}

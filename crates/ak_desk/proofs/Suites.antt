@@ -1,5 +1,5 @@
 -- The suites of a handler, one behind the other.
-use Rattle.std.proofs.Common.{◌≡◌, ℕ, ◌==◌, Bool, true, false, cond, List, [], ◌∷◌, ◌++◌, take, codes, refl, sym, ap, ◌∙◌, append_assoc, eqb-true}
+use Rattle.std.proofs.Common.{◌≡◌, ℕ, Bool, true, false, cond, List, [], ◌∷◌, ◌++◌, take, codes, sym, ap, ◌∙◌, append_assoc}
 use Rattle.ak_action.specs.declared.row.DeskRow.{DeskRow}
 use Rattle.ak_action.specs.declared.state.DeskState.{DeskState}
 use Rattle.ak_action.specs.Doing.{row_of}

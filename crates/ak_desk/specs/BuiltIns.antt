@@ -1,5 +1,5 @@
 -- What every handler, every looper and every application's own looper answers by itself.
-use Rattle.std.specs.Prelude.{ℕ, pos, ◌==◌, Bool, true, false, not, if◌then◌else◌, List, [], ◌∷◌, ◌++◌, length, take, codes, Option, None, Some, option_map, unwrap_or}
+use Rattle.std.specs.Prelude.{ℕ, pos, ◌==◌, Bool, false, not, if◌then◌else◌, List, [], ◌∷◌, ◌++◌, length, take, codes, Option, None, Some, option_map, unwrap_or}
 use Rattle.std.specs.Str.{bytes_eq}
 use Rattle.ak_handler.specs.Handlers.{handler_of}
 use Rattle.ak_message.specs.declared.address.Target.TheVariants as target

@@ -1,16 +1,12 @@
 -- What contracts see of a desk, and what each call makes of it.
-use Rattle.std.specs.Prelude.{◌≡◌, ℕ, ◌+◌, Bool, true, false, nat_lt, is_some, if◌then◌else◌, max, List, [], ◌∷◌, ◌++◌, length, Option, None, Some, option_map}
-use Rattle.ak_base.specs.declared.thread.ThreadId.{ThreadId}
+use Rattle.std.specs.Prelude.{◌≡◌, ℕ, ◌+◌, true, false, is_some, if◌then◌else◌, max, List, [], ◌∷◌, ◌++◌, Option, None, Some, option_map}
 use Rattle.ak_flatten.specs.Item.{ItemData}
 use Rattle.ak_flatten.specs.declared.item.Taken.{Taken}
-use Rattle.ak_message.specs.Message.{MessageData}
 use Rattle.ak_turn.specs.declared.clock.Clock.{Clock}
 use Rattle.ak_turn.specs.Lines.{last_stamp_of}
 use Rattle.ak_action.specs.declared.answer.Answer.{Answer}
 use Rattle.ak_action.specs.declared.answer.Want.{Want}
 use Rattle.ak_action.specs.declared.state.DeskState.{DeskState}
-use Rattle.ak_route.specs.Routing.{Routed}
-use Rattle.ak_desk.specs.declared.entry.DeskEntry.{DeskEntry}
 use Rattle.ak_desk.specs.declared.entry.DeskEvent.{DeskEvent}
 use Rattle.ak_desk.specs.declared.entry.DeskEvent.TheVariants as event
 use Rattle.ak_desk.specs.declared.entry.Edit.{Edit}
@@ -24,7 +20,7 @@ use Rattle.ak_desk.specs.Dispatch.{entry_route, fitting, ran_out}
 use Rattle.ak_desk.specs.Line.{LineData}
 use Rattle.ak_desk.specs.Machine.{Edited, edit_of}
 use Rattle.ak_desk.specs.Place.{routed_of}
-use Rattle.ak_desk.specs.Task.{Awaits, Heard, IsDone, MayWant, TakesAnswer, Wanted, wants, wants_none, want_of, heard_of, place_in, task_of, words_of, reply_of, quits}
+use Rattle.ak_desk.specs.Task.{Awaits, IsDone, MayWant, TakesAnswer, Wanted, wants, wants_none, want_of, heard_of, place_in, task_of, words_of, reply_of, quits}
 
 -- a message that is being carried out
 pub record BegunData : Type 0 where

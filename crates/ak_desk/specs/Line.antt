@@ -1,5 +1,5 @@
 -- A line of a desk's list.
-use Rattle.std.specs.Prelude.{ℕ, Option, option_map, refl}
+use Rattle.std.specs.Prelude.{Option, option_map, refl}
 use Rattle.std.specs.Coded.{Coded, code_by, coded×, coded_option}
 use Rattle.ak_flatten.specs.Item.{ItemData, coded_item}
 use Rattle.ak_desk.specs.contracts.entry.DeskEntry as desk_entry

@@ -12,7 +12,6 @@ use Rattle.ak_action.specs.declared.state.DeskState.{DeskState}
 use Rattle.ak_action.specs.Laws.{IsSpelled}
 use Rattle.ak_action.specs.declared.row.DeskRow.{DeskRow}
 use Rattle.ak_action.specs.Row.{empty_row}
-use Rattle.ak_route.specs.Routing.{Routed}
 use Rattle.ak_desk.specs.declared.entry.DeskEvent.{DeskEvent}
 use Rattle.ak_desk.specs.declared.entry.DeskEvent.TheVariants as event
 use Rattle.ak_desk.specs.declared.entry.Edit.{Edit}
@@ -21,7 +20,7 @@ use Rattle.ak_desk.specs.declared.entry.EditAnswer.{EditAnswer}
 use Rattle.ak_desk.specs.declared.entry.EditAnswer.TheVariants as answered
 use Rattle.ak_desk.specs.declared.entry.EntryRoute.{EntryRoute}
 use Rattle.ak_desk.specs.declared.entry.EntryRoute.TheVariants as entry
-use Rattle.ak_desk.specs.Dispatch.{Dispatch, dispatch_of, entry_route}
+use Rattle.ak_desk.specs.Dispatch.{dispatch_of, entry_route}
 use Rattle.ak_desk.specs.Line.{LineData}
 use Rattle.ak_desk.specs.Place.{routed_of}
 

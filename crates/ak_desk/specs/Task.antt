@@ -1,5 +1,5 @@
 -- What is still to do for a message, step by step: what is wanted next, and what an answer makes of it.
-use Rattle.std.specs.Prelude.{◌≡◌, ℕ, ◌+◌, Bool, true, false, is_some, if◌then◌else◌, List, [], ◌∷◌, ◌++◌, Option, None, Some, unwrap_or}
+use Rattle.std.specs.Prelude.{◌≡◌, ℕ, ◌+◌, Bool, false, is_some, if◌then◌else◌, List, [], ◌∷◌, ◌++◌, Option, None, Some, unwrap_or}
 use Rattle.ak_base.specs.declared.error.KitError.{KitError}
 use Rattle.ak_base.specs.declared.error.KitError.TheVariants as error
 use Rattle.ak_message.specs.Message.{MessageData}
@@ -18,13 +18,13 @@ use Rattle.ak_action.specs.declared.state.DeskState.{DeskState}
 use Rattle.ak_message.specs.declared.address.Address.{Address}
 use Rattle.ak_action.specs.declared.doing.Sending.TheVariants as sending
 use Rattle.ak_action.specs.Acts.{error_of}
-use Rattle.ak_action.specs.Interp.{InterpData, started, Nexted, nexted, failed, Given, next_of, give_of, MayGoOn, Answers, AnswersFind, AnswersSend, HasEnded}
+use Rattle.ak_action.specs.Interp.{started, Nexted, nexted, failed, Given, next_of, give_of, MayGoOn, Answers, AnswersFind, AnswersSend, HasEnded}
 use Rattle.ak_action.specs.Laws.{IsAsking}
 use Rattle.ak_desk.specs.declared.task.Task.{Task}
 use Rattle.ak_desk.specs.declared.task.Task.TheVariants as task
 use Rattle.ak_desk.specs.BuiltIns.{built_in_reply, built_in_quits}
 use Rattle.ak_desk.specs.Dispatch.{Dispatch, forward_reply, ran_out}
-use Rattle.ak_desk.specs.Properties.{Replied, property_replied}
+use Rattle.ak_desk.specs.Properties.{property_replied}
 use Rattle.ak_desk.specs.Replies.{none_reply, not_understood}
 
 -- ---- how a message begins

@@ -1,11 +1,7 @@
 -- What is answered is what the edit makes, unless there is no memory.
-use Rattle.std.proofs.Common.{◌≡◌, List, ℕ, ap, refl, sym, subst, ◌∙◌}
-use Rattle.ak_handler.specs.Changes.{add_fault, with_handler}
-use Rattle.ak_action.specs.declared.row.DeskRow.{DeskRow}
-use Rattle.ak_action.specs.Row.{empty_row}
+use Rattle.std.proofs.Common.{sym, subst}
 use Rattle.ak_desk.specs.declared.entry.Edit.TheVariants as edit
 use Rattle.ak_desk.specs.declared.entry.EditAnswer.{EditAnswer}
-use Rattle.ak_desk.specs.declared.entry.EditAnswer.TheVariants as answered
 use Rattle.ak_desk.specs.Machine.{EditsHandlers}
 use Rattle.ak_desk.proofs.Editing.{added_done, added_not}
 use Rattle.ak_desk.proofs.edits.added.Goals as goal

@@ -1,5 +1,5 @@
 -- What is answered is what the edit makes.
-use Rattle.std.proofs.Common.{◌≡◌, refl, sym, subst}
+use Rattle.std.proofs.Common.{refl, sym, subst}
 use Rattle.ak_handler.specs.Changes.{remove_fault}
 use Rattle.ak_desk.specs.declared.entry.Edit.TheVariants as edit
 use Rattle.ak_desk.specs.declared.entry.EditAnswer.{EditAnswer}

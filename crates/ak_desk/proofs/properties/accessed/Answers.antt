@@ -2,7 +2,6 @@
 use Rattle.std.proofs.Common.{◌≡◌, Some, None, arith}
 use Rattle.std.proofs.lemmas.Grind.{common_steps}
 use Rattle.ak_message.specs.Specifier.{at_of}
-use Rattle.ak_handler.specs.Changes.{with_content}
 use Rattle.ak_action.specs.Properties.{access_at}
 use Rattle.ak_desk.specs.Properties.{access_told, row_in}
 use Rattle.ak_desk.proofs.Accessing.{accessed_none, accessed_so}

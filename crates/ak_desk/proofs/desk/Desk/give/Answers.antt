@@ -1,13 +1,9 @@
 -- What is begun goes on by the answer.
-use Rattle.std.proofs.Common.{◌≡◌, ◌+◌, ◌<◌, ◌≤◌, List, Option, None, Some, option_map, vec_len, vec_capacity, ap, refl, subst, sym, ◌∙◌, arith}
-use Rattle.std.proofs.lemmas.Grind.{common_steps}
-use Rattle.ak_action.specs.declared.state.DeskState.{DeskState}
+use Rattle.std.proofs.Common.{◌≡◌, ◌+◌, ◌<◌, Option, Some, option_map, vec_len, vec_capacity, ap, subst, sym, ◌∙◌}
 use Rattle.ak_desk.specs.declared.desk.Begun.{Begun}
-use Rattle.ak_desk.specs.Desk.{BegunData, DeskData, DeskIsDone, DeskMayWant, DeskTakes, OfBegun}
+use Rattle.ak_desk.specs.Desk.{BegunData, DeskData, OfBegun}
 use Rattle.ak_desk.specs.DeskInside.{HasPlaces, IsBegun, Stands, begun_seen}
-use Rattle.ak_desk.specs.Line.{LineData}
-use Rattle.ak_desk.specs.Machine.{IsHistory, dispatches, gave_up}
-use Rattle.ak_desk.specs.Task.{IsDone, MayWant, TakesAnswer}
+use Rattle.ak_desk.specs.Task.{TakesAnswer}
 use Rattle.ak_desk.proofs.Standing.{given_stands}
 use Rattle.ak_desk.proofs.desk.Desk.give.Goals as goal
 

@@ -1,14 +1,10 @@
 -- The line of what is given up is one that may follow.
-use Rattle.std.proofs.Common.{◌≡◌, ◌+◌, ◌<◌, ◌≤◌, List, true, Option, None, Some, option_map, vec_len, vec_capacity, ap, refl, subst, sym, ◌∙◌, arith}
+use Rattle.std.proofs.Common.{◌≡◌, ◌+◌, true, Option, None, option_map, vec_len, vec_capacity, ap, subst, sym, ◌∙◌, arith}
 use Rattle.std.proofs.lemmas.Bool.{false≢true}
 use Rattle.std.proofs.lemmas.Grind.{common_steps}
-use Rattle.ak_action.specs.declared.state.DeskState.{DeskState}
-use Rattle.ak_desk.specs.declared.desk.Begun.{Begun}
-use Rattle.ak_desk.specs.Desk.{BegunData, DeskData, DeskIsDone, DeskMayWant, DeskTakes, OfBegun}
-use Rattle.ak_desk.specs.DeskInside.{HasPlaces, IsBegun, Stands, begun_seen}
-use Rattle.ak_desk.specs.Line.{LineData}
+use Rattle.ak_desk.specs.Desk.{BegunData, DeskData}
+use Rattle.ak_desk.specs.DeskInside.{HasPlaces, Stands, begun_seen}
 use Rattle.ak_desk.specs.Machine.{IsHistory, dispatches, gave_up}
-use Rattle.ak_desk.specs.Task.{IsDone, MayWant, TakesAnswer}
 use Rattle.ak_desk.proofs.Standing.{gave_up_now, given_up_stands}
 use Rattle.ak_desk.proofs.desk.Desk.give_up.Goals as goal
 

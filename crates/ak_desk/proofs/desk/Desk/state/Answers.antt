@@ -1,9 +1,5 @@
 -- The list leads to the handlers.
-use Rattle.std.proofs.Common.{◌≡◌, Option, None, option_map, ap, subst, sym, ◌∙◌}
-use Rattle.ak_action.specs.declared.state.DeskState.{DeskState}
-use Rattle.ak_desk.specs.Desk.{BegunData, DeskData}
-use Rattle.ak_desk.specs.DeskInside.{Stands, begun_seen, desk_inside}
-use Rattle.ak_desk.specs.Machine.{IsHistory}
+use Rattle.ak_desk.specs.DeskInside.{desk_inside}
 use Rattle.ak_desk.proofs.Standing.{history_at_rest}
 use Rattle.ak_desk.proofs.desk.Desk.state.Goals as goal
 
