@@ -5,5 +5,6 @@ pub mod Editing
 pub mod History
 pub mod MachineLaws
 pub mod Placing
+pub mod Sharing
 pub mod Standing
 pub mod Suites

@@ -2,7 +2,7 @@
 use Rattle.std.proofs.Common.{◌≡◌, ℕ, ◌+◌, ◌<◌, ◌≤◌, max, true, false, List, [], ◌∷◌, ◌++◌, Option, None, Some, Result, Ok, Err, IfOk, OnErr, length, refl, ap, subst, sym, ◌∙◌, arith}
 use Rattle.ak_flatten.specs.declared.item.Taken.{Taken}
 use Rattle.ak_action.specs.declared.state.DeskState.{DeskState}
-use Rattle.ak_desk.specs.Desk.{BegunData, DeskData, Edits, begun_at, clock_after, ended_event, line_after, stamp_in, with_line, with_task}
+use Rattle.ak_desk.specs.Desk.{BegunData, DeskData, Edits, begun_at, clock_after, ended_event, line_after, stamp_in, with_line, with_task, HasAdded, edit_entry, edited_to}
 use Rattle.ak_desk.specs.DeskInside.{IsBegun, Stands}
 use Rattle.ak_desk.specs.Line.{LineData}
 use Rattle.ak_desk.specs.Laws.{ComesToDispatch}
@@ -150,3 +150,18 @@ pub history_at_rest : (d seen : DeskData) → seen ≡ d → Stands seen.opening
 history_at_rest d seen same h none =
     subst (λ (o : Option BegunData). Stands d.opening d.lines o d.state) none
     (subst (λ (x : DeskData). Stands x.opening x.lines x.begun x.state) same h)
+
+-- ---- what an edit adds
+added_by : (d : DeskData) (clock : Clock) (e : Edit) (answer : EditAnswer) (d' : DeskData) (clock' : Clock) → answer ≡ (edit_of d.state.handlers e).answer → d' ≡ edited_to d clock e (edit_of d.state.handlers e) → clock' ≡ clock_after d clock → HasAdded (Some (event.Edited e answer)) clock clock' d d'
+added_by d clock e answer d' clock' is same c = (
+  ap (λ (x : DeskData). x.opening) same,
+  ap (λ (x : DeskData). x.lines) same ∙ ap (λ (a : EditAnswer). d.lines ++ line_after d.lines clock (event.Edited e a) None ∷ []) (sym is),
+  ap (λ (x : DeskData). x.begun) same,
+  c,
+)
+
+pub edits_add : (d : DeskData) (clock : Clock) (e : Edit) (answer : EditAnswer) (d' : DeskData) (clock' : Clock) → Edits d clock e answer d' clock' → HasAdded (edit_entry e answer) clock clock' d d'
+edits_add d clock e answered.NoMemory d' clock' h = h
+edits_add d clock e answered.Done d' clock' h = added_by d clock e answered.Done d' clock' h.0 h.1 h.2
+edits_add d clock e (answered.Token token) d' clock' h = added_by d clock e (answered.Token token) d' clock' h.0 h.1 h.2
+edits_add d clock e (answered.Refused f) d' clock' h = added_by d clock e (answered.Refused f) d' clock' h.0 h.1 h.2

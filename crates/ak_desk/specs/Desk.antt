@@ -173,3 +173,14 @@ abbrev pub Edits : DeskData → Clock → Edit → EditAnswer → DeskData → C
 Edits d clock e answered.NoMemory d' clock' = (d' ≡ d) × (clock' ≡ clock)
 Edits d clock e answer d' clock' =
     (answer ≡ (edit_of d.state.handlers e).answer) × (d' ≡ edited_to d clock e (edit_of d.state.handlers e)) × (clock' ≡ clock_after d clock)
+
+-- the entry that an edit's answer tells; none without memory
+abbrev pub edit_entry : Edit → EditAnswer → Option DeskEvent
+edit_entry e answered.NoMemory = None
+edit_entry e answer = Some (event.Edited e answer)
+
+-- one line more of no message, or none
+abbrev pub HasAdded : Option DeskEvent → Clock → Clock → DeskData → DeskData → Type 0
+HasAdded (Some e) clock clock' d d' =
+    (d'.opening ≡ d.opening) × (d'.lines ≡ d.lines ++ line_after d.lines clock e None ∷ []) × (d'.begun ≡ d.begun) × (clock' ≡ clock_after d clock)
+HasAdded None clock clock' d d' = (d' ≡ d) × (clock' ≡ clock)

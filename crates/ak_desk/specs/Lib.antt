@@ -9,4 +9,5 @@ pub mod Machine
 pub mod Place
 pub mod Properties
 pub mod Replies
+pub mod Shared
 pub mod Task

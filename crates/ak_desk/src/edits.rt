@@ -12,7 +12,7 @@ use ak_turn::Clock;
 use std::alloc::Global;
 
 impl Desk {
-    ghost use Rattle.ak_desk.specs.Desk.{Edits};
+    ghost use Rattle.ak_desk.specs.Desk.{Edits, HasAdded, edit_entry};
 
     /// Changes the handlers, where nothing is begun: a new one that holds nothing, one less, another next
     /// handler, another preferred one. A refusal changes nothing and is an entry too; `NoMemory` adds none.
@@ -20,7 +20,8 @@ impl Desk {
         requires rest { self.old.begun ≡ None }
         requires time { clock.old.time < 2 ^ 63 }
         requires last { stamp_in self.old.lines < 2 ^ 63 }
-        ensures { Edits self.old clock.old e result self.new clock.new }
+        ensures edits { Edits self.old clock.old e result self.new clock.new }
+        ensures added { HasAdded (edit_entry e result) clock.old clock.new self.old self.new }
     {
         if self.lines.reserve(2).is_err() {
             return EditAnswer::NoMemory;

@@ -16,9 +16,11 @@ mod made;
 mod properties;
 mod replies;
 mod reserved;
+mod shared;
 mod task;
 
 pub use desk::Desk;
 pub use entry::{DeskEntry, DeskEvent, DeskLine, Edit, EditAnswer, EntryRoute};
 pub use laws::{a_dispatch_comes_as_told, the_list_tells_the_handlers};
 pub use made::Made;
+pub use shared::edit_shared;

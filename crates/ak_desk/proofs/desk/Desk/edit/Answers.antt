@@ -5,7 +5,7 @@ use Rattle.ak_desk.specs.declared.entry.DeskEvent.TheVariants as event
 use Rattle.ak_desk.specs.Desk.{BegunData, DeskData, clock_after, line_after}
 use Rattle.ak_desk.specs.DeskInside.{HasPlaces, begun_seen, desk_inside}
 use Rattle.ak_desk.specs.Machine.{is_no_memory}
-use Rattle.ak_desk.proofs.Standing.{edit_stands, edit_told_of, kept_stands, none_told_of}
+use Rattle.ak_desk.proofs.Standing.{edits_add, edit_stands, edit_told_of, kept_stands, none_told_of}
 use Rattle.ak_desk.proofs.desk.Desk.edit.Goals as goal
 
 pub invariant_of-self-then-is_no_memory : goal.invariant_of-self-then-is_no_memory
@@ -18,8 +18,8 @@ invariant_of-self-then-is_no_memory c =
       places = subst (λ (o : Option BegunData). HasPlaces c.reserve.new.self.items o (vec_len c.reserve.new.self) (vec_capacity c.reserve.new.self)) (sym none) (λ _. room);
     }
 
-pub returns-then-is_no_memory : goal.returns-then-is_no_memory
-returns-then-is_no_memory c =
+pub returns-then-is_no_memory-clause-edits : goal.returns-then-is_no_memory-clause-edits
+returns-then-is_no_memory-clause-edits c =
     let without : is_no_memory c.changed-answer.result ≡ true = grind (arith, common_steps) in
     none_told_of c.args.self.now (desk_inside c.self.inside) c.self.view_is c.args.clock.now c.args.e c.changed-answer.result c.changed-answer.new.handlers _ _ c.reserve.new.self.items c.changed-answer.ensures without c.reserve.ensures.items
 
@@ -34,9 +34,15 @@ invariant_of-self-2 c =
       places = subst (λ (o : Option BegunData). HasPlaces c.add.new.lines.items o (vec_len c.add.new.lines) (vec_capacity c.add.new.lines)) (sym none) (λ _. room);
     }
 
-pub returns : goal.returns
-returns c =
+pub returns-clause-edits : goal.returns-clause-edits
+returns-clause-edits c =
     let other : is_no_memory c.changed-answer.result ≡ false = grind (arith, common_steps) in
     let grown : c.add.new.lines.items ≡ c.self.inside.lines.items ++ line_after c.self.inside.lines.items c.args.clock.now (event.Edited c.args.e c.changed-answer.result) None ∷ [] = grind (arith, common_steps) in
     let clock : c.add.new.clock ≡ clock_after (desk_inside c.self.inside) c.args.clock.now = grind (arith, common_steps) in
     edit_told_of c.args.self.now (desk_inside c.self.inside) c.self.view_is c.args.clock.now c.args.e c.changed-answer.result c.changed-answer.new.handlers _ _ c.add.new.lines.items c.changed-answer.ensures c.add.new.clock other grown clock
+
+pub returns-then-is_no_memory-clause-added : goal.returns-then-is_no_memory-clause-added
+returns-then-is_no_memory-clause-added c = edits_add c.args.self.now c.args.clock.now c.args.e c.changed-answer.result _ _ (returns-then-is_no_memory-clause-edits c)
+
+pub returns-clause-added : goal.returns-clause-added
+returns-clause-added c = edits_add c.args.self.now c.args.clock.now c.args.e c.changed-answer.result _ _ (returns-clause-edits c)
