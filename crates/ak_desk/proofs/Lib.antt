@@ -1,2 +1,10 @@
-pub mod Answered
-pub mod Nested
+pub mod Accessing
+pub mod AtOnce
+pub mod Coming
+pub mod Editing
+pub mod History
+pub mod MachineLaws
+pub mod Placing
+pub mod Sharing
+pub mod Standing
+pub mod Suites

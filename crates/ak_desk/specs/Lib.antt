@@ -1,5 +1,13 @@
+pub mod BuiltIns
 pub mod Desk
+pub mod DeskCode
+pub mod DeskInside
+pub mod Dispatch
 pub mod Laws
-pub mod Messages
+pub mod Line
+pub mod Machine
+pub mod Place
+pub mod Properties
 pub mod Replies
-pub mod Rows
+pub mod Shared
+pub mod Task

@@ -1,48 +1,67 @@
--- The reply that a desk with these properties makes for a message.
-use Rattle.std.specs.Prelude.{ℕ, ℤ, ◌==◌, Bool, true, false, List, codes, Option, Some, None, Result, Ok, Err, option_and_then, if◌then◌else◌}
+-- The replies that a looper makes.
+use Rattle.std.specs.Prelude.{◌≡◌, ℕ, List, [], ◌∷◌, ◌++◌, if◌then◌else◌, is_some, codes, Option, None, Some}
 use Rattle.ak_base.specs.Code.{code_of}
-use Rattle.ak_message.specs.declared.kind.Kind.TheVariants as k
-use Rattle.ak_message.specs.declared.fault.FindFault.{FindFault}
-use Rattle.ak_message.specs.Message.{ValueData, MessageData, text_value, message_value, message_of_nested}
-use Rattle.ak_message.specs.Fields.{found_in}
-use Rattle.ak_desk.specs.Messages.{value_reply, no_reply, not_understood}
-use Rattle.ak_desk.specs.Rows.{value_of_row}
+use Rattle.ak_base.specs.declared.error.KitError.{KitError}
+use Rattle.ak_base.specs.declared.error.KitError.TheVariants as error
+use Rattle.ak_base.specs.Error.{number_of}
+use Rattle.ak_message.specs.Fields.{add_fault, added, new_field}
+use Rattle.ak_message.specs.Message.{ValueData, FieldData, MessageData, int32_value}
+use Rattle.ak_value.specs.declared.fault.ElementFault.{ElementFault}
+use Rattle.ak_value.specs.declared.fault.ElementFault.TheVariants as fault
 
--- the text that was found
-abbrev pub text_found : Result ValueData FindFault → Option (List ℕ)
-text_found (Ok (text_value text)) = Some text
-text_found _ = None
+-- a message of this code without fields
+abbrev pub bare : List ℕ → MessageData
+bare letters = record { what = code_of letters; fields = []; popped = 0 }
 
--- the message that was found
-abbrev pub message_found : Result ValueData FindFault → Option MessageData
-message_found (Ok (message_value what nested popped)) = Some (message_of_nested what nested popped)
-message_found _ = None
+-- nothing was replied
+abbrev pub none_reply : MessageData
+none_reply = bare (codes "NONE")
 
-abbrev pub is_missing : Result ValueData FindFault → Bool
-is_missing (Ok _) = false
-is_missing (Err _) = true
+abbrev pub not_understood : MessageData
+not_understood = bare (codes "MNOT")
 
--- the specifier at that place
-abbrev pub specifier_at : MessageData → ℕ → Result ValueData FindFault
-specifier_at m index = found_in m.fields (codes "specifiers") k.Message index
+abbrev pub reply_with : List FieldData → MessageData
+reply_with fields = record { what = code_of (codes "RPLY"); fields = fields; popped = 0 }
 
--- the one specifier of a message
-abbrev pub one_specifier : MessageData → Option MessageData
-one_specifier m = if is_missing (specifier_at m 1) then message_found (specifier_at m 0) else None
+abbrev pub error_field : KitError → FieldData
+error_field e = new_field (codes "error") (int32_value (number_of e))
 
--- the property of a direct specifier, whose code is 1
-abbrev pub property_of : MessageData → Option (List ℕ)
-property_of specifier = if specifier.what == 1 then text_found (found_in specifier.fields (codes "property") k.Text 0) else None
+-- the error alone
+abbrev pub error_reply : KitError → MessageData
+error_reply e = reply_with (error_field e ∷ [])
 
--- the property that a message gets: it has one specifier, and that is the direct one of the property
-abbrev pub property_asked : MessageData → Option (List ℕ)
-property_asked m = if m.what == code_of (codes "PGET") then option_and_then property_of (one_specifier m) else None
+-- ---- the field `result`
+-- a value more, where a message can hold it
+abbrev pub with_value : List FieldData → ValueData → List FieldData
+with_value fields v = if is_some (add_fault fields (codes "result") v) then fields else added fields (codes "result") v
 
--- the reply with a value, or that the message is not understood
-abbrev pub answer : Option ℤ → MessageData
-answer None = not_understood
-answer (Some n) = value_reply n
+abbrev pub with_values : List FieldData → List ValueData → List FieldData
+with_values fields [] = fields
+with_values fields (v ∷ vs) = with_values (with_value fields v) vs
 
--- the message that a looper gets first makes no reply, and a property that is there is answered with its value
-abbrev pub first_reply : List (List ℕ × ℤ) → MessageData → MessageData
-first_reply rows m = if m.what == code_of (codes "_RTR") then no_reply else answer (option_and_then (value_of_row rows) (property_asked m))
+-- at most the field `result`
+abbrev pub ResultAlone : List FieldData → Type 0
+ResultAlone [] = Unit {0}
+ResultAlone (f ∷ []) = f.name ≡ codes "result"
+ResultAlone (f ∷ (g ∷ fs)) = ⊥
+
+abbrev pub listed : Option (List ValueData) → List ValueData
+listed None = []
+listed (Some vs) = vs
+
+-- the values, and that all is well
+abbrev pub values_reply : Option (List ValueData) → MessageData
+values_reply values = reply_with (with_values [] (listed values) ++ error_field error.Ok ∷ [])
+
+abbrev pub value_reply : ValueData → MessageData
+value_reply v = reply_with (new_field (codes "result") v ∷ error_field error.Ok ∷ [])
+
+-- the error that tells a refused command on elements
+abbrev pub error_of_fault : ElementFault → KitError
+error_of_fault fault.BadScript = error.BadScriptSyntax
+error_of_fault fault.BadValue = error.BadValue
+error_of_fault fault.BadType = error.BadType
+error_of_fault fault.NameNotFound = error.NameNotFound
+error_of_fault fault.BadIndex = error.BadIndex
+error_of_fault fault.ElementLimit = error.Limit
+error_of_fault fault.NoMemory = error.NoMemory

@@ -1,278 +1,209 @@
-ghost use Rattle.std.specs.Prelude.{◌≡◌, ◌≤◌, [], ◌∷◌, ◌++◌, length, true, IfOk, OnOk, OnErr, option_and_then};
-ghost use Rattle.std.specs.Option.{option_map};
-ghost use Rattle.ak_desk.specs.Rows.{names_differ, IsRows, value_of_row};
-ghost use Rattle.ak_desk.specs.Replies.{first_reply, property_asked, property_of, one_specifier, message_found, specifier_at};
-ghost use Rattle.ak_desk.specs.Desk.{dispatched};
+ghost use Rattle.std.specs.Prelude.{◌≡◌, ◌+◌, ◌<◌, ◌^◌, None, Some, ℕ, IfOk, OnErr, OnOk};
+ghost use Rattle.ak_action.specs.declared.state.DeskState.{DeskState};
+ghost use Rattle.ak_flatten.specs.Item.{ItemData, message_of};
+ghost use Rattle.ak_route.specs.declared.outcome.Route.{Route};
+ghost use Rattle.ak_route.specs.declared.outcome.Route.TheVariants as route;
+ghost use Rattle.ak_desk.specs.Desk.{begun_at};
+ghost use Rattle.ak_desk.specs.DeskInside.{begun_seen};
+ghost use Rattle.ak_desk.specs.Dispatch.{entry_route};
+ghost use Rattle.ak_desk.specs.Place.{loopers_of, routed_of};
 
-use crate::messages::value_message;
-use ak_base::{Code, Items, NoMemory, Text};
-use ak_message::{Kind, Message, Value};
+use crate::built_in::is_own;
+use crate::entry::{DeskLine, EntryRoute};
+use crate::reserved::{Spare, WordRoom};
+use crate::task::Task;
+use ak_action::{Answer, DeskState, LooperPlan, Want};
+use ak_base::{Items, NoMemory, Text};
+use ak_flatten::{Item, Taken};
+use ak_message::Message;
+use ak_route::{Place, Route, route};
 use std::alloc::Global;
 use std::marker::Model;
+use std::snapshot::Snapshot;
 
-/// One message that was dispatched: its position, counted from 0, and the reply that was made for it.
+// A message that is being carried out, and what its end needs.
 #[derive(Drop)]
-pub struct FirstEntry {
-    pub position: u64,
-    pub message: Message,
-    pub reply: Message,
+pub(crate) struct Begun {
+    pub(crate) position: u64,
+    pub(crate) route: EntryRoute,
+    pub(crate) task: Task,
+    pub(crate) room: WordRoom,
+    pub(crate) spare: Spare,
+    pub(crate) item: Snapshot<Item>,
+    // The state in which it began.
+    pub(crate) before: Snapshot<DeskState>,
 }
 
-/// The properties of one looper and all that was dispatched on it, in order.
+/// The handlers of one looper, and the list of all that was done on them. At rest the list makes the state
+/// of the opening. Messages are carried out by the looper's own thread, one at a time: `begin`, then `want`
+/// and `give` in turn, then `end`.
 #[derive(Drop)]
 pub struct Desk {
-    rows: Vec<(Text, i32)>,
-    entries: Vec<FirstEntry>,
+    pub(crate) state: DeskState,
+    pub(crate) lines: Vec<DeskLine>,
+    pub(crate) begun: Option<Begun>,
+    opening: Snapshot<DeskState>,
 }
 
 impl Model for Desk {
-    ghost use Rattle.ak_desk.specs.Desk.{DeskData, IsDesk, coded_desk};
+    ghost use Rattle.ak_desk.specs.Desk.{DeskData};
+    ghost use Rattle.ak_desk.specs.DeskCode.{coded_desk};
+    ghost use Rattle.ak_desk.specs.DeskInside.{desk_inside, IsSound};
 
     ghost Value = { DeskData };
 
     ghost coded = { coded_desk };
 
-    ghost view = { λ d. record { rows = d.rows.items; entries = d.entries.items } };
+    ghost view = { desk_inside };
 
-    ghost invariant = { λ d. IsDesk (record { rows = d.rows.items; entries = d.entries.items }) };
+    ghost invariant = { IsSound };
 }
 
 impl Desk {
-    /// A desk with these properties, on which nothing was dispatched.
-    pub fn first(alloc: Global, rows: Vec<(Text, i32)>) -> Result<Desk, NoMemory>
-        requires { IsRows rows.items }
-        ensures rows { IfOk result (λ d. d.rows ≡ rows.items) }
-        ensures entries { IfOk result (λ d. d.entries ≡ []) }
+    ghost use Rattle.ak_desk.specs.Desk.{opened, begun_with, given_to, wanted_next, desk_wants, desk_wants_none, place_at, DeskAwaits, DeskIsDone, DeskMayWant, DeskTakes};
+    ghost use Rattle.ak_action.specs.Opening.{FitsPlace, Opens};
+    ghost use Rattle.ak_desk.specs.Machine.{IsHistory, dispatches};
+
+    /// The desk of the looper of the plan, on which nothing was done: the looper has that number, its team has
+    /// that one, and these are the names of the application's loopers, of which the first has the number
+    /// `first`.
+    pub fn from_plan(
+        alloc: Global,
+        plan: LooperPlan,
+        looper: u32,
+        team: u32,
+        first: u32,
+        names: Items<Text>,
+    ) -> Result<Desk, NoMemory>
+        requires { FitsPlace plan looper first names }
+        ensures opening { IfOk result (λ d. Opens plan looper team first names d.opening) }
+        ensures opened { IfOk result (λ d. d ≡ opened d.opening) }
+    {
+        let state = DeskState::from_plan(alloc, plan, looper, team, first, names)?;
+        Desk::open(alloc, state)
+    }
+
+    /// A desk that begins in that state, on which nothing was done.
+    pub(crate) fn open(alloc: Global, state: DeskState) -> Result<Desk, NoMemory>
+        ensures { IfOk result (λ d. d ≡ opened state) }
     {
         Ok(Desk {
-            rows,
-            entries: Vec::with_capacity(alloc, 1)?,
+            opening: Snapshot::of(&state),
+            state,
+            lines: Vec::with_capacity(alloc, 1)?,
+            begun: None,
         })
     }
 
-    /// Dispatches a message: adds its entry at the next position, and answers the reply. An `Err`
+    /// The handlers as they are. While nothing is begun, they are what the list makes of the opening.
+    pub fn state(&self) -> &DeskState
+        ensures value { result.now ≡ self.now.state }
+        ensures history { self.now.begun ≡ None → IsHistory self.now.opening self.now.lines self.now.state }
+    {
+        &self.state
+    }
+
+    /// Begins the message that was taken: it is routed, and all is reserved that its end needs. An `Err`
     /// changes nothing.
-    pub fn dispatch(&mut self, message: Message) -> Result<Message, NoMemory>
-        ensures reply { IfOk result (λ reply. reply ≡ first_reply self.old.rows message) }
-        ensures ok { OnOk result (self.new ≡ dispatched self.old message) }
+    pub fn begin(&mut self, taken: &Taken) -> Result<(), NoMemory>
+        requires rest { self.old.begun ≡ None }
+        requires position { taken.now.position ≡ dispatches self.old.lines }
+        ensures ok { OnOk result (self.new ≡ begun_with self.old taken.now) }
+        ensures goes_on { OnOk result (DeskMayWant self.new) }
         ensures err { OnErr result (self.new ≡ self.old) }
     {
-        let kept = self.reply_to(&message)?;
-        let reply = self.reply_to(&message)?;
-        let position = self.entries.len() as u64;
-        self.entries.push(FirstEntry {
-            position,
-            message,
-            reply: kept,
-        })?;
-        Ok(reply)
+        let begun = begun_at(*self.lines.allocator(), &self.state, taken)?;
+        self.lines.reserve(2)?;
+        self.begun = Some(begun);
+        Ok(())
     }
 
-    fn reply_to(&self, message: &Message) -> Result<Message, NoMemory>
-        ensures { IfOk result (λ reply. reply ≡ first_reply self.now.rows message.now) }
+    /// Goes on with the message that is begun until something is wanted from outside, which is answered;
+    /// `Done` where nothing is left to do. Where there is no memory, the last word is that, nothing more is
+    /// done, and what was done before stays.
+    pub fn want(&mut self) -> Result<Want, NoMemory>
+        requires { DeskMayWant self.old }
+        ensures ok { IfOk result (λ w. wanted_next None self.old ≡ desk_wants w self.new) }
+        ensures err { OnErr result (wanted_next (Some (place_at self.new.begun)) self.old ≡ desk_wants_none self.new) }
+        ensures awaits { IfOk result (λ w. DeskAwaits w self.new) }
+        ensures ends { OnErr result (DeskIsDone self.new) }
     {
-        let alloc = *self.rows.allocator();
-        if message.what() == Code::READY_TO_RUN {
-            return Ok(Message::new(alloc, Code::NO_REPLY));
+        let alloc = *self.lines.allocator();
+        if let Some(begun) = &mut self.begun {
+            return begun.task.want(alloc, &mut self.state);
         }
-        match self.value_asked(message) {
-            Some(value) => value_message(alloc, value),
-            None => Ok(Message::new(alloc, Code::NOT_UNDERSTOOD)),
+        Ok(Want::Done)
+    }
+
+    /// Hands it the answer to the last want. Takes no memory.
+    pub fn give(&mut self, a: Answer)
+        requires { DeskTakes self.old a }
+        ensures given { self.new ≡ given_to self.old a }
+        ensures goes_on { DeskMayWant self.new }
+    {
+        let alloc = *self.lines.allocator();
+        if let Some(begun) = &mut self.begun {
+            begun.task.give(alloc, &mut self.state, a);
         }
-    }
-
-    fn value_asked(&self, message: &Message) -> Option<i32>
-        ensures { result ≡ option_and_then (value_of_row self.now.rows) (property_asked message.now) }
-    {
-        value_of_row(&self.rows, property_asked(message)?)
-    }
-
-    /// Gives the properties and the entries back. Takes no memory.
-    pub fn into_parts(self) -> (Items<(Text, i32)>, Items<FirstEntry>)
-        ensures rows { result.0 ≡ self.rows }
-        ensures entries { result.1 ≡ self.entries }
-    {
-        let Desk { rows, entries } = self;
-        (Items::from_vec(rows), Items::from_vec(entries))
     }
 }
 
-fn value_of_row(rows: &[(Text, i32)], name: &[u8]) -> Option<i32>
-    ensures { result ≡ value_of_row rows.now name.now }
+fn begun_at(alloc: Global, state: &DeskState, taken: &Taken) -> Result<Begun, NoMemory>
+    ensures { IfOk result (λ b. begun_seen b ≡ begun_at state.now taken.now) }
 {
-    rows.iter()
-        .find(|row| row.0.as_bytes() == name)
-        .map(|row| row.1)
+    let mut message = taken.item.message(alloc)?;
+    let route = routed(state, &taken.item, &mut message);
+    Ok(Begun {
+        position: taken.position,
+        route: entry_route(state, route),
+        task: Task::start(alloc, state.first, message, route)?,
+        room: WordRoom::new(alloc)?,
+        spare: Spare::new(alloc)?,
+        item: Snapshot::of(&taken.item),
+        before: Snapshot::of(state),
+    })
 }
 
-// The property that the message gets, where it has one specifier and that is the direct one of a property.
-fn property_asked(message: &Message) -> Option<&[u8]>
-    ensures { option_map (λ x. x.now) result ≡ property_asked message.now }
+// Where the message of the item goes.
+fn routed(state: &DeskState, item: &Item, message: &mut Message) -> Route
+    requires { message.old ≡ message_of item.now }
+    ensures routed { record { route = result; message = message.new } ≡ routed_of state.now item.now }
+    ensures forward { (looper : ℕ) → result ≡ route.Forward looper → state.now.first + looper < 2 ^ 32 }
 {
-    if message.what() == Code::GET {
-        property_of(one_specifier(message)?)
+    ak_route::forwards_are_to_later_loopers();
+    let local = item.team() == state.team;
+    let place = place_of(state);
+    route(
+        &state.handlers,
+        &state.common,
+        message,
+        local,
+        item.dropped(),
+        item.target(),
+        &place,
+    )
+}
+
+fn place_of(state: &DeskState) -> Place<'_>
+    ensures { result ≡ loopers_of state.now }
+{
+    if is_own(state) {
+        Place::own(state.names.as_slice())
     } else {
-        None
+        Place::other()
     }
 }
 
-fn one_specifier(message: &Message) -> Option<&Message>
-    ensures { option_map (λ x. x.now) result ≡ one_specifier message.now }
+// The route as an entry tells it.
+fn entry_route(state: &DeskState, route: Route) -> EntryRoute
+    requires { (looper : ℕ) → route ≡ Route.Forward looper → state.now.first + looper < 2 ^ 32 }
+    ensures { result ≡ entry_route state.now route }
 {
-    if message.find(b"specifiers", Kind::Message, 1).is_ok() {
-        None
-    } else {
-        first_specifier(message)
-    }
-}
-
-fn first_specifier(message: &Message) -> Option<&Message>
-    ensures { option_map (λ x. x.now) result ≡ message_found (specifier_at message.now 0) }
-{
-    match message.find(b"specifiers", Kind::Message, 0) {
-        Ok(Value::Message(specifier)) => Some(specifier),
-        _ => None,
-    }
-}
-
-fn property_of(specifier: &Message) -> Option<&[u8]>
-    ensures { option_map (λ x. x.now) result ≡ property_of specifier.now }
-{
-    if specifier.what() != Code(1) {
-        return None;
-    }
-    match specifier.find(b"property", Kind::Text, 0) {
-        Ok(Value::Text(text)) => Some(text.as_bytes()),
-        _ => None,
-    }
-}
-
-#[cfg(test)]
-mod tests {
-    use super::*;
-    use crate::messages::{get_message, ready_message};
-    use std::test::Fail;
-
-    // The code of a reply, and its numbers where it has them.
-    type Said = (Code, Option<i32>, Option<i32>);
-
-    const NOTHING: Said = (Code::NO_REPLY, None, None);
-
-    const NOT_UNDERSTOOD: Said = (Code::NOT_UNDERSTOOD, None, None);
-
-    fn value(n: i32) -> Said {
-        (Code::REPLY, Some(n), Some(0))
-    }
-
-    fn number(message: &Message, name: &[u8]) -> Option<i32> {
-        match message.find(name, Kind::Int32, 0) {
-            Ok(Value::Int32(n)) => Some(*n),
-            _ => None,
-        }
-    }
-
-    fn said(reply: &Message) -> Said {
-        (
-            reply.what(),
-            number(reply, b"result"),
-            number(reply, b"error"),
-        )
-    }
-
-    fn two_rows(alloc: Global) -> Result<Desk, Fail> {
-        let count = Text::from_bytes(alloc, b"Count")?;
-        let neg = Text::from_bytes(alloc, b"Neg")?;
-        Ok(Desk::first(alloc, vec![in alloc; (count, 3), (neg, -7)]?)?)
-    }
-
-    fn get(alloc: Global, property: &[u8]) -> Result<Message, Fail> {
-        Ok(get_message(alloc, Text::from_bytes(alloc, property)?)?)
-    }
-
-    // A specifier of this code, with the property `Count`.
-    fn specifier(alloc: Global, form: u32) -> Result<Message, Fail> {
-        let mut specifier = Message::new(alloc, Code(form));
-        specifier.add(b"property", Value::Text(Text::from_bytes(alloc, b"Count")?))?;
-        Ok(specifier)
-    }
-
-    // A message with specifiers of these codes.
-    fn specified(alloc: Global, what: Code, forms: &[u32]) -> Result<Message, Fail> {
-        let mut message = Message::new(alloc, what);
-        for form in forms {
-            let specifier = Box::new(alloc, specifier(alloc, *form)?)?;
-            message.add(b"specifiers", Value::Message(specifier))?;
-        }
-        Ok(message)
-    }
-
-    #[test]
-    fn answers_what_is_got(rt: HostRuntime) -> Result<(), Fail> {
-        let mut desk = two_rows(rt.alloc())?;
-        let ready = desk.dispatch(ready_message(rt.alloc()))?;
-        assert_eq!(rt; said(&ready), NOTHING);
-        let asked: [(&[u8], Said); 3] = [
-            (b"Count", value(3)),
-            (b"Neg", value(-7)),
-            (b"Nothing", NOT_UNDERSTOOD),
-        ];
-        for (property, wanted) in asked {
-            let reply = desk.dispatch(get(rt.alloc(), property)?)?;
-            assert_eq!(rt; said(&reply), wanted, "at {property:?}");
-        }
-        Ok(())
-    }
-
-    #[test]
-    fn answers_other_messages(rt: HostRuntime) -> Result<(), Fail> {
-        let mut desk = two_rows(rt.alloc())?;
-        let ping = Code(0x7069_6E67);
-        let sent: [(Code, &[u32], Said); 5] = [
-            (Code::GET, &[1], value(3)),
-            (Code::GET, &[1, 1], NOT_UNDERSTOOD),
-            (Code::GET, &[2], NOT_UNDERSTOOD),
-            (Code::GET, &[], NOT_UNDERSTOOD),
-            (ping, &[1], NOT_UNDERSTOOD),
-        ];
-        for (what, forms, wanted) in sent {
-            let reply = desk.dispatch(specified(rt.alloc(), what, forms)?)?;
-            assert_eq!(rt; said(&reply), wanted, "at {forms:?}");
-        }
-        Ok(())
-    }
-
-    #[test]
-    fn gives_its_parts_back(rt: HostRuntime) -> Result<(), Fail> {
-        let mut desk = two_rows(rt.alloc())?;
-        let _ready = desk.dispatch(ready_message(rt.alloc()))?;
-        let _value = desk.dispatch(get(rt.alloc(), b"Neg")?)?;
-        let (rows, entries) = desk.into_parts();
-        let wanted_rows = [("Count", 3), ("Neg", -7)];
-        assert_eq!(rt; rows.as_slice().len(), 2);
-        for (row, (name, value)) in rows.as_slice().iter().zip(wanted_rows) {
-            assert_eq!(rt; row.0.as_str(), name);
-            assert_eq!(rt; row.1, value);
-        }
-        let wanted_entries = [(Code::READY_TO_RUN, NOTHING), (Code::GET, value(-7))];
-        assert_eq!(rt; entries.as_slice().len(), 2);
-        for (i, entry) in entries.as_slice().iter().enumerate() {
-            assert_eq!(rt; entry.position, i as u64);
-            assert_eq!(rt;
-                wanted_entries.get(i),
-                Some(&(entry.message.what(), said(&entry.reply)))
-            );
-        }
-        Ok(())
-    }
-
-    #[test]
-    fn has_no_properties(rt: HostRuntime) -> Result<(), Fail> {
-        let mut desk = Desk::first(rt.alloc(), Vec::new(rt.alloc()))?;
-        let reply = desk.dispatch(get(rt.alloc(), b"Count")?)?;
-        assert_eq!(rt; said(&reply), NOT_UNDERSTOOD);
-        let (rows, entries) = desk.into_parts();
-        assert_eq!(rt; rows.as_slice().len(), 0);
-        assert_eq!(rt; entries.as_slice().len(), 1);
-        Ok(())
+    match route {
+        Route::Deliver { token, .. } => EntryRoute::To(token),
+        Route::Skipped => EntryRoute::Skipped,
+        Route::Dropped => EntryRoute::Dropped,
+        Route::NotUnderstood => EntryRoute::NotUnderstood,
+        Route::Forward { looper } => EntryRoute::Forward(state.first + looper),
     }
 }

@@ -1,12 +1,26 @@
-//! The desk of one looper: its properties with their values, and the list of all that was dispatched on
-//! it, each message with its position and its reply. A property that is asked for is answered with its
-//! value, the message that a looper gets first makes no reply, and every other message is not understood.
+//! The desk of one looper: its handlers with all that they hold, and the list of all that was done on it,
+//! each message with where it went, the words of its answers and whether the looper was to end, and each
+//! change of its handlers with its answer. The list tells the handlers: they are what it makes of the plan.
+//! A message is carried out step by step; the desk asks for one answer from outside at a time. Nothing here
+//! waits, and nothing is shared.
 #![tactic(auto)]
 
+mod book;
+mod built_in;
 mod desk;
+mod edits;
+mod ending;
+mod entry;
 mod laws;
-mod messages;
+mod made;
+mod properties;
+mod replies;
+mod reserved;
+mod shared;
+mod task;
 
-pub use desk::{Desk, FirstEntry};
-pub use laws::{each_property_is_answered, no_other_is_answered};
-pub use messages::{get_message, ready_message};
+pub use desk::Desk;
+pub use entry::{DeskEntry, DeskEvent, DeskLine, Edit, EditAnswer, EntryRoute};
+pub use laws::{a_dispatch_comes_as_told, the_list_tells_the_handlers};
+pub use made::Made;
+pub use shared::edit_shared;

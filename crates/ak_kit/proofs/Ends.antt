@@ -4,7 +4,7 @@ use Rattle.std.proofs.lemmas.List.{append-nil, map-append, take_all}
 use Rattle.std.specs.Io.KnownBytes.{Appends}
 use Rattle.ak_outside.specs.Sink.{AppendsPart}
 use Rattle.ak_outside.proofs.Joins.{Appends-joined}
-use Rattle.ak_desk.specs.declared.desk.FirstEntry.{FirstEntry}
+use Rattle.first_desk.specs.declared.desk.FirstEntry.{FirstEntry}
 use Rattle.ak_kit.specs.Run.{Step, steps_of, entries_of, text_of}
 use Rattle.ak_kit.specs.Steps.{IsFrontOf, MadeBy, Progress, IsCut, IsStopped, Carries}
 use Rattle.ak_base.specs.declared.ending.Ending.TheVariants as ending

@@ -2,7 +2,7 @@
 use Rattle.std.proofs.Common.{◌≡◌, ℕ, ℤ, ◌≤◌, List, length, Option, Some, None, Result, Ok, Err, refl, sym, ap, ◌∙◌, subst}
 use Rattle.std.specs.Prelude.{IfOk, IsErrOf}
 use Rattle.std.specs.Option.{option_map}
-use Rattle.ak_desk.specs.Rows.{IsRows}
+use Rattle.first_desk.specs.Rows.{IsRows}
 use Rattle.ak_kit.specs.declared.fault.ScriptFault.{ScriptFault}
 use Rattle.ak_kit.specs.declared.fault.ScriptFault.TheVariants as fault
 use Rattle.ak_kit.specs.declared.script.FirstScript.{FirstScript}

@@ -8,11 +8,11 @@ use Rattle.std.proofs.lemmas.Bool.Decides.{nat_tests}
 use Rattle.std.proofs.lemmas.List.{append-nil}
 use Rattle.std.proofs.lemmas.List.Sums.{sum_by-append}
 use Rattle.ak_base.specs.Code.{code_text}
-use Rattle.ak_desk.specs.declared.desk.FirstEntry.{FirstEntry}
-use Rattle.ak_desk.specs.Desk.{entry_of}
-use Rattle.ak_desk.specs.Messages.{get_of, ready_to_run, no_reply}
-use Rattle.ak_desk.specs.Replies.{first_reply, answer}
-use Rattle.ak_desk.specs.Rows.{value_of_row}
+use Rattle.first_desk.specs.declared.desk.FirstEntry.{FirstEntry}
+use Rattle.first_desk.specs.Desk.{entry_of}
+use Rattle.first_desk.specs.Messages.{get_of, ready_to_run, no_reply}
+use Rattle.first_desk.specs.Replies.{first_reply, answer}
+use Rattle.first_desk.specs.Rows.{value_of_row}
 use Rattle.ak_kit.specs.Run.{hey_step, hey_steps, steps_of, entries_of, text_of, reply_text_line}
 use Rattle.ak_kit.specs.Laws.{reply_words, AreLines, StepsMatch}
 

@@ -5,7 +5,7 @@ use Rattle.std.specs.Int.{w32}
 use Rattle.std.specs.Str.{bytes_eq}
 use Rattle.std.specs.Fmt.{decimal, signed_decimal}
 use Rattle.ak_base.specs.Word.{is_word}
-pub use Rattle.ak_desk.specs.Rows.{names_differ}
+pub use Rattle.first_desk.specs.Rows.{names_differ}
 
 -- what such an input says
 pub record Script : Type 0 where

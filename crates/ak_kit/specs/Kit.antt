@@ -4,7 +4,7 @@ use Rattle.std.specs.Io.KnownBytes.{Appends, Consumes, IsAtEnd}
 use Rattle.ak_base.specs.declared.ending.Ending.{Ending}
 use Rattle.ak_base.specs.declared.ending.Ending.TheVariants as ending
 use Rattle.ak_base.specs.declared.ending.RefusalKind.TheVariants as kind
-use Rattle.ak_desk.specs.declared.desk.FirstEntry.{FirstEntry}
+use Rattle.first_desk.specs.declared.desk.FirstEntry.{FirstEntry}
 use Rattle.ak_kit.specs.declared.stopped.Stopped.{Stopped}
 use Rattle.ak_kit.specs.declared.stopped.Stopped.TheVariants as stop
 use Rattle.ak_kit.specs.declared.top.FirstRun.{FirstRun}

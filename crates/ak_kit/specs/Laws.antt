@@ -2,10 +2,10 @@
 use Rattle.std.specs.Prelude.{◌≡◌, ℕ, ℤ, ◌+◌, ◌++◌, ◌==◌, List, [], ◌∷◌, length, map, codes, Option, Some, None, All, count_by}
 use Rattle.std.specs.List.{flat_map, slice_get}
 use Rattle.std.specs.Fmt.{signed_decimal}
-use Rattle.ak_desk.specs.declared.desk.FirstEntry.{FirstEntry}
-use Rattle.ak_desk.specs.Messages.{get_of, ready_to_run, no_reply}
-use Rattle.ak_desk.specs.Replies.{first_reply, answer}
-use Rattle.ak_desk.specs.Rows.{value_of_row}
+use Rattle.first_desk.specs.declared.desk.FirstEntry.{FirstEntry}
+use Rattle.first_desk.specs.Messages.{get_of, ready_to_run, no_reply}
+use Rattle.first_desk.specs.Replies.{first_reply, answer}
+use Rattle.first_desk.specs.Rows.{value_of_row}
 use Rattle.ak_kit.specs.FirstInput.{Script, IsFirstInput}
 use Rattle.ak_kit.specs.Run.{steps_of, entries_of, text_of}
 

@@ -1,9 +1,9 @@
 -- What the run of a script does: its steps, each with the entry that the desk gets and the line that is written.
 use Rattle.std.specs.Prelude.{ℕ, ℤ, ◌+◌, List, [], ◌∷◌, ◌++◌, map, codes}
 use Rattle.std.specs.List.{flat_map}
-use Rattle.ak_desk.specs.declared.desk.FirstEntry.{FirstEntry}
-use Rattle.ak_desk.specs.Desk.{entry_of}
-use Rattle.ak_desk.specs.Messages.{get_of, ready_to_run}
+use Rattle.first_desk.specs.declared.desk.FirstEntry.{FirstEntry}
+use Rattle.first_desk.specs.Desk.{entry_of}
+use Rattle.first_desk.specs.Messages.{get_of, ready_to_run}
 use Rattle.ak_message.specs.Message.{MessageData}
 use Rattle.ak_message.specs.MessageText.{message_text}
 

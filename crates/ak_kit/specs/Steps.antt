@@ -2,7 +2,7 @@
 use Rattle.std.specs.Prelude.{◌≡◌, ◌⊎◌, ℕ, ◌+◌, ◌<◌, ◌≤◌, List, [], ◌∷◌, ◌++◌, length, take, Option, Result, Ok, Err}
 use Rattle.std.specs.Io.KnownBytes.{Appends}
 use Rattle.ak_outside.specs.Sink.{AppendsPart}
-use Rattle.ak_desk.specs.declared.desk.FirstEntry.{FirstEntry}
+use Rattle.first_desk.specs.declared.desk.FirstEntry.{FirstEntry}
 use Rattle.ak_kit.specs.declared.stopped.Stopped.{Stopped}
 use Rattle.ak_kit.specs.declared.stopped.Stopped.TheVariants as stop
 use Rattle.ak_kit.specs.Run.{Step, entries_of, text_of}

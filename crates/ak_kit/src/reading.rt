@@ -8,7 +8,7 @@ ghost use Rattle.ak_base.specs.Word as word;
 ghost use Rattle.ak_kit.specs.FirstInput.{IsTextOf, IsNoScript, name_of, is_path, is_signature, is_mode, is_reserved, is_askable, names_differ};
 ghost use Rattle.ak_kit.specs.Reading as reads;
 ghost use Rattle.ak_kit.specs.Reading.{where_true};
-ghost use Rattle.ak_desk.specs.Rows.{IsRows};
+ghost use Rattle.first_desk.specs.Rows.{IsRows};
 ghost use Rattle.ak_kit.specs.Seen.{Gives, seen, pair_of, seen_script, parts_of};
 
 use crate::fault::ScriptFault;

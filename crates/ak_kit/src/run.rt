@@ -3,8 +3,8 @@
 
 ghost use Rattle.std.specs.Prelude.{◌≡◌, ◌≤◌, ◌⊎◌, [], ◌∷◌, ◌++◌, length, codes, OnOk, OnErr, IfOk, IsErrOf};
 ghost use Rattle.ak_message.specs.MessageText.{message_text};
-ghost use Rattle.ak_desk.specs.Desk.{dispatched};
-ghost use Rattle.ak_desk.specs.Messages.{get_of};
+ghost use Rattle.first_desk.specs.Desk.{dispatched};
+ghost use Rattle.first_desk.specs.Messages.{get_of};
 ghost use Rattle.ak_outside.specs.Faults.{Rose};
 ghost use Rattle.ak_kit.specs.Reply.{IsAnswer};
 ghost use Rattle.ak_kit.specs.Run.{steps_of, hey_step, launch_step, reply_text_line};
@@ -13,7 +13,7 @@ ghost use Rattle.ak_kit.specs.Steps.{DoesStep, Carries};
 use crate::reply::print_reply;
 use crate::stopped::Stopped;
 use ak_base::{Bytes, NoMemory, Text};
-use ak_desk::{Desk, get_message, ready_message};
+use first_desk::{Desk, get_message, ready_message};
 use ak_message::Message;
 use ak_outside::{Sink, write_all};
 use std::alloc::Global;

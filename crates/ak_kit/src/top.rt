@@ -1,7 +1,7 @@
 ghost use Rattle.std.specs.Prelude.{◌≡◌, ◌≢◌, ◌≤◌, [], ◌↔◌, ◌⊎◌, ℕ, List, Some, IfSome, IfOk, IsTrue};
 ghost use Rattle.ak_outside.specs.Faults.{Rose, Stayed};
 ghost use Rattle.ak_outside.specs.Source.{ConsumesAtMost};
-ghost use Rattle.ak_desk.specs.Rows.{IsRows};
+ghost use Rattle.first_desk.specs.Rows.{IsRows};
 ghost use Rattle.ak_kit.specs.FirstInput.{Script, IsFirstInput, IsNoScript, IsTextOf};
 ghost use Rattle.ak_kit.specs.Run.{entries_of};
 ghost use Rattle.ak_kit.specs.Steps.{IsFrontOf};
@@ -13,7 +13,7 @@ use crate::run::carry_out;
 use crate::script::FirstScript;
 use crate::stopped::Stopped;
 use ak_base::{Bytes, Ending, Items, RefusalKind, Text};
-use ak_desk::{Desk, FirstEntry};
+use first_desk::{Desk, FirstEntry};
 use ak_outside::{ReadFault, Sink, Source, read_all, write_all};
 use std::alloc::Global;
 

@@ -1,7 +1,7 @@
 use Rattle.std.proofs.Common.{◌≡◌, ℕ, ◌+◌, ◌++◌, ◌∷◌, [], List, length, drop, ap, ◌∙◌, subst, arith}
 use Rattle.std.proofs.lemmas.List.{length_push}
 use Rattle.std.proofs.lemmas.Result.{err_from_is_err_and}
-use Rattle.ak_desk.specs.declared.desk.FirstEntry.{FirstEntry}
+use Rattle.first_desk.specs.declared.desk.FirstEntry.{FirstEntry}
 use Rattle.ak_kit.specs.Run.{Step, steps_of, launch_step, hey_step, hey_steps}
 use Rattle.ak_kit.specs.Steps.{Progress}
 use Rattle.ak_kit.proofs.Progress.{begun, goes_on, ends, next_hey, is_done}

@@ -1,0 +1,467 @@
+-- However the calls for one message go, they come to its dispatch with all answers at once.
+use Rattle.std.proofs.Common.{◌≡◌, ℕ, ◌+◌, Bool, true, false, List, [], ◌∷◌, ◌++◌, drop, Option, None, Some, Result, Ok, Err, IfOk, OnErr, is_some, unwrap_or, cond, refl, sym, ap, subst, ◌∙◌, append_assoc}
+use Rattle.std.proofs.lemmas.List.{append-nil}
+use Rattle.ak_base.specs.declared.error.KitError.TheVariants as error
+use Rattle.ak_base.specs.declared.no_memory.NoMemory.{NoMemory}
+use Rattle.ak_message.specs.Message.{MessageData}
+use Rattle.ak_action.specs.declared.action.Action.{Action}
+use Rattle.ak_action.specs.declared.answer.Answer.{Answer}
+use Rattle.ak_action.specs.declared.answer.Answer.TheVariants as answer
+use Rattle.ak_action.specs.declared.answer.Want.{Want}
+use Rattle.ak_action.specs.declared.answer.Want.TheVariants as want
+use Rattle.ak_action.specs.declared.doing.Sending.{Sending}
+use Rattle.ak_action.specs.declared.doing.Sending.TheVariants as sending
+use Rattle.ak_action.specs.declared.interp.Stage.{Stage}
+use Rattle.ak_action.specs.declared.interp.Stage.TheVariants as stage
+use Rattle.ak_action.specs.declared.state.DeskState.{DeskState}
+use Rattle.ak_action.specs.Acts.{acts, is_at, put, want_of}
+use Rattle.ak_action.specs.Doing.{Doing, says, replies, puts, sends, finds, stops, quits, doing_of, preferred_of}
+use Rattle.ak_action.specs.Interp.{InterpData, Nexted, nexted, failed, Given, Answers, AnswersFind, AnswersSend, AnswersStage, MayGoOn, MayGoOnFrom, actions_of, carried, give_at, give_of, go_on, hear_of_send, hear_of_team, next_at, next_of, out_of_memory, past, started, then_go_on, with_stage}
+use Rattle.ak_action.specs.Laws.{Calls, CallsAct, Ran, finished, found_none, got_one, is_done, ran_of, wanting}
+use Rattle.ak_action.specs.Laws as law
+use Rattle.ak_desk.specs.declared.task.Task.{Task}
+use Rattle.ak_desk.specs.declared.task.Task.TheVariants as task
+use Rattle.ak_route.specs.declared.outcome.Route.{Route}
+use Rattle.ak_route.specs.declared.outcome.Route.TheVariants as route
+use Rattle.ak_route.specs.declared.outcome.Taker.{Taker}
+use Rattle.ak_route.specs.declared.outcome.Taker.TheVariants as taker
+use Rattle.ak_desk.specs.Dispatch.{Dispatch, by_reaction, by_route, ran_out, taken}
+use Rattle.ak_desk.specs.Laws.{ComesToDispatch}
+use Rattle.ak_desk.specs.Place.{routed_of}
+use Rattle.ak_desk.specs.Replies.{none_reply, not_understood}
+use Rattle.ak_desk.specs.Task.{AnswersAsk, AnswersPost, Awaits, Comes, Wanted, wants, wants_none, IsDone, MayWant, TakesAnswer, came_to, heard_of, next_wanted, place_in, taken_as, task_by}
+use Rattle.ak_desk.specs.Task as the
+use Rattle.ak_desk.proofs.AtOnce.{ComesTo, built_in_comes, forward_comes, property_comes, ready_comes}
+
+-- ---- where a reaction stands behind a want
+abbrev IsWaiting : Stage → Type 0
+IsWaiting (stage.Finding _ _) = Unit {0}
+IsWaiting (stage.Sent _) = Unit {0}
+IsWaiting _ = ⊥
+
+abbrev IsFinding : Stage → Type 0
+IsFinding (stage.Finding _ _) = Unit {0}
+IsFinding _ = ⊥
+
+abbrev IsPosting : Sending → Type 0
+IsPosting (sending.Post _) = Unit {0}
+IsPosting (sending.Ask _) = ⊥
+
+abbrev IsPosted : Stage → Type 0
+IsPosted (stage.Sent how) = IsPosting how
+IsPosted _ = ⊥
+
+abbrev IsAsking : Sending → Type 0
+IsAsking (sending.Post _) = ⊥
+IsAsking (sending.Ask _) = Unit {0}
+
+abbrev IsAsked : Stage → Type 0
+IsAsked (stage.Sent how) = IsAsking how
+IsAsked _ = ⊥
+
+abbrev StandsBehind : Want → Stage → Type 0
+StandsBehind want.Done at = at ≡ stage.Ended
+StandsBehind (want.Find _) at = IsFinding at
+StandsBehind (want.Post _ _ _) at = IsPosted at
+StandsBehind (want.Ask _ _) at = IsAsked at
+StandsBehind (want.Forward _ _) at = ⊥
+
+abbrev NextStands : Nexted → Type 0
+NextStands (nexted w i s) = StandsBehind w i.stage
+NextStands (failed i s) = i.stage ≡ stage.Ended
+
+sent_stands : (to : _) (how : Sending) (m : MessageData) (i : InterpData) (s : DeskState) → NextStands (nexted (want_of to how m) (with_stage (stage.Sent how) i) s)
+sent_stands to (sending.Post back) m i s = tt
+sent_stands to (sending.Ask into) m i s = tt
+
+module _ (memory : Option ℕ) where
+  carried_stands : (rest : List Action) → ((i : InterpData) (s : DeskState) → NextStands (go_on memory rest i s)) → (d : Doing) (i : InterpData) (s : DeskState) → NextStands (then_go_on (go_on memory rest) (carried d i s))
+  carried_stands rest on (says e) i s = on (past e i) s
+  carried_stands rest on (replies m) i s = on (past error.Ok (record i { reply = Some m })) s
+  carried_stands rest on (puts place value) i s = on (past error.Ok i) (put s i.token place value)
+  carried_stands rest on (sends to how m) i s = sent_stands to how m i s
+  carried_stands rest on (finds w how m) i s = tt
+  carried_stands rest on stops i s = refl
+  carried_stands rest on quits i s = on (past error.Ok (record i { quit = true })) s
+
+  step_stands : (b : Bool) (x y : Nexted) → NextStands x → NextStands y → NextStands (cond b x y)
+  step_stands true x y h g = h
+  step_stands false x y h g = g
+
+  go_on_stands : (list : List Action) (i : InterpData) (s : DeskState) → NextStands (go_on memory list i s)
+  go_on_stands [] i s = refl
+  go_on_stands (a ∷ rest) i s =
+      step_stands (is_at memory i.place) (failed (out_of_memory i) s)
+      (then_go_on (go_on memory rest) (carried (doing_of s i.token i.message (is_some i.reply) a) i s)) refl
+      (carried_stands rest (go_on_stands rest) (doing_of s i.token i.message (is_some i.reply) a) i s)
+
+  at_stands : (at : Stage) (i : InterpData) (s : DeskState) → NextStands (next_at at memory i s)
+  at_stands stage.Ready i s = go_on_stands (drop i.place (actions_of s i.token i.reaction)) i s
+  at_stands (stage.Finding how m) i s = refl
+  at_stands (stage.Found looper how m) i s = sent_stands (preferred_of looper) how m i s
+  at_stands (stage.Sent how) i s = refl
+  at_stands stage.Ended i s = refl
+
+  next_stands : (i : InterpData) (s : DeskState) → NextStands (next_of memory i s)
+  next_stands i s = at_stands i.stage i s
+
+finding_waits : (at : Stage) → IsFinding at → IsWaiting at
+finding_waits stage.Ready h = absurd h
+finding_waits (stage.Finding how m) h = tt
+finding_waits (stage.Found looper how m) h = absurd h
+finding_waits (stage.Sent how) h = absurd h
+finding_waits stage.Ended h = absurd h
+
+posted_waits : (at : Stage) → IsPosted at → IsWaiting at
+posted_waits stage.Ready h = absurd h
+posted_waits (stage.Finding how m) h = absurd h
+posted_waits (stage.Found looper how m) h = absurd h
+posted_waits (stage.Sent how) h = tt
+posted_waits stage.Ended h = absurd h
+
+asked_waits : (at : Stage) → IsAsked at → IsWaiting at
+asked_waits stage.Ready h = absurd h
+asked_waits (stage.Finding how m) h = absurd h
+asked_waits (stage.Found looper how m) h = absurd h
+asked_waits (stage.Sent how) h = tt
+asked_waits stage.Ended h = absurd h
+
+asking_awaits : (w : Want) (at : Stage) → law.IsAsking w → StandsBehind w at → IsWaiting at
+asking_awaits want.Done at asking h = absurd asking
+asking_awaits (want.Find word) at asking h = finding_waits at h
+asking_awaits (want.Post to m back) at asking h = posted_waits at h
+asking_awaits (want.Ask to m) at asking h = asked_waits at h
+asking_awaits (want.Forward looper popped) at asking h = absurd h
+
+may_not : {X : Type 0} (at : Stage) → IsWaiting at → MayGoOnFrom at → X
+may_not stage.Ready h may = absurd h
+may_not (stage.Finding how m) h may = absurd may
+may_not (stage.Found looper how m) h may = absurd h
+may_not (stage.Sent how) h may = absurd may
+may_not stage.Ended h may = absurd h
+
+ended_awaits_none : {X : Type 0} (at : Stage) → IsWaiting at → at ≡ stage.Ended → X
+ended_awaits_none at h e = absurd (subst IsWaiting e h)
+
+-- ---- behind an answer
+team_may : (how : Sending) (m : MessageData) (i : InterpData) (a : Answer) → MayGoOn (hear_of_team how m i a)
+team_may how m i (answer.Team team first) = tt
+team_may how m i answer.NoTeam = tt
+team_may how m i (answer.Written at) = tt
+team_may how m i answer.Full = tt
+team_may how m i answer.Closed = tt
+team_may how m i answer.Spent = tt
+team_may how m i answer.TooLong = tt
+team_may how m i (answer.Reply flat said) = tt
+team_may how m i answer.NoMemory = tt
+
+send_may : (how : Sending) (i : InterpData) (s : DeskState) (a : Answer) → MayGoOn (hear_of_send how i s a).interp
+send_may how i s answer.NoMemory = tt
+send_may (sending.Post back) i s (answer.Team team first) = tt
+send_may (sending.Post back) i s answer.NoTeam = tt
+send_may (sending.Post back) i s (answer.Written at) = tt
+send_may (sending.Post back) i s answer.Full = tt
+send_may (sending.Post back) i s answer.Closed = tt
+send_may (sending.Post back) i s answer.Spent = tt
+send_may (sending.Post back) i s answer.TooLong = tt
+send_may (sending.Post back) i s (answer.Reply flat said) = tt
+send_may (sending.Ask into) i s (answer.Team team first) = tt
+send_may (sending.Ask into) i s answer.NoTeam = tt
+send_may (sending.Ask into) i s (answer.Written at) = tt
+send_may (sending.Ask into) i s answer.Full = tt
+send_may (sending.Ask into) i s answer.Closed = tt
+send_may (sending.Ask into) i s answer.Spent = tt
+send_may (sending.Ask into) i s answer.TooLong = tt
+send_may (sending.Ask into) i s (answer.Reply flat said) = tt
+
+give_may : (at : Stage) (i : InterpData) (s : DeskState) (a : Answer) → AnswersStage at a → MayGoOn (give_at at i s a).interp
+give_may stage.Ready i s a h = absurd h
+give_may (stage.Finding how m) i s a h = team_may how m i a
+give_may (stage.Found looper how m) i s a h = absurd h
+give_may (stage.Sent how) i s a h = send_may how i s a
+give_may stage.Ended i s a h = absurd h
+
+not_answered : {X : Type 0} (at : Stage) (a : Answer) → MayGoOnFrom at → AnswersStage at a → X
+not_answered stage.Ready a may h = absurd h
+not_answered (stage.Finding how m) a may h = absurd may
+not_answered (stage.Found looper how m) a may h = absurd h
+not_answered (stage.Sent how) a may h = absurd may
+not_answered stage.Ended a may h = absurd h
+
+-- ---- what the tasks of a reaction want
+record IsNext (x : Nexted) (w : Want) (u : Task) (v : DeskState) : Type 0 where
+  interp : InterpData
+  is : x ≡ nexted w interp v
+  task_is : u ≡ task.Reaction interp
+
+next_is : (x : Nexted) (w : Want) (u : Task) (v : DeskState) → next_wanted x ≡ wants w u v → IsNext x w u v
+next_is (nexted w' i s) w u v e =
+    let same : w' ≡ w = cc in
+    let task_same : u ≡ task.Reaction i = cc in
+    let state_same : s ≡ v = cc in
+    record { interp = i; is = ap (λ (x : Want). nexted x i s) same ∙ ap (λ (t : DeskState). nexted w i t) state_same; task_is = task_same }
+next_is (failed i s) w u v e = absurd cc
+
+record IsFailed (x : Nexted) (u : Task) (v : DeskState) : Type 0 where
+  interp : InterpData
+  is : x ≡ failed interp v
+  task_is : u ≡ task.Reaction interp
+
+failed_is : (x : Nexted) (u : Task) (v : DeskState) → next_wanted x ≡ wants_none u v → IsFailed x u v
+failed_is (nexted w i s) u v e = absurd cc
+failed_is (failed i s) u v e =
+    let task_same : u ≡ task.Reaction i = cc in
+    let state_same : s ≡ v = cc in
+    record { interp = i; is = ap (failed i) state_same; task_is = task_same }
+
+-- where more was wanted before
+abbrev adding : List Want → Ran → Ran
+adding asked r = record r { wants = asked ++ r.wants }
+
+-- ---- a reaction, from its beginning
+module _ (i0 : InterpData) (s0 : DeskState) where
+  -- what is still to come makes calls of the whole
+  record Goes (asked : List Want) (heard : List Answer) (i : InterpData) (s : DeskState) : Type 0 where
+    may : MayGoOn i
+    calls : (rest : List Answer) (r : Ran) → Calls rest i s r → Calls (heard ++ rest) i0 s0 (adding asked r)
+
+  -- so does an answer, and what comes behind it
+  record Waits (asked : List Want) (heard : List Answer) (i : InterpData) (s : DeskState) : Type 0 where
+    awaits : IsWaiting i.stage
+    calls : (a : Answer) (rest : List Answer) (r : Ran) → Calls rest (give_of i s a).interp (give_of i s a).state r → Calls (heard ++ a ∷ rest) i0 s0 (adding asked r)
+
+  record Over (asked : List Want) (heard : List Answer) (i : InterpData) (s : DeskState) : Type 0 where
+    ended : i.stage ≡ stage.Ended
+    calls : Calls heard i0 s0 (adding asked (finished i s []))
+
+  data Reacts (asked : List Want) (heard : List Answer) (i : InterpData) (s : DeskState) : Type 0 where
+    goes : Goes asked heard i s → Reacts asked heard i s
+    waits : Waits asked heard i s → Reacts asked heard i s
+    over : Over asked heard i s → Reacts asked heard i s
+
+  abbrev Stands : List Want → List Answer → Task → DeskState → Type 0
+  Stands asked heard (task.Reaction i) s = Reacts asked heard i s
+  Stands asked heard _ s = ⊥
+
+  begins : MayGoOn i0 → Reacts [] [] i0 s0
+  begins may = goes (record { may = may; calls = λ rest r c. c })
+
+  -- ---- a want
+  asks_on : (asked : List Want) (heard : List Answer) (i : InterpData) (s : DeskState) (w : Want) (j : InterpData) (v : DeskState) → Goes asked heard i s → law.IsAsking w → next_of None i s ≡ nexted w j v → Waits (asked ++ w ∷ []) heard j v
+  asks_on asked heard i s w j v g asking e =
+      record {
+        awaits = asking_awaits w j.stage asking (subst NextStands e (next_stands None i s));
+        calls = λ a rest r c.
+            subst (λ (x : Ran). Calls (heard ++ a ∷ rest) i0 s0 x)
+            (ap (λ (ws : List Want). record r { wants = ws }) (sym (append_assoc asked (w ∷ []) r.wants)))
+            (g.calls (a ∷ rest) (wanting w r) (got_one a rest i s w j v r asking e c));
+      }
+
+  wants_on : (asked : List Want) (heard : List Answer) (i : InterpData) (s : DeskState) (w : Want) (j : InterpData) (v : DeskState) → Reacts asked heard i s → MayGoOn i → law.IsAsking w → next_of None i s ≡ nexted w j v → Reacts (asked ++ w ∷ []) heard j v
+  wants_on asked heard i s w j v (goes g) may asking e = waits (asks_on asked heard i s w j v g asking e)
+  wants_on asked heard i s w j v (waits h) may asking e = may_not i.stage h.awaits may
+  wants_on asked heard i s w j v (over h) may asking e =
+      let is : nexted want.Done (with_stage stage.Ended i) s ≡ nexted w j v = sym (ap (λ (at : Stage). next_at at None i s) h.ended) ∙ e in
+      let same : want.Done ≡ w = cc in
+      absurd (subst law.IsAsking (sym same) asking)
+
+  -- ---- the end
+  last : (asked : List Want) (heard : List Answer) (i : InterpData) (s : DeskState) (j : InterpData) (v : DeskState) → Goes asked heard i s → j.stage ≡ stage.Ended → Calls [] i s (finished j v []) → Over asked heard j v
+  last asked heard i s j v g e c =
+      record {
+        ended = e;
+        calls = subst (λ (l : List Answer). Calls l i0 s0 (adding asked (finished j v []))) (append-nil heard) (g.calls [] (finished j v []) c);
+      }
+
+  stays : (i : InterpData) (s : DeskState) (j : InterpData) (v : DeskState) → i.stage ≡ stage.Ended → next_of None i s ≡ nexted want.Done j v → (i ≡ j) × (s ≡ v)
+  stays i s j v ended e =
+      let is : nexted want.Done (with_stage stage.Ended i) s ≡ nexted want.Done j v = sym (ap (λ (at : Stage). next_at at None i s) ended) ∙ e in
+      let same : with_stage stage.Ended i ≡ j = cc in
+      let state_same : s ≡ v = cc in
+      (ap (λ (at : Stage). with_stage at i) ended ∙ same, state_same)
+
+  ends_on : (asked : List Want) (heard : List Answer) (i : InterpData) (s : DeskState) (j : InterpData) (v : DeskState) → Reacts asked heard i s → MayGoOn i → next_of None i s ≡ nexted want.Done j v → Reacts asked heard j v
+  ends_on asked heard i s j v (goes g) may e =
+      over (last asked heard i s j v g (subst NextStands e (next_stands None i s)) (is_done [] i s j v e))
+  ends_on asked heard i s j v (waits h) may e = may_not i.stage h.awaits may
+  ends_on asked heard i s j v (over h) may e =
+      let same = stays i s j v h.ended e in
+      subst (Reacts asked heard j) same.1 (subst (λ (x : InterpData). Reacts asked heard x s) same.0 (over h))
+
+  fails_on : (asked : List Want) (heard : List Answer) (i : InterpData) (s : DeskState) (j : InterpData) (v : DeskState) → Reacts asked heard i s → MayGoOn i → next_of (Some j.place) i s ≡ failed j v → Reacts asked heard j v
+  fails_on asked heard i s j v (goes g) may e =
+      over (last asked heard i s j v g (subst NextStands e (next_stands (Some j.place) i s)) (found_none [] i s j v e))
+  fails_on asked heard i s j v (waits h) may e = may_not i.stage h.awaits may
+  fails_on asked heard i s j v (over h) may e =
+      let is : nexted want.Done (with_stage stage.Ended i) s ≡ failed j v = sym (ap (λ (at : Stage). next_at at (Some j.place) i s) h.ended) ∙ e in
+      absurd cc
+
+  -- ---- an answer
+  hears_on : (asked : List Want) (heard : List Answer) (i : InterpData) (s : DeskState) (a : Answer) → Reacts asked heard i s → Answers i a → Reacts asked (heard ++ a ∷ []) (give_of i s a).interp (give_of i s a).state
+  hears_on asked heard i s a (goes g) h = not_answered i.stage a g.may h
+  hears_on asked heard i s a (waits g) h =
+      goes (record {
+        may = give_may i.stage i s a h;
+        calls = λ rest r c. subst (λ (l : List Answer). Calls l i0 s0 (adding asked r)) (sym (append_assoc heard (a ∷ []) rest)) (g.calls a rest r c);
+      })
+  hears_on asked heard i s a (over g) h = absurd (subst (λ (at : Stage). AnswersStage at a) g.ended h)
+
+  -- ---- all of it
+  stands : (asked : List Want) (heard : List Answer) (t : Task) (s : DeskState) → MayGoOn i0 → Comes s0 (task.Reaction i0) asked heard t s → Stands asked heard t s
+  stands _ _ _ _ may0 the.begun = begins may0
+  stands _ _ _ _ may0 (the.wanted asked heard (task.Reaction i) s w u v c may asking e) =
+      let n = next_is (next_of None i s) w u v e in
+      subst (λ (x : Task). Stands (asked ++ w ∷ []) heard x v) (sym n.task_is)
+      (wants_on asked heard i s w n.interp v (stands asked heard (task.Reaction i) s may0 c) may asking n.is)
+  stands _ _ _ _ may0 (the.done asked heard (task.Reaction i) s u v c may e) =
+      let n = next_is (next_of None i s) want.Done u v e in
+      subst (λ (x : Task). Stands asked heard x v) (sym n.task_is)
+      (ends_on asked heard i s n.interp v (stands asked heard (task.Reaction i) s may0 c) may n.is)
+  stands _ _ _ _ may0 (the.found_none asked heard (task.Reaction i) s u v c may e) =
+      let n = failed_is (next_of (Some (place_in u)) i s) u v e in
+      subst (λ (x : Task). Stands asked heard x v) (sym n.task_is)
+      (fails_on asked heard i s n.interp v (stands asked heard (task.Reaction i) s may0 c) may
+      (ap (λ (x : Task). next_of (Some (place_in x)) i s) (sym n.task_is) ∙ n.is))
+  stands _ _ _ _ may0 (the.given asked heard (task.Reaction i) s a c h) =
+      hears_on asked heard i s a (stands asked heard (task.Reaction i) s may0 c) h
+  stands _ _ _ _ may0 (the.wanted asked heard (task.Property token place m) s w u v c may asking e) = absurd (stands asked heard (task.Property token place m) s may0 c)
+  stands _ _ _ _ may0 (the.wanted asked heard (task.BuiltIn token m) s w u v c may asking e) = absurd (stands asked heard (task.BuiltIn token m) s may0 c)
+  stands _ _ _ _ may0 (the.wanted asked heard (task.Forward looper popped spare) s w u v c may asking e) = absurd (stands asked heard (task.Forward looper popped spare) s may0 c)
+  stands _ _ _ _ may0 (the.wanted asked heard (task.Forwarding spare) s w u v c may asking e) = absurd (stands asked heard (task.Forwarding spare) s may0 c)
+  stands _ _ _ _ may0 (the.wanted asked heard (task.Done word reply quit) s w u v c may asking e) = absurd (stands asked heard (task.Done word reply quit) s may0 c)
+  stands _ _ _ _ may0 (the.done asked heard (task.Property token place m) s u v c may e) = absurd (stands asked heard (task.Property token place m) s may0 c)
+  stands _ _ _ _ may0 (the.done asked heard (task.BuiltIn token m) s u v c may e) = absurd (stands asked heard (task.BuiltIn token m) s may0 c)
+  stands _ _ _ _ may0 (the.done asked heard (task.Forward looper popped spare) s u v c may e) = absurd (stands asked heard (task.Forward looper popped spare) s may0 c)
+  stands _ _ _ _ may0 (the.done asked heard (task.Forwarding spare) s u v c may e) = absurd (stands asked heard (task.Forwarding spare) s may0 c)
+  stands _ _ _ _ may0 (the.done asked heard (task.Done word reply quit) s u v c may e) = absurd (stands asked heard (task.Done word reply quit) s may0 c)
+  stands _ _ _ _ may0 (the.found_none asked heard (task.Property token place m) s u v c may e) = absurd (stands asked heard (task.Property token place m) s may0 c)
+  stands _ _ _ _ may0 (the.found_none asked heard (task.BuiltIn token m) s u v c may e) = absurd (stands asked heard (task.BuiltIn token m) s may0 c)
+  stands _ _ _ _ may0 (the.found_none asked heard (task.Forward looper popped spare) s u v c may e) = absurd (stands asked heard (task.Forward looper popped spare) s may0 c)
+  stands _ _ _ _ may0 (the.found_none asked heard (task.Forwarding spare) s u v c may e) = absurd (stands asked heard (task.Forwarding spare) s may0 c)
+  stands _ _ _ _ may0 (the.found_none asked heard (task.Done word reply quit) s u v c may e) = absurd (stands asked heard (task.Done word reply quit) s may0 c)
+  stands _ _ _ _ may0 (the.given asked heard (task.Property token place m) s a c h) = absurd h
+  stands _ _ _ _ may0 (the.given asked heard (task.BuiltIn token m) s a c h) = absurd h
+  stands _ _ _ _ may0 (the.given asked heard (task.Forward looper popped spare) s a c h) = absurd h
+  stands _ _ _ _ may0 (the.given asked heard (task.Forwarding spare) s a c h) = absurd (stands asked heard (task.Forwarding spare) s may0 c)
+  stands _ _ _ _ may0 (the.given asked heard (task.Done word reply quit) s a c h) = absurd h
+
+  over_at_end : (asked : List Want) (heard : List Answer) (i : InterpData) (s : DeskState) → Reacts asked heard i s → i.stage ≡ stage.Ended → Over asked heard i s
+  over_at_end asked heard i s (goes g) e =
+      last asked heard i s i s g e
+      (is_done [] i s i s (ap (λ (at : Stage). next_at at None i s) e ∙ ap (λ (at : Stage). nexted want.Done (with_stage at i) s) (sym e)))
+  over_at_end asked heard i s (waits h) e = ended_awaits_none i.stage h.awaits e
+  over_at_end asked heard i s (over h) e = h
+
+-- ---- what it comes to
+abbrev by_ran : Ran → Dispatch
+by_ran r =
+    record {
+      state = r.state;
+      wants = r.wants;
+      words = r.words;
+      reply = Some (unwrap_or r.reply none_reply);
+      quit = r.quit;
+      no_memory = ran_out r.words;
+      waits = r.waits;
+      answers = r.answers;
+    }
+
+module _ (s0 : DeskState) (m : MessageData) (token place : ℕ) where
+  abbrev first : InterpData
+  first = started m token place
+
+  abbrev reacted : List Answer → Option ℕ → Dispatch
+  reacted answers memory = by_reaction (acts s0 token m (actions_of s0 token place) answers memory)
+
+  over_comes : (asked : List Want) (heard : List Answer) (i : InterpData) (s : DeskState) → CallsAct → Over first s0 asked heard i s → ComesTo reacted asked heard (task.Reaction i) s
+  over_comes asked heard i s act h =
+      let whole = act s0 m token place heard (adding asked (finished i s [])) h.calls in
+      record {
+        memory = whole.0;
+        is = ap by_ran (sym whole.1) ∙ ap (λ (ws : List Want). record (came_to asked (task.Reaction i) s) { wants = ws }) (append-nil asked);
+      }
+
+  ends : (asked : List Want) (heard : List Answer) (t : Task) (s : DeskState) → CallsAct → Stands first s0 asked heard t s → IsDone t → ComesTo reacted asked heard t s
+  ends asked heard (task.Reaction i) s act h end = over_comes asked heard i s act (over_at_end first s0 asked heard i s h end)
+  ends asked heard (task.Property at place m) s act h end = absurd h
+  ends asked heard (task.BuiltIn at m) s act h end = absurd h
+  ends asked heard (task.Forward looper popped spare) s act h end = absurd h
+  ends asked heard (task.Forwarding spare) s act h end = absurd h
+  ends asked heard (task.Done word reply quit) s act h end = absurd h
+
+  reaction_comes : (asked : List Want) (heard : List Answer) (t : Task) (s : DeskState) → CallsAct → Comes s0 (task.Reaction first) asked heard t s → IsDone t → ComesTo reacted asked heard t s
+  reaction_comes asked heard t s act c end = ends asked heard t s act (stands first s0 asked heard t s tt c) end
+
+-- ---- each route
+module _ (act : CallsAct) (s0 : DeskState) (m : MessageData) where
+  taken_comes : (token : ℕ) (t0 : Taker) (asked : List Want) (heard : List Answer) (t : Task) (s : DeskState) → Comes s0 (taken_as token m t0) asked heard t s → IsDone t → ComesTo (λ answers memory. taken s0 token m t0 answers memory) asked heard t s
+  taken_comes token (taker.Property place) asked heard t s c end = property_comes s0 token place m asked heard t s c end
+  taken_comes token (taker.Reaction place) asked heard t s c end = reaction_comes s0 m token place asked heard t s act c end
+  taken_comes token taker.BuiltIn asked heard t s c end = built_in_comes s0 token m asked heard t s c end
+
+  routed_comes : (r : Route) (asked : List Want) (heard : List Answer) (t : Task) (s : DeskState) → Comes s0 (task_by s0.first m r) asked heard t s → IsDone t → ComesTo (λ answers memory. by_route s0 m r answers memory) asked heard t s
+  routed_comes (route.Deliver token t0) asked heard t s c end = taken_comes token t0 asked heard t s c end
+  routed_comes route.Skipped asked heard t s c end = ready_comes s0 none_reply asked heard t s c
+  routed_comes route.Dropped asked heard t s c end = ready_comes s0 none_reply asked heard t s c
+  routed_comes route.NotUnderstood asked heard t s c end = ready_comes s0 not_understood asked heard t s c
+  routed_comes (route.Forward looper) asked heard t s c end = forward_comes s0 (s0.first + looper) m.popped asked heard t s c end
+
+pub comes_to_dispatch : CallsAct → ComesToDispatch
+comes_to_dispatch act s item asked heard t v c end =
+    let r = routed_comes act s (routed_of s item).message (routed_of s item).route asked heard t v c end in
+    (r.memory, r.is)
+
+-- ---- what may come behind a want
+taken_by_stage : (w : Want) (i : InterpData) → StandsBehind w i.stage → Awaits w (task.Reaction i)
+taken_by_stage want.Done i h = h
+taken_by_stage (want.Find word) i h = λ a g. found_by i.stage a h g
+  where
+    found_by : (at : Stage) (a : Answer) → IsFinding at → AnswersFind a → AnswersStage at a
+    found_by stage.Ready a h g = absurd h
+    found_by (stage.Finding how m) a h g = g
+    found_by (stage.Found looper how m) a h g = absurd h
+    found_by (stage.Sent how) a h g = absurd h
+    found_by stage.Ended a h g = absurd h
+taken_by_stage (want.Post to m back) i h = λ a g. posted_by i.stage a h g
+  where
+    by_way : (how : Sending) (a : Answer) → IsPosting how → AnswersPost a → AnswersSend how a
+    by_way (sending.Post back) a h g = g back
+    by_way (sending.Ask into) a h g = absurd h
+
+    posted_by : (at : Stage) (a : Answer) → IsPosted at → AnswersPost a → AnswersStage at a
+    posted_by stage.Ready a h g = absurd h
+    posted_by (stage.Finding how m) a h g = absurd h
+    posted_by (stage.Found looper how m) a h g = absurd h
+    posted_by (stage.Sent how) a h g = by_way how a h g
+    posted_by stage.Ended a h g = absurd h
+taken_by_stage (want.Ask to m) i h = λ a g. asked_by i.stage a h g
+  where
+    by_way : (how : Sending) (a : Answer) → IsAsking how → AnswersAsk a → AnswersSend how a
+    by_way (sending.Post back) a h g = absurd h
+    by_way (sending.Ask into) a h g = g into
+
+    asked_by : (at : Stage) (a : Answer) → IsAsked at → AnswersAsk a → AnswersStage at a
+    asked_by stage.Ready a h g = absurd h
+    asked_by (stage.Finding how m) a h g = absurd h
+    asked_by (stage.Found looper how m) a h g = absurd h
+    asked_by (stage.Sent how) a h g = by_way how a h g
+    asked_by stage.Ended a h g = absurd h
+taken_by_stage (want.Forward looper popped) i h = absurd h
+
+pub reaction_awaits : (w : Want) (i j : InterpData) (s t : DeskState) → next_of None i s ≡ nexted w j t → Awaits w (task.Reaction j)
+reaction_awaits w i j s t e = taken_by_stage w j (subst NextStands e (next_stands None i s))
+
+pub reaction_ends : (place : ℕ) (i j : InterpData) (s t : DeskState) → next_of (Some place) i s ≡ failed j t → IsDone (task.Reaction j)
+reaction_ends place i j s t e = subst NextStands e (next_stands (Some place) i s)
+
+pub reaction_goes_on : (i j : InterpData) (s t : DeskState) (a : Answer) → Answers i a → give_of i s a ≡ record { interp = j; state = t } → MayWant (task.Reaction j)
+reaction_goes_on i j s t a h e = subst (λ (g : Given). MayGoOn g.interp) e (give_may i.stage i s a h)
+
+-- as the calls tell it
+pub reactions_await : (i : InterpData) (s : DeskState) (j : InterpData) (t : DeskState) (r : Result Want NoMemory) → IfOk r (λ w. next_of None i s ≡ nexted w j t) → IfOk r (λ w. Awaits w (task.Reaction j))
+reactions_await i s j t (Ok w) e = reaction_awaits w i j s t e
+reactions_await i s j t (Err n) e = tt
+
+pub reactions_end : (i : InterpData) (s : DeskState) (j : InterpData) (t : DeskState) (r : Result Want NoMemory) → OnErr r (next_of (Some j.place) i s ≡ failed j t) → OnErr r (j.stage ≡ stage.Ended)
+reactions_end i s j t (Ok w) e = tt
+reactions_end i s j t (Err n) e = reaction_ends j.place i j s t e

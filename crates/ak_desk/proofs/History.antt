@@ -1,0 +1,211 @@
+-- A list of lines, and one more at its end.
+use Rattle.std.proofs.Common.{◌≡◌, ℕ, suc, ◌+◌, ◌-◌, ◌<◌, Bool, true, false, ◌||◌, List, [], ◌∷◌, ◌++◌, All, length, Option, None, Some, option_map, unwrap_or, slice_get, refl, sym, ap, subst, ◌∙◌, arith}
+use Rattle.std.proofs.lemmas.List.Elements.{All-nil, All-push}
+use Rattle.ak_flatten.specs.Item.{ItemData}
+use Rattle.ak_action.specs.declared.answer.Answer.{Answer}
+use Rattle.ak_action.specs.declared.answer.Want.{Want}
+use Rattle.ak_action.specs.declared.answer.Want.TheVariants as want
+use Rattle.ak_action.specs.declared.state.DeskState.{DeskState}
+use Rattle.ak_action.specs.declared.answer.Answer.TheVariants as answer
+use Rattle.ak_action.specs.declared.doing.Sending.{Sending}
+use Rattle.ak_action.specs.declared.doing.Sending.TheVariants as sending
+use Rattle.ak_action.specs.declared.interp.Stage.{Stage}
+use Rattle.ak_action.specs.declared.interp.Stage.TheVariants as stage
+use Rattle.ak_action.specs.Interp.{AnswersFind, AnswersSend, AnswersStage}
+use Rattle.ak_action.specs.Laws.{IsSpelled}
+use Rattle.ak_route.specs.declared.outcome.Route.{Route}
+use Rattle.ak_route.specs.declared.outcome.Route.TheVariants as route
+use Rattle.ak_desk.specs.declared.entry.DeskEvent.{DeskEvent}
+use Rattle.ak_desk.specs.declared.entry.EntryRoute.{EntryRoute}
+use Rattle.ak_desk.specs.declared.task.Task.{Task}
+use Rattle.ak_desk.specs.declared.task.Task.TheVariants as task
+use Rattle.ak_desk.specs.Desk.{BegunData, ended_event, stamp_in, with_task}
+use Rattle.ak_desk.specs.DeskInside.{IsBegun}
+use Rattle.ak_desk.specs.Dispatch.{Dispatch, dispatch_of, entry_route}
+use Rattle.ak_desk.specs.Laws.{ComesToDispatch}
+use Rattle.ak_desk.specs.Line.{LineData}
+use Rattle.ak_desk.specs.Machine.{DeskStep, DispatchStep, Dispatches, EventStep, IsBy, IsHistory, Replays, StampsRise, counted, counted_all, dispatches, gave_up, gives_up}
+use Rattle.ak_desk.specs.Place.{routed_of}
+use Rattle.ak_desk.specs.Task.{AnswersForward, Comes, IsDone, MayWant, TakesAnswer, came_to, heard_of, place_in, quits, task_of, wants, wants_none, want_of, words_of}
+use Rattle.ak_desk.specs.Task as the
+
+-- ---- one line more
+pub counted_push : (n : ℕ) (lines : List LineData) (line : LineData) → counted_all n (lines ++ line ∷ []) ≡ counted (counted_all n lines) line.entry.event
+counted_push n [] line = refl
+counted_push n (l ∷ lines) line = counted_push (counted n l.entry.event) lines line
+
+pub replays_push : (looper n : ℕ) (s : DeskState) (lines : List LineData) (u : DeskState) (line : LineData) (t : DeskState) → Replays looper n s lines u → DeskStep looper (counted_all n lines) u line t → Replays looper n s (lines ++ line ∷ []) t
+replays_push looper n s [] u line t e step = (t, (subst (λ (x : DeskState). DeskStep looper n x line t) e step, refl))
+replays_push looper n s (l ∷ lines) u line t (m, (first, rest)) step =
+    (m, (first, replays_push looper (counted n l.entry.event) m lines u line t rest step))
+
+-- ---- stamps
+abbrev last_from : ℕ → List LineData → ℕ
+last_from last [] = last
+last_from last (l ∷ lines) = last_from l.entry.stamp lines
+
+one_off : (n : ℕ) → suc n - 1 ≡ n
+one_off n = omega arith
+
+one_less : (n : ℕ) → suc (suc n) - 1 ≡ suc n
+one_less n = omega arith
+
+stamp_of_last : (l : LineData) (lines : List LineData) → stamp_in (l ∷ lines) ≡ last_from l.entry.stamp lines
+stamp_of_last l [] = refl
+stamp_of_last l (k ∷ lines) =
+    ap (λ (n : ℕ). unwrap_or (option_map (λ (line : LineData). line.entry.stamp) (slice_get (l ∷ k ∷ lines) n)) 0) (one_less (length lines))
+    ∙ ap (λ (n : ℕ). unwrap_or (option_map (λ (line : LineData). line.entry.stamp) (slice_get (k ∷ lines) n)) 0) (sym (one_off (length lines)))
+    ∙ stamp_of_last k lines
+
+last_stamp : (lines : List LineData) → stamp_in lines ≡ last_from 0 lines
+last_stamp [] = refl
+last_stamp (l ∷ lines) = stamp_of_last l lines
+
+rises_from : (last : ℕ) (lines : List LineData) (line : LineData) → StampsRise last lines → last_from last lines < line.entry.stamp → StampsRise last (lines ++ line ∷ [])
+rises_from last [] line h lt = (lt, tt)
+rises_from last (l ∷ lines) line (first, rest) lt = (first, rises_from l.entry.stamp lines line rest lt)
+
+pub stamps_push : (lines : List LineData) (line : LineData) → StampsRise 0 lines → stamp_in lines < line.entry.stamp → StampsRise 0 (lines ++ line ∷ [])
+stamps_push lines line h lt = rises_from 0 lines line h (subst (λ (n : ℕ). n < line.entry.stamp) (last_stamp lines) lt)
+
+-- ---- the whole history
+pub history_push : (opening : DeskState) (lines : List LineData) (u : DeskState) (line : LineData) (t : DeskState) → IsHistory opening lines u → DeskStep opening.looper (dispatches lines) u line t → stamp_in lines < line.entry.stamp → IsHistory opening (lines ++ line ∷ []) t
+history_push opening lines u line t h step lt =
+    record {
+      replays = replays_push opening.looper 0 opening lines u line t h.replays step;
+      stamps = stamps_push lines line h.stamps lt;
+    }
+
+-- ---- giving up
+either : (b : Bool) (x : Bool) → b || x ≡ false → (b ≡ false) × (x ≡ false)
+either true x e = absurd cc
+either false x e = (refl, e)
+
+pub gave_up_before : (lines : List LineData) (line : LineData) → gave_up (lines ++ line ∷ []) ≡ false → gave_up lines ≡ false
+gave_up_before [] line e = refl
+gave_up_before (l ∷ lines) line e =
+    let parts = either (gives_up l.entry.event) (gave_up (lines ++ line ∷ [])) e in
+    rw parts.0 (gave_up_before lines line parts.1)
+
+pub gave_up_then : (lines : List LineData) (line : LineData) → gives_up line.entry.event ≡ true → gave_up (lines ++ line ∷ []) ≡ true
+gave_up_then [] line e = rw e refl
+gave_up_then (l ∷ lines) line e = by_head (gives_up l.entry.event) (gave_up_then lines line e)
+  where
+    by_head : (b : Bool) {x : Bool} → x ≡ true → b || x ≡ true
+    by_head true h = refl
+    by_head false h = h
+
+-- ---- the replies that are heard
+spelled_by_stage : (at : Stage) (a : Answer) → AnswersStage at a → IsSpelled a
+spelled_by_stage stage.Ready a h = absurd h
+spelled_by_stage (stage.Finding how m) a h = found a h
+  where
+    found : (a : Answer) → AnswersFind a → IsSpelled a
+    found (answer.Team team first) h = tt
+    found answer.NoTeam h = tt
+    found (answer.Written at) h = tt
+    found answer.Full h = tt
+    found answer.Closed h = tt
+    found answer.Spent h = tt
+    found answer.TooLong h = tt
+    found (answer.Reply flat m) h = absurd h
+    found answer.NoMemory h = tt
+spelled_by_stage (stage.Found looper how m) a h = absurd h
+spelled_by_stage (stage.Sent how) a h = sent how a h
+  where
+    sent : (how : Sending) (a : Answer) → AnswersSend how a → IsSpelled a
+    sent how (answer.Team team first) h = tt
+    sent how answer.NoTeam h = tt
+    sent how (answer.Written at) h = tt
+    sent how answer.Full h = tt
+    sent how answer.Closed h = tt
+    sent how answer.Spent h = tt
+    sent how answer.TooLong h = tt
+    sent (sending.Post back) (answer.Reply flat m) h = absurd h
+    sent (sending.Ask into) (answer.Reply flat m) h = h
+    sent how answer.NoMemory h = tt
+spelled_by_stage stage.Ended a h = absurd h
+
+spelled_by_forward : (a : Answer) → AnswersForward a → IsSpelled a
+spelled_by_forward (answer.Team team first) h = tt
+spelled_by_forward answer.NoTeam h = tt
+spelled_by_forward (answer.Written at) h = tt
+spelled_by_forward answer.Full h = tt
+spelled_by_forward answer.Closed h = tt
+spelled_by_forward answer.Spent h = tt
+spelled_by_forward answer.TooLong h = tt
+spelled_by_forward (answer.Reply flat m) h = absurd h
+spelled_by_forward answer.NoMemory h = tt
+
+spelled_taken : (t : Task) (a : Answer) → TakesAnswer t a → IsSpelled a
+spelled_taken (task.Reaction i) a h = spelled_by_stage i.stage a h
+spelled_taken (task.Property token place m) a h = absurd h
+spelled_taken (task.BuiltIn token m) a h = absurd h
+spelled_taken (task.Forward looper popped spare) a h = absurd h
+spelled_taken (task.Forwarding spare) a h = spelled_by_forward a h
+spelled_taken (task.Done word reply quit) a h = absurd h
+
+module _ {before : DeskState} {first : Task} where
+  all_spelled : (asked : List Want) (heard : List Answer) (t : Task) (s : DeskState) → Comes before first asked heard t s → All IsSpelled heard
+  all_spelled _ _ _ _ the.begun = All-nil IsSpelled
+  all_spelled _ _ _ _ (the.wanted asked heard t s w u v c may asking e) = all_spelled asked heard t s c
+  all_spelled _ _ _ _ (the.done asked heard t s u v c may e) = all_spelled asked heard t s c
+  all_spelled _ _ _ _ (the.found_none asked heard t s u v c may e) = all_spelled asked heard t s c
+  all_spelled _ _ _ _ (the.given asked heard t s a c takes) = All-push IsSpelled heard a (all_spelled asked heard t s c) (spelled_taken t a takes)
+
+-- ---- what is begun goes on
+module _ (opening : DeskState) (lines : List LineData) (b : BegunData) (s : DeskState) (h : IsBegun opening lines b s) where
+  pub wants_on : (w : Want) (u : Task) (v : DeskState) → MayWant b.task → want_of None b.task s ≡ wants w u v → IsBegun opening lines (with_task b u) v
+  wants_on want.Done u v may e =
+      record { history = h.history; position = h.position; route = h.route; asked = h.asked; heard = h.heard; comes = the.done h.asked h.heard b.task s u v h.comes may e }
+  wants_on (want.Find word) u v may e =
+      record { history = h.history; position = h.position; route = h.route; asked = h.asked ++ want.Find word ∷ []; heard = h.heard; comes = the.wanted h.asked h.heard b.task s (want.Find word) u v h.comes may tt e }
+  wants_on (want.Post to m back) u v may e =
+      record { history = h.history; position = h.position; route = h.route; asked = h.asked ++ want.Post to m back ∷ []; heard = h.heard; comes = the.wanted h.asked h.heard b.task s (want.Post to m back) u v h.comes may tt e }
+  wants_on (want.Ask to m) u v may e =
+      record { history = h.history; position = h.position; route = h.route; asked = h.asked ++ want.Ask to m ∷ []; heard = h.heard; comes = the.wanted h.asked h.heard b.task s (want.Ask to m) u v h.comes may tt e }
+  wants_on (want.Forward looper popped) u v may e =
+      record { history = h.history; position = h.position; route = h.route; asked = h.asked ++ want.Forward looper popped ∷ []; heard = h.heard; comes = the.wanted h.asked h.heard b.task s (want.Forward looper popped) u v h.comes may tt e }
+
+  pub fails_on : (u : Task) (v : DeskState) → MayWant b.task → want_of (Some (place_in u)) b.task s ≡ wants_none u v → IsBegun opening lines (with_task b u) v
+  fails_on u v may e =
+      record { history = h.history; position = h.position; route = h.route; asked = h.asked; heard = h.heard; comes = the.found_none h.asked h.heard b.task s u v h.comes may e }
+
+  pub hears_on : (a : Answer) → TakesAnswer b.task a → IsBegun opening lines (with_task b (heard_of b.task s a).task) (heard_of b.task s a).state
+  hears_on a takes =
+      record { history = h.history; position = h.position; route = h.route; asked = h.asked; heard = h.heard ++ a ∷ []; comes = the.given h.asked h.heard b.task s a h.comes takes }
+
+  -- ---- and ends
+  dispatches_so : (memory : Option ℕ) → dispatch_of b.before b.item h.heard memory ≡ came_to h.asked b.task s → Dispatches b.before b.item (words_of b.task) (quits b.task) s
+  dispatches_so memory e =
+      record {
+        answers = h.heard;
+        memory = memory;
+        spelled = all_spelled h.asked h.heard b.task s h.comes;
+        waits = ap (λ (d : Dispatch). d.waits) e;
+        used = ap (λ (d : Dispatch). d.answers) e;
+        words_are = ap (λ (d : Dispatch). d.words) e;
+        quit_is = ap (λ (d : Dispatch). d.quit) e;
+        state_is = ap (λ (d : Dispatch). d.state) e;
+      }
+
+  by_route : (r : Route) (er : EntryRoute) → er ≡ entry_route b.before r → r ≡ (routed_of b.before b.item).route → Dispatches b.before b.item (words_of b.task) (quits b.task) s → DispatchStep b.before er (Some b.item) (words_of b.task) (quits b.task) s
+  by_route r er e is d = subst (λ (x : EntryRoute). DispatchStep b.before x (Some b.item) (words_of b.task) (quits b.task) s) (sym e) (step r is)
+    where
+      step : (r : Route) → r ≡ (routed_of b.before b.item).route → DispatchStep b.before (entry_route b.before r) (Some b.item) (words_of b.task) (quits b.task) s
+      step (route.Deliver token t) is = (ap (entry_route b.before) is, d)
+      step route.Skipped is = (ap (entry_route b.before) is, d)
+      step route.Dropped is = (ap (entry_route b.before) is, d)
+      step route.NotUnderstood is = (ap (entry_route b.before) is, d)
+      step (route.Forward looper) is = (ap (entry_route b.before) is, d)
+
+  pub ends_on : ComesToDispatch → IsDone b.task → (line : LineData) → line.entry.event ≡ ended_event b → line.item ≡ Some b.item → line.entry.by.0 ≡ 10000 + opening.looper → stamp_in lines < line.entry.stamp → IsHistory opening (lines ++ line ∷ []) s
+  ends_on comes done line is item by lt =
+      let whole = comes b.before b.item h.asked h.heard b.task s h.comes done in
+      let step = by_route (routed_of b.before b.item).route b.route h.route refl (dispatches_so whole.0 whole.1) in
+      history_push opening lines b.before line s h.history
+      (record {
+        by = subst (IsBy opening.looper line.entry.by.0) (sym is) by;
+        event = subst (λ (e : DeskEvent). EventStep (dispatches lines) b.before e line.item s) (sym is) (subst (λ (o : Option ItemData). EventStep (dispatches lines) b.before (ended_event b) o s) (sym item) (h.position, step));
+      })
+      lt

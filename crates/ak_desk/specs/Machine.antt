@@ -1,0 +1,127 @@
+-- The machine of a desk: which entry may follow, and what it makes of the handlers.
+use Rattle.std.specs.Prelude.{◌≡◌, ℕ, ◌+◌, ◌<◌, Bool, true, false, List, [], ◌∷◌, All, Option, None, Some}
+use Rattle.std.specs.List.{list_any}
+use Rattle.ak_handler.specs.declared.fault.HandlerFault.{HandlerFault}
+use Rattle.ak_handler.specs.declared.fault.HandlerFault.TheVariants as fault
+use Rattle.ak_handler.specs.Handlers.{HandlersData}
+use Rattle.ak_handler.specs.Changes.{add_fault, with_handler, remove_fault, without_handler, next_fault, with_next, preferred_fault}
+use Rattle.ak_flatten.specs.Item.{ItemData}
+use Rattle.ak_action.specs.declared.answer.Answer.{Answer}
+use Rattle.ak_action.specs.declared.answer.AnswerWord.{AnswerWord}
+use Rattle.ak_action.specs.declared.state.DeskState.{DeskState}
+use Rattle.ak_action.specs.Laws.{IsSpelled}
+use Rattle.ak_action.specs.declared.row.DeskRow.{DeskRow}
+use Rattle.ak_action.specs.Row.{empty_row}
+use Rattle.ak_desk.specs.declared.entry.DeskEvent.{DeskEvent}
+use Rattle.ak_desk.specs.declared.entry.DeskEvent.TheVariants as event
+use Rattle.ak_desk.specs.declared.entry.Edit.{Edit}
+use Rattle.ak_desk.specs.declared.entry.Edit.TheVariants as edit
+use Rattle.ak_desk.specs.declared.entry.EditAnswer.{EditAnswer}
+use Rattle.ak_desk.specs.declared.entry.EditAnswer.TheVariants as answered
+use Rattle.ak_desk.specs.declared.entry.EntryRoute.{EntryRoute}
+use Rattle.ak_desk.specs.declared.entry.EntryRoute.TheVariants as entry
+use Rattle.ak_desk.specs.Dispatch.{dispatch_of, entry_route}
+use Rattle.ak_desk.specs.Line.{LineData}
+use Rattle.ak_desk.specs.Place.{routed_of}
+
+-- ---- edits
+pub record Edited : Type 0 where
+  pub answer : EditAnswer
+  pub handlers : HandlersData DeskRow
+
+-- refused, which changes nothing, or done
+abbrev pub edited : HandlersData DeskRow → Option HandlerFault → EditAnswer → HandlersData DeskRow → Edited
+edited h (Some f) answer t = record { answer = answered.Refused f; handlers = h }
+edited h None answer t = record { answer = answer; handlers = t }
+
+abbrev pub edit_of : HandlersData DeskRow → Edit → Edited
+edit_of h (edit.Add name) = edited h (add_fault h name) (answered.Token h.next_token) (with_handler h name empty_row)
+edit_of h (edit.Remove token) = edited h (remove_fault h token) answered.Done (without_handler h token)
+edit_of h (edit.Next token next) = edited h (next_fault h token next) answered.Done (with_next h token next)
+edit_of h (edit.Prefer token) = edited h (preferred_fault h token) answered.Done (record h { preferred = token })
+
+abbrev pub is_no_memory : EditAnswer → Bool
+is_no_memory answered.NoMemory = true
+is_no_memory _ = false
+
+abbrev pub refusal : HandlerFault → EditAnswer
+refusal fault.NoMemory = answered.NoMemory
+refusal f = answered.Refused f
+
+-- without memory nothing changes
+abbrev pub EditsHandlers : HandlersData DeskRow → Edit → EditAnswer → HandlersData DeskRow → Type 0
+EditsHandlers h e answered.NoMemory t = t ≡ h
+EditsHandlers h e answer t = edit_of h e ≡ record { answer = answer; handlers = t }
+
+-- ---- dispatches
+-- for some answers that were all used, and where memory may have run out at some place, it comes to these words, this quit mark and
+-- this state
+pub record Dispatches (s : DeskState) (item : ItemData) (words : List AnswerWord) (quit : Bool) (t : DeskState) : Type 0 where
+  pub answers : List Answer
+  pub memory : Option ℕ
+  -- the flat text of a reply spells its message
+  pub spelled : All IsSpelled answers
+  pub waits : (dispatch_of s item answers memory).waits ≡ false
+  pub used : (dispatch_of s item answers memory).answers ≡ []
+  pub words_are : (dispatch_of s item answers memory).words ≡ words
+  pub quit_is : (dispatch_of s item answers memory).quit ≡ quit
+  pub state_is : (dispatch_of s item answers memory).state ≡ t
+
+-- where there was no memory to begin, nothing is known of the item, and nothing changes
+abbrev pub DispatchStep : DeskState → EntryRoute → Option ItemData → List AnswerWord → Bool → DeskState → Type 0
+DispatchStep s entry.NoMemory None words quit t = (words ≡ []) × ((quit ≡ false) × (t ≡ s))
+DispatchStep s entry.NoMemory (Some item) words quit t = ⊥
+DispatchStep s r None words quit t = ⊥
+DispatchStep s r (Some item) words quit t = (r ≡ entry_route s (routed_of s item).route) × Dispatches s item words quit t
+
+-- ---- one entry, of the looper with that number, after so many dispatches
+abbrev pub EventStep : ℕ → DeskState → DeskEvent → Option ItemData → DeskState → Type 0
+EventStep n s (event.Dispatched position r words quit) item t = (position ≡ n) × DispatchStep s r item words quit t
+EventStep n s (event.Edited e answer) item t = (item ≡ None) × ((edit_of s.handlers e).answer ≡ answer) × (t ≡ record s { handlers = (edit_of s.handlers e).handlers })
+
+-- a dispatch is by the looper's own thread
+abbrev pub IsBy : ℕ → ℕ → DeskEvent → Type 0
+IsBy looper by (event.Dispatched _ _ _ _) = by ≡ 10000 + looper
+IsBy looper by (event.Edited _ _) = Unit {0}
+
+pub record DeskStep (looper n : ℕ) (s : DeskState) (line : LineData) (t : DeskState) : Type 0 where
+  pub by : IsBy looper line.entry.by.0 line.entry.event
+  pub event : EventStep n s line.entry.event line.item t
+
+-- ---- the whole list
+abbrev pub counted : ℕ → DeskEvent → ℕ
+counted n (event.Dispatched _ _ _ _) = n + 1
+counted n (event.Edited _ _) = n
+
+-- with so many before
+abbrev pub counted_all : ℕ → List LineData → ℕ
+counted_all n [] = n
+counted_all n (line ∷ lines) = counted_all (counted n line.entry.event) lines
+
+-- how many messages were dispatched
+abbrev pub dispatches : List LineData → ℕ
+dispatches lines = counted_all 0 lines
+
+-- from one state, with so many dispatches before, the list leads to another
+abbrev pub Replays : ℕ → ℕ → DeskState → List LineData → DeskState → Type 0
+Replays looper n s [] t = t ≡ s
+Replays looper n s (line ∷ lines) t =
+    (u : DeskState) × (DeskStep looper n s line u × Replays looper (counted n line.entry.event) u lines t)
+
+-- the stamps rise, from past the one before
+abbrev pub StampsRise : ℕ → List LineData → Type 0
+StampsRise last [] = Unit {0}
+StampsRise last (line ∷ lines) = (last < line.entry.stamp) × StampsRise line.entry.stamp lines
+
+-- from that opening the list leads to this state
+pub record IsHistory (opening : DeskState) (lines : List LineData) (state : DeskState) : Type 0 where
+  pub replays : Replays opening.looper 0 opening lines state
+  pub stamps : StampsRise 0 lines
+
+-- ---- there was no memory to begin a dispatch
+abbrev pub gives_up : DeskEvent → Bool
+gives_up (event.Dispatched position entry.NoMemory words quit) = true
+gives_up _ = false
+
+abbrev pub gave_up : List LineData → Bool
+gave_up lines = list_any (λ line. gives_up line.entry.event) lines

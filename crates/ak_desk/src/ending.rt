@@ -1,0 +1,176 @@
+ghost use Rattle.std.specs.Prelude.{◌≡◌, ◌+◌, ◌++◌, ◌∷◌, ◌<◌, ◌≤◌, ◌^◌, [], true, false, None, Some, is_some, if◌then◌else◌, option_map, vec_len, vec_capacity};
+ghost use Rattle.ak_desk.specs.Desk.{line_after, stamp_in, stamp_after};
+ghost use Rattle.ak_desk.specs.Dispatch.{fitting, ran_out};
+ghost use Rattle.ak_desk.specs.Replies.{none_reply};
+
+use crate::desk::{Begun, Desk};
+use crate::entry::{DeskEntry, DeskEvent, DeskLine, EntryRoute};
+use crate::laws::a_dispatch_comes_as_told;
+use crate::made::Made;
+use crate::replies::none_reply;
+use crate::reserved::Spare;
+use crate::task::Ended;
+use ak_action::AnswerWord;
+use ak_base::{Items, KitError};
+use ak_flatten::{FLAT_LIMIT, Item, Taken, flat_len};
+use ak_message::Message;
+use ak_turn::Clock;
+use std::alloc::Global;
+use std::snapshot::Snapshot;
+
+impl Desk {
+    ghost use Rattle.ak_desk.specs.Desk.{clock_after, ended, given_up, made_by, DeskIsDone};
+    ghost use Rattle.ak_desk.specs.Machine.{dispatches, gave_up};
+
+    /// Ends the message that was begun: adds its entry, and tells what it came to. A reply whose flat text
+    /// has over 4,096 bytes is replaced by one that tells so. The clock is that of the looper's own thread.
+    /// Takes no memory.
+    pub fn end(&mut self, clock: &mut Clock) -> Made
+        requires done { DeskIsDone self.old }
+        requires looper { clock.old.thread.0 ≡ 10000 + self.old.opening.looper }
+        requires time { clock.old.time < 2 ^ 63 }
+        requires last { stamp_in self.old.lines < 2 ^ 63 }
+        ensures desk { self.new ≡ ended self.old clock.old }
+        ensures made { result ≡ made_by self.old.begun }
+        ensures clock { clock.new ≡ clock_after self.old clock.old }
+    {
+        a_dispatch_comes_as_told();
+        let alloc = *self.lines.allocator();
+        let Some(begun) = self.begun.take() else {
+            return Made {
+                reply: None,
+                forwarded: false,
+                quit: false,
+                no_memory: false,
+            };
+        };
+        let Begun {
+            position,
+            route,
+            task,
+            room,
+            spare,
+            item,
+            before: _,
+        } = begun;
+        let Ended {
+            answers,
+            reply,
+            quit,
+        } = task.finish(alloc, room);
+        let no_memory = ran_out(answers.as_slice());
+        let event = DeskEvent::Dispatched {
+            position,
+            route,
+            answers,
+            quit,
+        };
+        add(&mut self.lines, clock, event, Some(item));
+        made(reply, quit, no_memory, spare)
+    }
+
+    /// Gives the message up where `begin` found no memory for it: adds its entry, in a place that the desk
+    /// keeps for this, once. The clock is that of the looper's own thread. Takes no memory.
+    pub fn give_up(&mut self, taken: &Taken, clock: &mut Clock) -> Made
+        requires rest { self.old.begun ≡ None }
+        requires once { gave_up self.old.lines ≡ false }
+        requires position { taken.now.position ≡ dispatches self.old.lines }
+        requires looper { clock.old.thread.0 ≡ 10000 + self.old.opening.looper }
+        requires time { clock.old.time < 2 ^ 63 }
+        requires last { stamp_in self.old.lines < 2 ^ 63 }
+        ensures desk { self.new ≡ given_up self.old clock.old taken.now }
+        ensures reply { result.reply ≡ Some none_reply }
+        ensures forwarded { result.forwarded ≡ false }
+        ensures quit { result.quit ≡ false }
+        ensures no_memory { result.no_memory ≡ true }
+        ensures clock { clock.new ≡ clock_after self.old clock.old }
+    {
+        let alloc = *self.lines.allocator();
+        let event = DeskEvent::Dispatched {
+            position: taken.position,
+            route: EntryRoute::NoMemory,
+            answers: Items::from_vec(Vec::new(alloc)),
+            quit: false,
+        };
+        add(&mut self.lines, clock, event, None);
+        Made {
+            reply: Some(none_reply(alloc)),
+            forwarded: false,
+            quit: false,
+            no_memory: true,
+        }
+    }
+}
+
+// Adds a line where there is a place for it. Takes no memory.
+pub(crate) fn add(
+    lines: &mut Vec<DeskLine>,
+    clock: &mut Clock,
+    event: DeskEvent,
+    item: Option<Snapshot<Item>>,
+)
+    requires place { vec_len lines.old < vec_capacity lines.old }
+    requires time { clock.old.time < 2 ^ 63 }
+    requires last { stamp_in lines.old.items < 2 ^ 63 }
+    ensures items { lines.new.items
+        ≡ lines.old.items ++ line_after lines.old.items clock.old event (option_map (λ x. x.value) item) ∷ [] }
+    ensures len { vec_len lines.new ≡ vec_len lines.old + 1 }
+    ensures capacity { vec_capacity lines.old ≤ vec_capacity lines.new }
+    ensures clock { clock.new ≡ record clock.old { time = stamp_after lines.old.items clock.old } }
+{
+    let entry = DeskEntry {
+        stamp: clock.stamp(last_stamp(lines)),
+        by: clock.thread,
+        event,
+    };
+    lines.push(DeskLine { entry, item }).unwrap();
+}
+
+pub(crate) fn last_stamp(lines: &[DeskLine]) -> u64
+    ensures { result ≡ stamp_in lines.now }
+{
+    lines.last().map_or(0, |line| line.entry.stamp)
+}
+
+// Whether the last word tells that memory ran out.
+fn ran_out(words: &[AnswerWord]) -> bool
+    ensures { result ≡ ran_out words.now }
+{
+    match words.last() {
+        Some(word) => matches!(word, AnswerWord::Error(KitError::NoMemory)),
+        None => false,
+    }
+}
+
+fn made(reply: Option<Message>, quit: bool, no_memory: bool, spare: Spare) -> Made
+    ensures reply { result.reply ≡ option_map fitting reply }
+    ensures forwarded { result.forwarded ≡ (if is_some reply then false else true) }
+    ensures quit { result.quit ≡ quit }
+    ensures no_memory { result.no_memory ≡ no_memory }
+{
+    match reply {
+        Some(reply) => Made {
+            reply: Some(fitting(reply, spare)),
+            forwarded: false,
+            quit,
+            no_memory,
+        },
+        None => Made {
+            reply: None,
+            forwarded: true,
+            quit,
+            no_memory,
+        },
+    }
+}
+
+// The reply, or that it is too long.
+fn fitting(reply: Message, spare: Spare) -> Message
+    ensures { result ≡ fitting reply }
+{
+    if flat_len(&reply) > FLAT_LIMIT as u64 {
+        spare.with(KitError::TooLong)
+    } else {
+        reply
+    }
+}

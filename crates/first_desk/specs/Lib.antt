@@ -1,0 +1,5 @@
+pub mod Desk
+pub mod Laws
+pub mod Messages
+pub mod Replies
+pub mod Rows
