@@ -1,0 +1,5 @@
+pub mod Reply
+pub mod ReplyInside
+pub mod ReplyKept
+pub mod ReplyLaws
+pub mod ReplySeats
