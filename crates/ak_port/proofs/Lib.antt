@@ -1,0 +1,4 @@
+pub mod PortReplays
+pub mod PortLimits
+pub mod PortItems
+pub mod PortSound

@@ -1,0 +1,4 @@
+pub mod PortCalls
+pub mod PortInside
+pub mod PortLaws
+pub mod PortMachine
