@@ -2,3 +2,5 @@ pub mod PortReplays
 pub mod PortLimits
 pub mod PortItems
 pub mod PortSound
+pub mod PortCalled
+pub mod PortTaking

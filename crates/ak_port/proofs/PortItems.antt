@@ -1,13 +1,12 @@
 -- What is written, pending and taken, item by item.
-use Rattle.std.proofs.Common.{◌≡◌, ℕ, zero, suc, ◌+◌, ◌-◌, ◌<◌, ◌≤◌, Bool, true, false, List, [], ◌∷◌, ◌++◌, length, take, drop, refl, sym, ap, ◌∙◌, subst, arith, length-append, append_assoc, append-nil}
-use Rattle.std.proofs.Math.Seq.{take-add, take-nil, drop-nil}
+use Rattle.std.proofs.Common.{◌≡◌, ℕ, zero, suc, ◌+◌, ◌<◌, ◌≤◌, true, List, [], ◌∷◌, ◌++◌, length, take, drop, refl, sym, ap, ◌∙◌, arith, append_assoc, append-nil}
+use Rattle.std.proofs.Math.Seq.{take-add}
 use Rattle.std.proofs.lemmas.List.{take_all, drop_all, drop-drop, length-take-le, length-drop, take-append-le, drop-append-le}
 use Rattle.ak_flatten.specs.Item.{ItemData}
-use Rattle.ak_flatten.specs.declared.item.Taken.{Taken}
 use Rattle.ak_port.specs.declared.port_entry.PortEntry.{PortEntry}
 use Rattle.ak_port.specs.declared.port_entry.PortEvent.{PortEvent}
 use Rattle.ak_port.specs.declared.port_entry.PortEvent.TheVariants as event
-use Rattle.ak_port.specs.PortMachine.{PortState, PortStep, AreSteps, IsPort, IsAllowed, replayed, state_after, state_of, unmade, pending_count, numbered, taken_items, pending_items, written_item, written_in, handed_out, handed_from, handed_in, follows_making}
+use Rattle.ak_port.specs.PortMachine.{PortState, AreSteps, IsPort, IsAllowed, replayed, state_after, state_of, unmade, numbered, taken_items, pending_items, written_item, written_in, handed_out, handed_from, handed_in}
 use Rattle.ak_port.proofs.PortLimits.{IsReached, reached_step, unmade_reached}
 use Rattle.ak_port.proofs.PortReplays.{AreSteps-behind}
 

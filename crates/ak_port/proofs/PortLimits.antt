@@ -1,11 +1,10 @@
 -- A port stays within its limits.
-use Rattle.std.proofs.Common.{◌≡◌, ℕ, ◌+◌, ◌-◌, ◌<◌, ◌≤◌, Bool, true, false, List, [], ◌∷◌, ◌++◌, length, refl, sym, ap, ◌∙◌, subst, arith, length-append}
-use Rattle.ak_flatten.specs.Item.{ItemData}
+use Rattle.std.proofs.Common.{◌≡◌, ℕ, ◌+◌, false, List, [], ◌∷◌, ◌++◌, length, refl, arith, length-append}
 use Rattle.ak_port.specs.declared.port_entry.PortEntry.{PortEntry}
 use Rattle.ak_port.specs.declared.port_entry.PortEvent.{PortEvent}
 use Rattle.ak_port.specs.declared.port_entry.PortEvent.TheVariants as event
 use Rattle.ak_port.specs.PortLaws.{IsWithin}
-use Rattle.ak_port.specs.PortMachine.{PortState, PortStep, AreSteps, IsPort, replayed, state_after, state_of, unmade, pending_count, IsAllowed, follows_making}
+use Rattle.ak_port.specs.PortMachine.{PortState, PortStep, AreSteps, IsPort, replayed, state_after, state_of, unmade, IsAllowed, follows_making}
 
 -- a state that steps lead to: it is within its limits, and before it was made nothing was written
 pub record IsReached (s : PortState) : Type 0 where

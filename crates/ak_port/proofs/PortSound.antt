@@ -1,5 +1,5 @@
 -- The fields of a port tell its state after each entry.
-use Rattle.std.proofs.Common.{◌≡◌, ℕ, ◌+◌, ◌-◌, ◌<◌, ◌≤◌, Bool, true, false, List, [], ◌∷◌, ◌++◌, length, take, drop, min, Option, Some, None, refl, sym, ap, ◌∙◌, subst, arith, length-append}
+use Rattle.std.proofs.Common.{◌≡◌, ℕ, ◌+◌, ◌-◌, ◌<◌, ◌≤◌, true, false, List, [], ◌∷◌, ◌++◌, length, take, drop, min, Some, None, refl, sym, ap, ◌∙◌, subst, arith, length-append}
 use Rattle.std.specs.Vec.{vec_len, vec_capacity}
 use Rattle.std.specs.VecDeque.{deque_len, deque_capacity}
 use Rattle.std.proofs.lemmas.List.{drop-drop, drop-take, drop-append-le}
@@ -8,7 +8,6 @@ use Rattle.ak_flatten.specs.declared.item.Duty.TheVariants as duty
 use Rattle.ak_message.specs.declared.address.Target.TheVariants as target
 use Rattle.ak_port.specs.declared.port_book.PortBook.TheInside.{Inside}
 use Rattle.ak_port.specs.declared.port_entry.PortEntry.{PortEntry}
-use Rattle.ak_port.specs.declared.port_entry.PortEvent.{PortEvent}
 use Rattle.ak_port.specs.declared.port_entry.PortEvent.TheVariants as event
 use Rattle.ak_port.specs.declared.port_entry.Refusal.{Refusal}
 use Rattle.ak_port.specs.declared.port_entry.Refusal.TheVariants as refusal
@@ -229,3 +228,12 @@ some_taken b most count n sound all some least is =
     let few = few_pending b sound in
     let len = few.0 in
     (omega arith, omega arith)
+
+-- how many are left behind it
+pub left_behind : (b : Inside) (x : PortEntry) (k : ℕ) (items : List PortEntry) → IsSound b → k ≤ deque_len b.pending → items ≡ b.entries.items ++ x ∷ [] → x.event ≡ event.Took k → pending_count (state_of b.entries.items) ≡ k + pending_count (state_of items)
+left_behind b x k items sound most after is =
+    let s = state_of b.entries.items in
+    let few = (few_pending b sound).0 in
+    let within = (within_limits b.taker.0 b.entries.items sound.port).taken in
+    let step : pending_count s ≡ k + pending_count (state_after s (event.Took k)) = omega arith in
+    step ∙ ap (λ t. k + pending_count t) (sym (ap state_of after ∙ state_of-push b.entries.items x ∙ ap (state_after s) is))

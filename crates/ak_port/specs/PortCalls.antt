@@ -8,8 +8,6 @@ use Rattle.ak_flatten.specs.Item.{ItemData}
 use Rattle.ak_port.specs.declared.port_entry.PortEntry.{PortEntry}
 use Rattle.ak_port.specs.declared.port_entry.PortEvent.{PortEvent}
 use Rattle.ak_port.specs.declared.port_entry.PortEvent.TheVariants as event
-use Rattle.ak_port.specs.declared.port_entry.How.{How}
-use Rattle.ak_port.specs.declared.port_entry.How.TheVariants as how
 use Rattle.ak_port.specs.declared.port_entry.WriteAnswer.{WriteAnswer}
 use Rattle.ak_port.specs.declared.port_entry.WriteAnswer.TheVariants as written
 use Rattle.ak_port.specs.declared.port_entry.TakeAnswer.{TakeAnswer}

@@ -1,5 +1,5 @@
 -- What contracts see of a port as the code holds it.
-use Rattle.std.specs.Prelude.{◌≡◌, ℕ, ◌+◌, ◌-◌, ◌≤◌, Bool, true, false, List, length, drop}
+use Rattle.std.specs.Prelude.{◌≡◌, ℕ, ◌+◌, ◌≤◌, Bool, true, false, length, drop}
 use Rattle.std.specs.Vec.{vec_len, vec_capacity}
 use Rattle.std.specs.VecDeque.{deque_len, deque_capacity}
 use Rattle.ak_port.specs.declared.port_book.PortBook.TheInside.{Inside}

@@ -1,10 +1,10 @@
 //! Ports that threads share.
-ghost use Rattle.std.specs.Prelude.{◌≡◌, ℕ, ◌+◌, ◌-◌, ◌∷◌, ◌++◌, [], ◌<◌, ◌≤◌, ◌^◌, false, true, min, Some, IfOk, OnOk, OnErr};
+ghost use Rattle.std.specs.Prelude.{◌≡◌, ℕ, ◌+◌, ◌-◌, ◌∷◌, ◌++◌, [], ◌<◌, ◌≤◌, ◌^◌, false, true, min, Some, IfOk, IfErr, IfSome, IfNone, OnOk, OnErr};
 ghost use Rattle.std.specs.Arc.{arc_value};
 ghost use Rattle.std.specs.VecDeque.{deque_len, deque_capacity};
 ghost use Rattle.ak_turn.specs.Seats.{first_seat};
 ghost use Rattle.ak_port.specs.PortMachine.{last_taken, pending_count, state_of};
-ghost use Rattle.ak_port.specs.PortCalls.{clock_after, close_entry, making, take_count, take_event, write_entry, CanTake, GivesBack, HasAnswered, HasEntered, IfTook, IsAtPort, IsFull};
+ghost use Rattle.ak_port.specs.PortCalls.{clock_after, close_entry, making, take_count, take_event, write_entry, CanTake, GivesBack, HasAnswered, HasEntered, HasLooked, IfTook, IsAtPort, IsFull};
 ghost use Rattle.ak_base.specs.declared.thread.ThreadId.{ThreadId};
 
 use crate::port_book::PortBook;
@@ -62,6 +62,12 @@ fn try_write<R: Wait>(
     requires of { seat.old.lock ≡ port.now }
     requires idle { seat.old.turn ≡ false }
     requires thread { seat.old.thread ≡ clock.old.thread.0 }
+    ensures answered { IfOk result (λ answer. HasAnswered (write_entry answer item) clock.old clock.new seat.old seat.new) }
+    ensures back { IfOk result (λ answer. GivesBack answer item) }
+    ensures full { IfOk result (λ answer. IsFull answer ≡ true → how ≡ How.NoWait) }
+    ensures looked { OnErr result (HasLooked clock.old clock.new seat.old seat.new) }
+    ensures item { IfErr result (λ back. back ≡ item) }
+    ensures port { IsAtPort seat.new }
 {
     let mut turn = port.lock(rt, seat);
     clock.ready(rt);
@@ -115,6 +121,13 @@ fn try_take<R: Wait>(
     requires thread { seat.old.thread ≡ clock.old.thread.0 }
     requires taking { CanTake clock.old.thread (deque_capacity out.old - deque_len out.old) seat.old }
     requires most { 1 ≤ most }
+    ensures answered { IfSome result (λ answer. HasEntered clock.old clock.new (take_event answer) seat.old seat.new) }
+    ensures items { IfSome result (λ answer. out.new.items ≡ out.old.items ++ last_taken (take_count answer) (state_of seat.new.front)) }
+    ensures count { IfSome result (λ answer. IfTook answer (λ k. k ≡ min most (k + pending_count (state_of seat.new.front)))) }
+    ensures room { deque_capacity out.new ≡ deque_capacity out.old }
+    ensures looked { IfNone result (HasLooked clock.old clock.new seat.old seat.new) }
+    ensures nothing { IfNone result (out.new ≡ out.old) }
+    ensures port { IsAtPort seat.new }
 {
     let mut turn = port.lock(rt, seat);
     clock.ready(rt);
@@ -154,6 +167,31 @@ pub fn take<R: Wait>(
     unreachable!()
 }
 
+// The closing itself.
+fn try_close<R: Wait>(
+    port: &Port,
+    rt: &R,
+    seat: &mut Seat<PortBook>,
+    clock: &mut Clock,
+) -> CloseAnswer
+    requires of { seat.old.lock ≡ port.now }
+    requires idle { seat.old.turn ≡ false }
+    requires thread { seat.old.thread ≡ clock.old.thread.0 }
+    ensures answered { HasAnswered (close_entry result) clock.old clock.new seat.old seat.new }
+    ensures port { IsAtPort seat.new }
+    ensures already { result ≡ CloseAnswer.AlreadyShut → (state_of seat.new.front).shut ≡ true }
+{
+    let mut turn = port.lock(rt, seat);
+    clock.ready(rt);
+    let shuts = turn.book().shut(clock);
+    turn.finish(seat);
+    if shuts {
+        CloseAnswer::Shut
+    } else {
+        CloseAnswer::AlreadyShut
+    }
+}
+
 /// Shuts the port: nothing is written any more. `AlreadyShut`, without an entry, where it is shut. Takes no
 /// memory.
 pub fn close<R: Wait>(
@@ -170,13 +208,5 @@ pub fn close<R: Wait>(
     ensures shut { (state_of seat.new.front).shut ≡ true }
     ensures taking { (thread : ThreadId) (room : ℕ) → CanTake thread room seat.old → CanTake thread room seat.new }
 {
-    let mut turn = port.lock(rt, seat);
-    clock.ready(rt);
-    let shuts = turn.book().shut(clock);
-    turn.finish(seat);
-    if shuts {
-        CloseAnswer::Shut
-    } else {
-        CloseAnswer::AlreadyShut
-    }
+    try_close(port, rt, seat, clock)
 }

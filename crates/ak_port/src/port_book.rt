@@ -324,7 +324,7 @@ impl PortBook {
         requires last { last_stamp_of stamp_number self.old.entries < 2 ^ 63 }
         ensures added { HasAdded (Some (PortEvent.Took result)) clock.old clock.new self.old self.new }
         ensures items { out.new.items ≡ out.old.items ++ last_taken result (state_of self.new.entries) }
-        ensures count { result ≡ min most (pending_count (state_of self.old.entries)) }
+        ensures count { result ≡ min most (result + pending_count (state_of self.new.entries)) }
         ensures room { deque_capacity out.new ≡ deque_capacity out.old }
         ensures port { IsPortBook self.new }
     {
@@ -365,14 +365,14 @@ impl PortBook {
         most: u32,
     ) -> Option<TakeAnswer>
         requires taker { clock.old.thread ≡ self.old.taker }
-        requires unrested { (state_of self.old.entries).rested ≡ false }
+        requires unrested { IsPortBook self.old → (state_of self.old.entries).rested ≡ false }
         requires most { 0 < most }
-        requires room { deque_len out.old + (state_of self.old.entries).capacity ≤ deque_capacity out.old }
+        requires room { IsPortBook self.old → deque_len out.old + (state_of self.old.entries).capacity ≤ deque_capacity out.old }
         requires time { clock.old.time < 2 ^ 63 }
         requires last { last_stamp_of stamp_number self.old.entries < 2 ^ 63 }
         ensures added { IfSome result (λ answer. HasAdded (Some (take_event answer)) clock.old clock.new self.old self.new) }
         ensures items { IfSome result (λ answer. out.new.items ≡ out.old.items ++ last_taken (take_count answer) (state_of self.new.entries)) }
-        ensures count { IfSome result (λ answer. IfTook answer (λ k. k ≡ min most (pending_count (state_of self.old.entries)))) }
+        ensures count { IfSome result (λ answer. IfTook answer (λ k. k ≡ min most (k + pending_count (state_of self.new.entries)))) }
         ensures room { deque_capacity out.new ≡ deque_capacity out.old }
         ensures none { IfNone result (HasAdded None clock.old clock.new self.old self.new) }
         ensures nothing { IfNone result (out.new ≡ out.old) }

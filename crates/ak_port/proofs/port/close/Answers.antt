@@ -1,0 +1,9 @@
+use Rattle.ak_port.proofs.PortTaking.{can_after, close_plain, shut_after}
+use Rattle.ak_port.specs.PortCalls.{close_entry}
+use Rattle.ak_port.proofs.port.close.Goals as goal
+
+pub returns-clause-shut : goal.returns-clause-shut
+returns-clause-shut g c = shut_after c.try_close.result _ _ _ _ c.try_close.ensures.answered c.try_close.ensures.already
+
+pub returns-clause-taking : goal.returns-clause-taking
+returns-clause-taking g c = can_after (close_entry c.try_close.result) _ _ _ _ (close_plain c.try_close.result) c.try_close.ensures.answered c.try_close.ensures.port
