@@ -4,3 +4,5 @@ pub mod PortItems
 pub mod PortSound
 pub mod PortCalled
 pub mod PortTaking
+pub mod PortTaken
+pub mod PortWriting

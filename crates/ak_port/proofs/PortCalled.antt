@@ -4,7 +4,7 @@ use Rattle.ak_turn.specs.declared.clock.Clock.{Clock}
 use Rattle.ak_turn.specs.Seats.{HasCalled}
 use Rattle.ak_turn.proofs.Calls.{seen_then_seen, seen_then_called}
 use Rattle.ak_port.specs.declared.port_entry.PortEvent.{PortEvent}
-use Rattle.ak_port.specs.PortCalls.{PortSeat, by_number, entry_now, clock_after, HasAnswered, HasEntered, HasLooked}
+use Rattle.ak_port.specs.PortCalls.{PortSeat, by_number, entry_now, clock_after, HasAnswered, HasEntered, HasLooked, KeepsSeat}
 
 -- a call that looked, and then looked or answered
 pub looked_then_looked : (k l m : Clock) (a b c : PortSeat) → HasLooked k l a b → HasLooked l m b c → HasLooked k m a c
@@ -27,3 +27,14 @@ pub looked_stays : (k l : Clock) (a b : PortSeat) → HasLooked k l a b → (b.l
 looked_stays k l a b looked =
     let after = looked.seen.after in
     (ap (λ s. s.lock) after, ap (λ s. s.turn) after, ap (λ s. s.thread) after, ap (λ t. t.thread.0) looked.clocked)
+
+-- what every call keeps
+pub answered_keeps : (e : Option PortEvent) (k l : Clock) (a b : PortSeat) → HasAnswered e k l a b → KeepsSeat a b × (l.thread ≡ k.thread)
+answered_keeps None k l a b answered =
+    let after = answered.seen.after in
+    (record { lock = ap (λ s. s.lock) after; opening = ap (λ s. s.opening) after; thread = ap (λ s. s.thread) after; joined = ap (λ s. s.joined) after; turn = ap (λ s. s.turn) after; names = ap (λ s. s.names) after },
+    ap (λ t. t.thread) answered.clocked)
+answered_keeps (Some event) k l a b answered =
+    let after = answered.called.after in
+    (record { lock = ap (λ s. s.lock) after; opening = ap (λ s. s.opening) after; thread = ap (λ s. s.thread) after; joined = ap (λ s. s.joined) after; turn = ap (λ s. s.turn) after; names = ap (λ s. s.names) after },
+    ap (λ t. t.thread) answered.clocked)

@@ -39,7 +39,7 @@ reached_after taker by s event.Shut reached made allowed = record { within = rec
 pub reached_step : (taker : ℕ) (s : PortState) (x : PortEntry) → IsReached s → PortStep taker s x → IsReached (state_after s x.event)
 reached_step taker s x reached step = reached_after taker x.by.0 s x.event reached step.after_making step.allowed
 
-reached_by : (taker : ℕ) (s : PortState) (xs : List PortEntry) → IsReached s → AreSteps taker s xs → IsReached (replayed s xs)
+pub reached_by : (taker : ℕ) (s : PortState) (xs : List PortEntry) → IsReached s → AreSteps taker s xs → IsReached (replayed s xs)
 reached_by taker s [] reached steps = reached
 reached_by taker s (x ∷ xs) reached steps = reached_by taker (state_after s x.event) xs (reached_step taker s x reached steps.0) steps.1
 

@@ -22,6 +22,10 @@ pub AreSteps-behind : (taker : ℕ) (s : PortState) (xs ys : List PortEntry) →
 AreSteps-behind taker s [] ys steps = steps
 AreSteps-behind taker s (x ∷ xs) ys steps = AreSteps-behind taker (state_after s x.event) xs ys steps.1
 
+pub AreSteps-before : (taker : ℕ) (s : PortState) (xs ys : List PortEntry) → AreSteps taker s (xs ++ ys) → AreSteps taker s xs
+AreSteps-before taker s [] ys steps = tt
+AreSteps-before taker s (x ∷ xs) ys steps = (steps.0, AreSteps-before taker (state_after s x.event) xs ys steps.1)
+
 -- a port that was made stays made
 pub made_stays : (s : PortState) (e : PortEvent) → s.made ≡ true → (state_after s e).made ≡ true
 made_stays s (event.Made capacity life) made = refl

@@ -4,7 +4,7 @@ ghost use Rattle.std.specs.Arc.{arc_value};
 ghost use Rattle.std.specs.VecDeque.{deque_len, deque_capacity};
 ghost use Rattle.ak_turn.specs.Seats.{first_seat};
 ghost use Rattle.ak_port.specs.PortMachine.{last_taken, pending_count, state_of};
-ghost use Rattle.ak_port.specs.PortCalls.{clock_after, close_entry, making, take_count, take_event, write_entry, CanTake, GivesBack, HasAnswered, HasEntered, HasLooked, IfTook, IsAtPort, IsFull};
+ghost use Rattle.ak_port.specs.PortCalls.{clock_after, close_entry, making, take_count, take_event, write_entry, CanTake, GivesBack, HasAnswered, HasEntered, HasLooked, IfTook, IsAtPort, IsFull, KeepsSeat};
 ghost use Rattle.ak_base.specs.declared.thread.ThreadId.{ThreadId};
 
 use crate::port_book::PortBook;
@@ -91,6 +91,8 @@ pub fn write<R: Wait>(
     requires idle { seat.old.turn ≡ false }
     requires thread { seat.old.thread ≡ clock.old.thread.0 }
     ensures answered { HasAnswered (write_entry result item) clock.old clock.new seat.old seat.new }
+    ensures seat { KeepsSeat seat.old seat.new }
+    ensures clock { clock.new.thread ≡ clock.old.thread }
     ensures port { IsAtPort seat.new }
     ensures back { GivesBack result item }
     ensures full { IsFull result ≡ true → how ≡ How.NoWait }
@@ -152,6 +154,8 @@ pub fn take<R: Wait>(
     requires taking { CanTake clock.old.thread (deque_capacity out.old - deque_len out.old) seat.old }
     requires most { 1 ≤ most }
     ensures answered { HasEntered clock.old clock.new (take_event result) seat.old seat.new }
+    ensures seat { KeepsSeat seat.old seat.new }
+    ensures clock { clock.new.thread ≡ clock.old.thread }
     ensures port { IsAtPort seat.new }
     ensures items { out.new.items ≡ out.old.items ++ last_taken (take_count result) (state_of seat.new.front) }
     ensures count { IfTook result (λ k. k ≡ min most (k + pending_count (state_of seat.new.front))) }
@@ -204,6 +208,8 @@ pub fn close<R: Wait>(
     requires idle { seat.old.turn ≡ false }
     requires thread { seat.old.thread ≡ clock.old.thread.0 }
     ensures answered { HasAnswered (close_entry result) clock.old clock.new seat.old seat.new }
+    ensures seat { KeepsSeat seat.old seat.new }
+    ensures clock { clock.new.thread ≡ clock.old.thread }
     ensures port { IsAtPort seat.new }
     ensures shut { (state_of seat.new.front).shut ≡ true }
     ensures taking { (thread : ThreadId) (room : ℕ) → CanTake thread room seat.old → CanTake thread room seat.new }

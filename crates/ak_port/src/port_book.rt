@@ -205,6 +205,14 @@ impl PortBook {
         })
     }
 
+    /// The thread that takes. The list is the history of a port with that taker.
+    pub fn taker(&self) -> ThreadId
+        ensures value { result ≡ self.now.taker }
+        ensures port { IsPortBook self.now }
+    {
+        self.taker
+    }
+
     // Why a write is refused now.
     fn refusal(&self) -> Option<Refusal>
         ensures { result ≡ refusal_of (state_of self.now.entries) }

@@ -1,3 +1,5 @@
+mod three;
+
 use crate::port_laws::{
     a_write_has_one_answer, nothing_is_written_after_shut, ports_stay_within_limits,
     written_is_taken_or_pending,

@@ -1,13 +1,19 @@
-use Rattle.std.proofs.Common.{◌-◌, ◌∙◌, ap, subst, sym}
+use Rattle.std.proofs.Common.{◌-◌, ◌∙◌, Some, ap, subst, sym}
 use Rattle.std.specs.VecDeque.{deque_len, deque_capacity}
 use Rattle.ak_port.specs.PortCalls.{CanTake, take_event}
-use Rattle.ak_port.proofs.PortCalled.{looked_then_entered, looked_then_looked, looked_stays}
+use Rattle.ak_port.proofs.PortCalled.{answered_keeps, looked_then_entered, looked_then_looked, looked_stays}
 use Rattle.ak_port.proofs.PortTaking.{can_after_take, can_after_seen}
 use Rattle.ak_port.proofs.port.take.Goals as goal
 
 pub returns-in-Some-try_take-clause-answered : goal.returns-in-Some-try_take-clause-answered
 returns-in-Some-try_take-clause-answered g c =
     looked_then_entered (take_event c.in-Some-try_take.answer) _ _ _ _ _ _ c.loop.invariant.looked c.in-Some-try_take.ensures.answered
+
+pub returns-in-Some-try_take-clause-seat : goal.returns-in-Some-try_take-clause-seat
+returns-in-Some-try_take-clause-seat g c = (answered_keeps (Some (take_event c.in-Some-try_take.answer)) _ _ _ _ (returns-in-Some-try_take-clause-answered g c)).0
+
+pub returns-in-Some-try_take-clause-clock : goal.returns-in-Some-try_take-clause-clock
+returns-in-Some-try_take-clause-clock g c = (answered_keeps (Some (take_event c.in-Some-try_take.answer)) _ _ _ _ (returns-in-Some-try_take-clause-answered g c)).1
 
 pub returns-in-Some-try_take-clause-taking : goal.returns-in-Some-try_take-clause-taking
 returns-in-Some-try_take-clause-taking g c =

@@ -1,6 +1,6 @@
 use Rattle.std.proofs.Common.{◌∙◌, subst, sym}
 use Rattle.ak_port.specs.PortCalls.{HasAnswered, write_entry}
-use Rattle.ak_port.proofs.PortCalled.{looked_then_answered, looked_then_looked, looked_stays}
+use Rattle.ak_port.proofs.PortCalled.{answered_keeps, looked_then_answered, looked_then_looked, looked_stays}
 use Rattle.ak_port.proofs.PortTaking.{can_after, write_plain}
 use Rattle.ak_port.proofs.port.write.Goals as goal
 
@@ -8,6 +8,12 @@ pub returns-in-Ok-clause-answered : goal.returns-in-Ok-clause-answered
 returns-in-Ok-clause-answered g c =
     looked_then_answered (write_entry c.in-Ok.answer c.args.item) _ _ _ _ _ _ c.loop.invariant.looked
     (subst (λ i. HasAnswered (write_entry c.in-Ok.answer i) c.loop.clock c.try_write.new.clock c.loop.seat c.try_write.new.seat) c.loop.invariant.item c.in-Ok.ensures.answered)
+
+pub returns-in-Ok-clause-seat : goal.returns-in-Ok-clause-seat
+returns-in-Ok-clause-seat g c = (answered_keeps (write_entry c.in-Ok.answer c.args.item) _ _ _ _ (returns-in-Ok-clause-answered g c)).0
+
+pub returns-in-Ok-clause-clock : goal.returns-in-Ok-clause-clock
+returns-in-Ok-clause-clock g c = (answered_keeps (write_entry c.in-Ok.answer c.args.item) _ _ _ _ (returns-in-Ok-clause-answered g c)).1
 
 pub returns-in-Ok-clause-taking : goal.returns-in-Ok-clause-taking
 returns-in-Ok-clause-taking g c =
