@@ -14,7 +14,7 @@ use Rattle.ak_port.specs.declared.reply_entry.ReplyEntry.{ReplyEntry}
 use Rattle.ak_port.specs.declared.reply_entry.ReplyEvent.{ReplyEvent}
 use Rattle.ak_port.specs.declared.reply_entry.ReplyEvent.TheVariants.{Opened, Filled, Cancelled, Taken}
 use Rattle.ak_port.specs.Reply.{Stage, open_stage, filled_stage, cancelled_stage, taken_stage, SlotData, slot_of, with_stage, changed, slots_from, slots_after, BookStep, Replays, IsLegal}
-use Rattle.ak_port.specs.ReplySeats.{ReplySeat, maker_of, entry_at, stamped, HasEntered, HasLooked, HasFoundSettled, IsItsSlot, IsUntaken, IsUncancelled, MayTake, MayCancel}
+use Rattle.ak_port.specs.ReplySeats.{KeepsSeat, ReplySeat, maker_of, entry_at, stamped, HasEntered, HasLooked, HasFoundSettled, IsItsSlot, IsUntaken, IsUncancelled, MayTake, MayCancel}
 use Rattle.ak_port.proofs.ReplyHistory.{Replays-append, slots_from-append, slots_push}
 use Rattle.ak_port.proofs.ReplySlots.{get_left, get_last, get_same, get_other}
 
@@ -184,3 +184,14 @@ seen_then_looked clock a b x y z one same two = record { seen = seen_then_seen m
 
 pub seen_then_settled : (n : ℕ) (clock a b : Clock) (x y z : ReplySeat) → HasSeen maker_of x y → a ≡ clock → HasFoundSettled n a b y z → HasFoundSettled n clock b x z
 seen_then_settled n clock a b x y z one same two = record { looked = seen_then_looked clock a b x y z one same two.looked; settled = two.settled }
+
+-- ---- what calls keep of a seat, one after another
+pub keeps_twice : (x y z : ReplySeat) → KeepsSeat x y → KeepsSeat y z → KeepsSeat x z
+keeps_twice x y z one two = record {
+  lock = two.lock ∙ one.lock;
+  opening = two.opening ∙ one.opening;
+  thread = two.thread ∙ one.thread;
+  joined = two.joined ∙ one.joined;
+  turn = two.turn ∙ one.turn;
+  names = two.names ∙ one.names;
+}

@@ -49,6 +49,15 @@ pub record HasFoundFilled (n : ℕ) (clock clock' : Clock) (seat seat' : ReplySe
   pub looked : HasLooked clock clock' seat seat'
   pub filled : IsFilled n seat'.front
 
+-- what no call changes of a seat
+pub record KeepsSeat (seat seat' : ReplySeat) : Type 0 where
+  pub lock : seat'.lock ≡ seat.lock
+  pub opening : seat'.opening ≡ seat.opening
+  pub thread : seat'.thread ≡ seat.thread
+  pub joined : seat'.joined ≡ seat.joined
+  pub turn : seat'.turn ≡ seat.turn
+  pub names : seat'.names ≡ seat.names
+
 -- ---- slots of a thread
 -- in that list the slot was opened by the thread, and is so far
 pub record IsItsSlot (thread n : ℕ) (stage : Stage) (entries : List ReplyEntry) : Type 0 where

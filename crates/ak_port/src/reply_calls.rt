@@ -1,7 +1,7 @@
 //! The calls on a shared reply book. Each may wait for its turn, and makes at most one entry.
 ghost use Rattle.std.specs.Prelude.{◌≡◌, false, None, Some, IfOk, IfErr, IfNone, IfSome, OnErr, IsSome, unwrap_or};
 ghost use Rattle.ak_port.specs.Reply.{IsFlatText, FillsWith, none_text};
-ghost use Rattle.ak_port.specs.ReplySeats.{HasEntered, HasLooked, HasFoundSettled, HasFoundFilled, MayCancel, MayTake};
+ghost use Rattle.ak_port.specs.ReplySeats.{HasEntered, HasLooked, HasFoundSettled, HasFoundFilled, KeepsSeat, MayCancel, MayTake};
 
 use crate::reply_book::ReplyBook;
 use crate::reply_entry::{CancelAnswer, FillAnswer, ReplyEvent};
@@ -19,6 +19,8 @@ pub fn open_ask<R: Wait>(
     requires of { seat.old.lock ≡ book.now }
     requires idle { seat.old.turn ≡ false }
     requires thread { seat.old.thread ≡ clock.old.thread.0 }
+    ensures seat { KeepsSeat seat.old seat.new }
+    ensures clock { clock.new.thread ≡ clock.old.thread }
     ensures opened { IfOk result (λ n. HasEntered (ReplyEvent.Opened n) clock.old clock.new seat.old seat.new) }
     ensures take { IfOk result (λ n. MayTake seat.new.thread n seat.new.front) }
     ensures cancel { IfOk result (λ n. MayCancel seat.new.thread n seat.new.front) }
@@ -45,6 +47,8 @@ fn try_fill<R: Wait>(
     requires idle { seat.old.turn ≡ false }
     requires thread { seat.old.thread ≡ clock.old.thread.0 }
     requires text { IfSome flat IsFlatText }
+    ensures seat { KeepsSeat seat.old seat.new }
+    ensures clock { clock.new.thread ≡ clock.old.thread }
     ensures filled { result ≡ Ok FillAnswer.Filled → HasEntered (ReplyEvent.Filled n (unwrap_or flat none_text)) clock.old clock.new seat.old seat.new }
     ensures duplicate { result ≡ Ok FillAnswer.Duplicate → HasFoundSettled n clock.old clock.new seat.old seat.new }
     ensures unopened { IfErr result (λ text. text ≡ flat) }
@@ -70,6 +74,8 @@ fn fill_in<R: Wait>(
     requires idle { seat.old.turn ≡ false }
     requires thread { seat.old.thread ≡ clock.old.thread.0 }
     requires text { IfSome flat IsFlatText }
+    ensures seat { KeepsSeat seat.old seat.new }
+    ensures clock { clock.new.thread ≡ clock.old.thread }
     ensures filled { result ≡ FillAnswer.Filled → HasEntered (ReplyEvent.Filled n (unwrap_or flat none_text)) clock.old clock.new seat.old seat.new }
     ensures duplicate { result ≡ FillAnswer.Duplicate → HasFoundSettled n clock.old clock.new seat.old seat.new }
 {
@@ -98,6 +104,8 @@ pub fn fill<R: Wait>(
     requires idle { seat.old.turn ≡ false }
     requires thread { seat.old.thread ≡ clock.old.thread.0 }
     requires text { IsFlatText flat }
+    ensures seat { KeepsSeat seat.old seat.new }
+    ensures clock { clock.new.thread ≡ clock.old.thread }
     ensures filled { result ≡ FillAnswer.Filled → HasEntered (ReplyEvent.Filled n flat) clock.old clock.new seat.old seat.new }
     ensures duplicate { result ≡ FillAnswer.Duplicate → HasFoundSettled n clock.old clock.new seat.old seat.new }
 {
@@ -115,6 +123,8 @@ pub fn fill_none<R: Wait>(
     requires of { seat.old.lock ≡ book.now }
     requires idle { seat.old.turn ≡ false }
     requires thread { seat.old.thread ≡ clock.old.thread.0 }
+    ensures seat { KeepsSeat seat.old seat.new }
+    ensures clock { clock.new.thread ≡ clock.old.thread }
     ensures filled { result ≡ FillAnswer.Filled → HasEntered (ReplyEvent.Filled n none_text) clock.old clock.new seat.old seat.new }
     ensures duplicate { result ≡ FillAnswer.Duplicate → HasFoundSettled n clock.old clock.new seat.old seat.new }
 {
@@ -133,6 +143,8 @@ pub fn cancel<R: Wait>(
     requires idle { seat.old.turn ≡ false }
     requires thread { seat.old.thread ≡ clock.old.thread.0 }
     requires own { MayCancel seat.old.thread n seat.old.front }
+    ensures seat { KeepsSeat seat.old seat.new }
+    ensures clock { clock.new.thread ≡ clock.old.thread }
     ensures cancelled { result ≡ CancelAnswer.Cancelled → HasEntered (ReplyEvent.Cancelled n) clock.old clock.new seat.old seat.new }
     ensures duplicate { result ≡ CancelAnswer.Duplicate → HasFoundFilled n clock.old clock.new seat.old seat.new }
 {
@@ -155,6 +167,8 @@ fn try_take<R: Wait>(
     requires idle { seat.old.turn ≡ false }
     requires thread { seat.old.thread ≡ clock.old.thread.0 }
     requires own { MayTake seat.old.thread n seat.old.front }
+    ensures seat { KeepsSeat seat.old seat.new }
+    ensures clock { clock.new.thread ≡ clock.old.thread }
     ensures taken { IfSome result (λ _. HasEntered (ReplyEvent.Taken n) clock.old clock.new seat.old seat.new) }
     ensures filled { IfSome result (λ flat. FillsWith n flat seat.new.front) }
     ensures text { IfSome result IsFlatText }
@@ -180,6 +194,8 @@ pub fn wait_for<R: Wait>(
     requires idle { seat.old.turn ≡ false }
     requires thread { seat.old.thread ≡ clock.old.thread.0 }
     requires own { MayTake seat.old.thread n seat.old.front }
+    ensures seat { KeepsSeat seat.old seat.new }
+    ensures clock { clock.new.thread ≡ clock.old.thread }
     ensures taken { HasEntered (ReplyEvent.Taken n) clock.old clock.new seat.old seat.new }
     ensures filled { FillsWith n result seat.new.front }
     ensures text { IsFlatText result }

@@ -13,8 +13,7 @@ use ak_turn::{Book, Clock, Seat, TurnLock};
 use std::alloc::Global;
 use std::sync::{Arc, Wait};
 use std::test::Fail;
-use std::thread;
-use std::thread::yield_now;
+use std::thread::{Threads, join, yield_now};
 
 const MAIN: ThreadId = ThreadId(0);
 
@@ -36,73 +35,134 @@ fn clock_of(thread: ThreadId) -> Clock
     Clock { thread, time: 0 }
 }
 
+// A book, main's seat, and another thread's.
+struct Scene {
+    book: Arc<TurnLock<ReplyBook>>,
+    seat: Seat<ReplyBook>,
+    other: Seat<ReplyBook>,
+    ghost of: { seat.lock ≡ arc_value book },
+    ghost idle: { seat.turn ≡ false },
+    ghost thread: { seat.thread ≡ 0 },
+    ghost other_of: { other.lock ≡ arc_value book },
+    ghost other_idle: { other.turn ≡ false },
+    ghost other_thread: { other.thread ≡ 10000 },
+}
+
+fn make_scene(alloc: Global) -> Result<Scene, NoMemory> {
+    let (book, mut seat) = TurnLock::new(alloc, ReplyBook::new(alloc)?, MAIN)?;
+    let other = book.split(&mut seat, OTHER);
+    Ok(Scene { book, seat, other })
+}
+
+// What came of two fills, the reply, and the book.
+fn fill_then_wait<R: Wait>(
+    rt: &R,
+    alloc: Global,
+    text: Bytes,
+) -> Result<(FillAnswer, FillAnswer, Bytes, ReplyBook), NoMemory>
+    requires { IsFlatText text }
+{
+    let Scene {
+        book,
+        mut seat,
+        mut other,
+    } = make_scene(alloc)?;
+    let (mut clock, mut others) = (clock_of(MAIN), clock_of(OTHER));
+    let n = open_ask(&book, rt, &mut seat, &mut clock)?;
+    let first = fill(&book, rt, &mut other, &mut others, n, text);
+    let second = fill_none(&book, rt, &mut other, &mut others, n);
+    let reply = wait_for(&book, rt, &mut seat, &mut clock, n);
+    Ok((first, second, reply, book.lock(rt, &mut seat).keep()))
+}
+
 #[test]
 fn a_slot_is_filled_before_the_wait(rt: HostRuntime) -> Result<(), Fail> {
     let alloc: Global = rt.alloc();
-    let (book, mut seat) = TurnLock::new(alloc, ReplyBook::new(alloc)?, MAIN)?;
-    let mut other = book.split(&mut seat, OTHER);
-    let (mut clock, mut others) = (clock_of(MAIN), clock_of(OTHER));
-    let n = open_ask(&book, &rt, &mut seat, &mut clock)?;
-    assert_eq!(rt; n, 0);
     let text = reply_text(alloc)?;
-    let answer = fill(&book, &rt, &mut other, &mut others, n, text);
-    assert_eq!(rt; answer, FillAnswer::Filled);
-    let again = fill_none(&book, &rt, &mut other, &mut others, n);
-    assert_eq!(rt; again, FillAnswer::Duplicate);
-    let reply = wait_for(&book, &rt, &mut seat, &mut clock, n);
     let wanted = reply_text(alloc)?;
+    let (first, second, reply, book) = fill_then_wait(&rt, alloc, text)?;
+    assert_eq!(rt; first, FillAnswer::Filled);
+    assert_eq!(rt; second, FillAnswer::Duplicate);
     assert_eq!(rt; reply.as_slice(), wanted.as_slice());
-    assert_eq!(rt; (clock.time, others.time), (3, 2));
-    let kept = book.lock(&rt, &mut seat).keep();
-    assert_eq!(rt; kept.len(), 3);
-    assert_eq!(rt; kept.last_stamp(), 3);
-    let filled = kept.entry(1)?.ok_or("an entry")?;
-    assert_eq!(rt; (filled.stamp, filled.by), (2, OTHER));
-    let ReplyEvent::Filled(slot, shown) = filled.event else {
-        return Err("filled")?;
-    };
-    assert_eq!(rt; slot, 0);
-    assert_eq!(rt; shown.as_slice(), wanted.as_slice());
+    assert_eq!(rt; book.len(), 3);
+    assert_eq!(rt; book.last_stamp(), 3);
+    assert!(rt; book.entry(3)?.is_none());
+    let filled = book.entry(1)?.ok_or("an entry")?;
+    assert_eq!(rt; filled.stamp, 2);
+    assert_eq!(rt; filled.by, OTHER);
+    assert!(rt; is_filled_with(&filled.event, wanted.as_slice()));
     Ok(())
+}
+
+// Whether slot 0 is filled with those bytes.
+fn is_filled_with(event: &ReplyEvent, text: &[u8]) -> bool {
+    match event {
+        ReplyEvent::Filled(n, flat) => *n == 0 && flat.as_slice() == text,
+        _ => false,
+    }
+}
+
+// What came of cancelling, of two fills after it, and how many entries there are.
+fn cancel_then_fill<R: Wait>(
+    rt: &R,
+    alloc: Global,
+    text: Bytes,
+) -> Result<(CancelAnswer, FillAnswer, FillAnswer, u64), NoMemory>
+    requires { IsFlatText text }
+{
+    let Scene {
+        book,
+        mut seat,
+        mut other,
+    } = make_scene(alloc)?;
+    let (mut clock, mut others) = (clock_of(MAIN), clock_of(OTHER));
+    let n = open_ask(&book, rt, &mut seat, &mut clock)?;
+    let cancelled = cancel(&book, rt, &mut seat, &mut clock, n);
+    let first = fill(&book, rt, &mut other, &mut others, n, text);
+    let second = fill_none(&book, rt, &mut other, &mut others, n);
+    Ok((cancelled, first, second, other.seen()))
 }
 
 #[test]
 fn a_cancelled_slot_is_never_filled(rt: HostRuntime) -> Result<(), Fail> {
     let alloc: Global = rt.alloc();
-    let (book, mut seat) = TurnLock::new(alloc, ReplyBook::new(alloc)?, MAIN)?;
-    let mut other = book.split(&mut seat, OTHER);
-    let (mut clock, mut others) = (clock_of(MAIN), clock_of(OTHER));
-    let n = open_ask(&book, &rt, &mut seat, &mut clock)?;
-    let answer = cancel(&book, &rt, &mut seat, &mut clock, n);
-    assert_eq!(rt; answer, CancelAnswer::Cancelled);
     let text = reply_text(alloc)?;
-    let late = fill(&book, &rt, &mut other, &mut others, n, text);
-    assert_eq!(rt; late, FillAnswer::Duplicate);
-    let late = fill_none(&book, &rt, &mut other, &mut others, n);
-    assert_eq!(rt; late, FillAnswer::Duplicate);
-    let kept = book.lock(&rt, &mut seat).keep();
-    assert_eq!(rt; kept.len(), 2);
+    let (cancelled, first, second, entries) = cancel_then_fill(&rt, alloc, text)?;
+    assert_eq!(rt; cancelled, CancelAnswer::Cancelled);
+    assert_eq!(rt; first, FillAnswer::Duplicate);
+    assert_eq!(rt; second, FillAnswer::Duplicate);
+    assert_eq!(rt; entries, 2);
     Ok(())
+}
+
+// What came of a fill, and of cancelling after it.
+fn fill_then_cancel<R: Wait>(
+    rt: &R,
+    alloc: Global,
+) -> Result<(FillAnswer, CancelAnswer, u64), NoMemory> {
+    let Scene {
+        book,
+        mut seat,
+        mut other,
+    } = make_scene(alloc)?;
+    let (mut clock, mut others) = (clock_of(MAIN), clock_of(OTHER));
+    let n = open_ask(&book, rt, &mut seat, &mut clock)?;
+    let filled = fill_none(&book, rt, &mut other, &mut others, n);
+    let cancelled = cancel(&book, rt, &mut seat, &mut clock, n);
+    Ok((filled, cancelled, seat.seen()))
 }
 
 #[test]
 fn a_filled_slot_is_not_cancelled(rt: HostRuntime) -> Result<(), Fail> {
-    let alloc: Global = rt.alloc();
-    let (book, mut seat) = TurnLock::new(alloc, ReplyBook::new(alloc)?, MAIN)?;
-    let mut other = book.split(&mut seat, OTHER);
-    let (mut clock, mut others) = (clock_of(MAIN), clock_of(OTHER));
-    let n = open_ask(&book, &rt, &mut seat, &mut clock)?;
-    let answer = fill_none(&book, &rt, &mut other, &mut others, n);
-    assert_eq!(rt; answer, FillAnswer::Filled);
-    let answer = cancel(&book, &rt, &mut seat, &mut clock, n);
-    assert_eq!(rt; answer, CancelAnswer::Duplicate);
-    let kept = book.lock(&rt, &mut seat).keep();
-    assert_eq!(rt; kept.len(), 2);
+    let (filled, cancelled, entries) = fill_then_cancel(&rt, rt.alloc())?;
+    assert_eq!(rt; filled, FillAnswer::Filled);
+    assert_eq!(rt; cancelled, CancelAnswer::Duplicate);
+    assert_eq!(rt; entries, 2);
     Ok(())
 }
 
 // Fills the slot with no reply, some time later.
-fn fill_later<R: Wait>(rt: &R, book: &TurnLock<ReplyBook>, mut seat: Seat<ReplyBook>, n: u64)
+fn fill_later<R: Wait>(rt: &R, book: &TurnLock<ReplyBook>, mut seat: Seat<ReplyBook>)
     requires of { seat.lock ≡ book.now }
     requires idle { seat.turn ≡ false }
     requires thread { seat.thread ≡ 10000 }
@@ -111,53 +171,60 @@ fn fill_later<R: Wait>(rt: &R, book: &TurnLock<ReplyBook>, mut seat: Seat<ReplyB
     for _ in 0..1000 {
         yield_now();
     }
-    let _ = fill_none(book, rt, &mut seat, &mut clock, n);
+    let _ = fill_none(book, rt, &mut seat, &mut clock, 0);
 }
+
+// Opens a slot and waits for its reply, the opening some time later where it is late.
+fn ask_late<R: Wait>(
+    rt: &R,
+    book: &TurnLock<ReplyBook>,
+    mut seat: Seat<ReplyBook>,
+    yields: u32,
+) -> Result<usize, NoMemory>
+    requires of { seat.lock ≡ book.now }
+    requires idle { seat.turn ≡ false }
+    requires thread { seat.thread ≡ 0 }
+{
+    let mut clock = clock_of(MAIN);
+    for _ in 0..yields {
+        yield_now();
+    }
+    let n = open_ask(book, rt, &mut seat, &mut clock)?;
+    let reply = wait_for(book, rt, &mut seat, &mut clock, n);
+    Ok(reply.len())
+}
+
+// How long the reply is that another thread fills a slot with. The opening is late, or the fill is.
+fn ask_beside<R: Threads + Wait + Sync>(
+    rt: &R,
+    alloc: Global,
+    yields: u32,
+) -> Result<usize, NoMemory> {
+    let Scene { book, seat, other } = make_scene(alloc)?;
+    let shared: &TurnLock<ReplyBook> = &book;
+    let (length, _) = join(
+        rt,
+        || -> Result<usize, NoMemory>
+            requires { (seat.lock ≡ shared.now) × (seat.turn ≡ false) × (seat.thread ≡ 0) }
+        { ask_late(rt, shared, seat, yields) },
+        ||
+            requires { (other.lock ≡ shared.now) × (other.turn ≡ false) × (other.thread ≡ 10000) }
+        { fill_later(rt, shared, other) },
+    );
+    length
+}
+
+// The length of the flat text that stands for no reply.
+const NONE_LENGTH: usize = 12;
 
 #[test]
 fn a_wait_ends_where_another_thread_fills(rt: HostRuntime) -> Result<(), Fail> {
-    let alloc: Global = rt.alloc();
-    let (book, mut seat) = TurnLock::new(alloc, ReplyBook::new(alloc)?, MAIN)?;
-    let other = book.split(&mut seat, OTHER);
-    let mut clock = clock_of(MAIN);
-    let n = open_ask(&book, &rt, &mut seat, &mut clock)?;
-    let theirs = Arc::try_clone(&book)?;
-    let started = thread::spawn(
-        &rt,
-        move ||
-            requires { (other.lock ≡ arc_value theirs) × (other.turn ≡ false) × (other.thread ≡ 10000) }
-        { fill_later(&rt, &theirs, other, n) },
-    );
-    if let Ok(child) = started {
-        let reply = wait_for(&book, &rt, &mut seat, &mut clock, n);
-        let none = flatten(alloc, &Message::new(alloc, Code::NO_REPLY)).map_err(|_| NoMemory)?;
-        assert_eq!(rt; reply.as_slice(), none.as_slice());
-        child.join(&rt);
-    }
+    assert_eq!(rt; ask_beside(&rt, rt.alloc(), 0)?, NONE_LENGTH);
     Ok(())
 }
 
 #[test]
 fn a_fill_waits_for_the_opening(rt: HostRuntime) -> Result<(), Fail> {
-    let alloc: Global = rt.alloc();
-    let (book, mut seat) = TurnLock::new(alloc, ReplyBook::new(alloc)?, MAIN)?;
-    let other = book.split(&mut seat, OTHER);
-    let mut clock = clock_of(MAIN);
-    let theirs = Arc::try_clone(&book)?;
-    let started = thread::spawn(
-        &rt,
-        move ||
-            requires { (other.lock ≡ arc_value theirs) × (other.turn ≡ false) × (other.thread ≡ 10000) }
-        { fill_later(&rt, &theirs, other, 0) },
-    );
-    if let Ok(child) = started {
-        for _ in 0..5000 {
-            yield_now();
-        }
-        let n = open_ask(&book, &rt, &mut seat, &mut clock)?;
-        let reply = wait_for(&book, &rt, &mut seat, &mut clock, n);
-        assert_eq!(rt; reply.len(), 12);
-        child.join(&rt);
-    }
+    assert_eq!(rt; ask_beside(&rt, rt.alloc(), 5000)?, NONE_LENGTH);
     Ok(())
 }
