@@ -1,0 +1,14 @@
+pub mod PortReplays
+pub mod PortLimits
+pub mod PortItems
+pub mod PortSound
+pub mod PortCalled
+pub mod PortTaking
+pub mod PortTaken
+pub mod PortWriting
+pub mod ReplyHistory
+pub mod ReplySlots
+pub mod ReplyShown
+pub mod ReplyKeeping
+pub mod ReplyMoves
+pub mod ReplyCalls

@@ -1,0 +1,87 @@
+-- What a taker has taken: its own takes alone add to it.
+use Rattle.std.proofs.Common.{◌≡◌, ◌≢◌, ℕ, ◌+◌, ◌-◌, ◌≤◌, Bool, true, false, List, [], ◌∷◌, ◌++◌, length, take, drop, All, Option, Some, None, refl, sym, ap, ◌∙◌, subst, arith, append-nil}
+use Rattle.std.specs.Prelude.{IsSomeAnd}
+use Rattle.std.proofs.lemmas.List.{take-append-le, drop-take}
+use Rattle.std.proofs.lemmas.List.Elements.{All-head, All-tail}
+use Rattle.ak_base.specs.declared.thread.ThreadId.{ThreadId}
+use Rattle.ak_turn.specs.declared.clock.Clock.{Clock}
+use Rattle.ak_turn.specs.Lines.{AreByOthers}
+use Rattle.ak_turn.specs.Seats.{IsGiven}
+use Rattle.ak_port.specs.declared.port_entry.PortEntry.{PortEntry}
+use Rattle.ak_port.specs.declared.port_entry.PortEvent.{PortEvent}
+use Rattle.ak_port.specs.declared.port_entry.PortEvent.TheVariants as event
+use Rattle.ak_port.specs.declared.port_entry.TakeAnswer.{TakeAnswer}
+use Rattle.ak_port.specs.declared.port_entry.TakeAnswer.TheVariants as taken
+use Rattle.ak_port.specs.PortCalls.{PortData, IsPortBook, PortSeat, by_number, entry_now, HasEntered, IsAtPort, take_event, take_count}
+use Rattle.ak_port.specs.PortMachine.{PortState, PortStep, AreSteps, IsPort, IsAllowed, replayed, state_after, state_of, unmade, pending_count, numbered, taken_items, pending_items, last_taken, handed_out, written_in}
+use Rattle.ak_port.proofs.PortItems.{each_once, oldest_first, taken_more, take-numbered}
+use Rattle.ak_port.proofs.PortLimits.{IsReached, reached_step, unmade_reached, reached_by, within_limits}
+use Rattle.ak_port.proofs.PortReplays.{replayed-append, AreSteps-behind, AreSteps-before, state_of-push, made_stays}
+use Rattle.ak_port.proofs.PortSound.{took_items, rest_items}
+
+-- another thread takes nothing
+others_step : (taker by : ℕ) (s : PortState) (e : PortEvent) → by ≢ taker → IsReached s → IsAllowed taker by s e → taken_items (state_after s e) ≡ taken_items s
+others_step taker by s (event.Made capacity life) other reached allowed = refl
+others_step taker by s (event.Written p item) other reached allowed = ap (numbered 0) (take-append-le s.taken s.written (item ∷ []) reached.within.taken)
+others_step taker by s event.Full other reached allowed = refl
+others_step taker by s event.Refused other reached allowed = refl
+others_step taker by s event.Spent other reached allowed = refl
+others_step taker by s (event.Took k) other reached allowed = absurd (other allowed.0)
+others_step taker by s (event.Rest k) other reached allowed = absurd (other allowed.0)
+others_step taker by s event.Shut other reached allowed = refl
+
+others_by : (taker : ℕ) (s : PortState) (xs : List PortEntry) → AreByOthers by_number taker xs → IsReached s → AreSteps taker s xs → taken_items (replayed s xs) ≡ taken_items s
+others_by taker s [] others reached steps = refl
+others_by taker s (x ∷ xs) others reached steps =
+    others_by taker (state_after s x.event) xs (All-tail (λ line. by_number line ≢ taker) x xs others) (reached_step taker s x reached steps.0) steps.1
+    ∙ others_step taker x.by.0 s x.event (All-head (λ line. by_number line ≢ taker) x xs others) reached steps.0.allowed
+
+pub taken_stays : (taker : ℕ) (xs ys : List PortEntry) → AreByOthers by_number taker ys → IsPort taker (xs ++ ys) → taken_items (state_of (xs ++ ys)) ≡ taken_items (state_of xs)
+taken_stays taker xs ys others port =
+    ap taken_items (replayed-append unmade xs ys)
+    ∙ others_by taker (state_of xs) ys others (reached_by taker unmade xs unmade_reached (AreSteps-before taker unmade xs ys port.steps)) (AreSteps-behind taker unmade xs ys port.steps)
+
+-- a take adds what it hands out
+took_step : (taker by : ℕ) (s : PortState) (answer : TakeAnswer) → IsReached s → IsAllowed taker by s (take_event answer) → taken_items (state_after s (take_event answer)) ≡ taken_items s ++ last_taken (take_count answer) (state_after s (take_event answer))
+took_step taker by s (taken.Took k) reached allowed =
+    sym (taken_more s k reached) ∙ ap (λ l. taken_items s ++ l) (take-numbered k s.taken (drop s.taken s.written) ∙ took_items s k)
+took_step taker by s (taken.Rest k) reached allowed =
+    let within = reached.within.taken in
+    let all = allowed.3 in
+    let to_end : s.taken + k ≡ length s.written = omega arith in
+    ap (λ n. numbered 0 (take n s.written)) (sym to_end) ∙ sym (taken_more s k reached)
+    ∙ ap (λ l. taken_items s ++ l) (take-numbered k s.taken (drop s.taken s.written) ∙ rest_items s k all within)
+
+pub takes_more : (thread : ThreadId) (clock clock' : Clock) (answer : TakeAnswer) (a c : PortSeat) → HasEntered clock clock' (take_event answer) a c → a.opening ≡ Some thread → a.thread ≡ thread.0 → IsAtPort c
+    → taken_items (state_of c.front) ≡ taken_items (state_of a.front) ++ last_taken (take_count answer) (state_of c.front)
+takes_more thread clock clock' answer a c entered opening is at =
+    let called = entered.called in
+    let x = entry_now clock entered.before (take_event answer) in
+    let mid = a.front ++ called.between in
+    let whole : c.front ≡ mid ++ x ∷ [] = ap (λ s. s.front) called.after in
+    let port : IsPort thread.0 c.front = subst (λ o. IsSomeAnd o (λ (t : ThreadId). IsPort t.0 c.front)) (ap (λ s. s.opening) called.after ∙ opening) at in
+    let port' : IsPort thread.0 (mid ++ x ∷ []) = subst (IsPort thread.0) whole port in
+    let steps = AreSteps-before thread.0 unmade mid (x ∷ []) port'.steps in
+    let step : PortStep thread.0 (state_of mid) x = (AreSteps-behind thread.0 unmade mid (x ∷ []) port'.steps).0 in
+    let others : AreByOthers by_number thread.0 called.between = subst (λ (t : ℕ). AreByOthers by_number t called.between) is called.others in
+    let state : state_of c.front ≡ state_after (state_of mid) (take_event answer) = ap state_of whole ∙ state_of-push mid x in
+    let before : taken_items (state_of mid) ≡ taken_items (state_of a.front) =
+    ap taken_items (replayed-append unmade a.front called.between)
+    ∙ others_by thread.0 (state_of a.front) called.between others (reached_by thread.0 unmade a.front unmade_reached (AreSteps-before thread.0 unmade a.front called.between steps)) (AreSteps-behind thread.0 unmade a.front called.between steps) in
+    ap taken_items state ∙ took_step thread.0 x.by.0 (state_of mid) answer (reached_by thread.0 unmade mid unmade_reached steps) step.allowed
+    ∙ (λ i. before i ++ last_taken (take_count answer) (sym state i))
+
+-- in the end: what was written is what the taker took, then what is pending
+pub all_told : (thread : ThreadId) (xs ys : List PortEntry) → AreByOthers by_number thread.0 ys → IsPort thread.0 (xs ++ ys) → written_in (xs ++ ys) ≡ taken_items (state_of xs) ++ pending_items (state_of (xs ++ ys))
+all_told thread xs ys others port =
+    each_once thread.0 (xs ++ ys) port ∙ ap (λ l. l ++ pending_items (state_of (xs ++ ys))) (oldest_first thread.0 (xs ++ ys) port ∙ taken_stays thread.0 xs ys others port)
+
+pub told_at_end : (thread : ThreadId) (a b : PortSeat) (book now : PortData) → now ≡ book → book.entries ≡ b.front → a.opening ≡ Some book.taker → a.opening ≡ Some thread → a.thread ≡ thread.0 → IsGiven by_number a b → IsPortBook now
+    → written_in now.entries ≡ taken_items (state_of a.front) ++ pending_items (state_of now.entries)
+told_at_end thread a b book now is list opened opening own given port =
+    let same : Some book.taker ≡ Some thread = sym opened ∙ opening in
+    let taker : book.taker ≡ thread = cc in
+    let whole : now.entries ≡ a.front ++ given.between = ap (λ p. p.entries) is ∙ list ∙ ap (λ s. s.front) given.after in
+    let port' : IsPort thread.0 (a.front ++ given.between) = subst (IsPort thread.0) whole (subst (λ (t : ThreadId). IsPort t.0 now.entries) (ap (λ p. p.taker) is ∙ taker) port) in
+    let others : AreByOthers by_number thread.0 given.between = subst (λ (t : ℕ). AreByOthers by_number t given.between) own given.others in
+    ap written_in whole ∙ all_told thread a.front given.between others port' ∙ ap (λ l. taken_items (state_of a.front) ++ pending_items (state_of l)) (sym whole)

@@ -1,0 +1,10 @@
+pub mod PortCalls
+pub mod PortInside
+pub mod PortLaws
+pub mod PortMachine
+pub mod PortWriters
+pub mod Reply
+pub mod ReplyInside
+pub mod ReplyKept
+pub mod ReplyLaws
+pub mod ReplySeats

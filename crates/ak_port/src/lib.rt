@@ -1,0 +1,33 @@
+//! What loopers and senders share. A port holds messages for one taker, in the order in which they were
+//! written, until they are taken: what was accepted is what was taken, then what is pending. A reply book has
+//! the slots that waiting senders open: each is filled or cancelled at most once, and its opener alone takes
+//! what it was filled with. Each call is one entry of the object's one history, or none, and its answer is the
+//! one that the object's machine gives at the entry's place. Calls may wait; that a wait ends is not promised.
+#![tactic(auto)]
+
+mod port;
+mod port_book;
+mod port_entry;
+mod port_laws;
+#[cfg(test)]
+mod port_tests;
+mod reply_book;
+mod reply_calls;
+mod reply_entry;
+mod reply_kept;
+mod reply_laws;
+mod reply_slot;
+#[cfg(test)]
+mod reply_tests;
+
+pub use port::{CAPACITY_LIMIT, LIFE_LIMIT, Port, close, make, take, write};
+pub use port_book::PortBook;
+pub use port_entry::{CloseAnswer, How, PortEntry, PortEvent, TakeAnswer, WriteAnswer};
+pub use port_laws::{
+    a_write_has_one_answer, nothing_is_written_after_shut, ports_stay_within_limits,
+    written_is_taken_or_pending,
+};
+pub use reply_book::ReplyBook;
+pub use reply_calls::{cancel, fill, fill_none, open_ask, wait_for};
+pub use reply_entry::{CancelAnswer, FillAnswer, ReplyEntry, ReplyEvent};
+pub use reply_laws::slots_are_settled_once;

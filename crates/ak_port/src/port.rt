@@ -1,0 +1,218 @@
+//! Ports that threads share.
+ghost use Rattle.std.specs.Prelude.{◌≡◌, ℕ, ◌+◌, ◌-◌, ◌∷◌, ◌++◌, [], ◌<◌, ◌≤◌, ◌^◌, false, true, min, Some, IfOk, IfErr, IfSome, IfNone, OnOk, OnErr};
+ghost use Rattle.std.specs.Arc.{arc_value};
+ghost use Rattle.std.specs.VecDeque.{deque_len, deque_capacity};
+ghost use Rattle.ak_turn.specs.Seats.{first_seat};
+ghost use Rattle.ak_port.specs.PortMachine.{last_taken, pending_count, state_of};
+ghost use Rattle.ak_port.specs.PortCalls.{clock_after, close_entry, making, take_count, take_event, write_entry, CanTake, GivesBack, HasAnswered, HasEntered, HasLooked, IfTook, IsAtPort, IsFull, KeepsSeat};
+ghost use Rattle.ak_base.specs.declared.thread.ThreadId.{ThreadId};
+
+use crate::port_book::PortBook;
+use crate::port_entry::{CloseAnswer, How, TakeAnswer, WriteAnswer};
+use ak_base::{NoMemory, ThreadId};
+use ak_flatten::{Item, Taken};
+use ak_turn::{Clock, Seat, TurnLock};
+use std::alloc::Global;
+use std::collections::VecDeque;
+use std::sync::{Arc, Wait};
+
+/// The most items that a port holds at a time.
+pub const CAPACITY_LIMIT: u32 = 1000;
+
+/// The most items that a port accepts in all.
+pub const LIFE_LIMIT: u32 = 8192;
+
+/// A port, shared. (The Be Book, ports.)
+pub type Port = TurnLock<PortBook>;
+
+/// A new port, which holds so many items at a time and accepts so many in all, and the maker's seat, which is
+/// the head. It reserves the entries that shutting it and taking the rest need. Without memory no entry is
+/// made, and the clock stands.
+pub fn make(
+    alloc: Global,
+    capacity: u32,
+    life: u32,
+    taker: ThreadId,
+    clock: &mut Clock,
+) -> Result<(Arc<Port>, Seat<PortBook>), NoMemory>
+    requires capacity { (1 ≤ capacity) × (capacity ≤ CAPACITY_LIMIT) }
+    requires life { (1 ≤ life) × (life ≤ LIFE_LIMIT) }
+    requires time { clock.old.time < 2 ^ 63 }
+    ensures made { IfOk result (λ made. made.1 ≡ first_seat (arc_value made.0) taker (making clock.old capacity life ∷ []) (0 ∷ []) clock.old.thread.0) }
+    ensures port { IfOk result (λ made. IsAtPort made.1) }
+    ensures taking { IfOk result (λ made. CanTake taker capacity made.1) }
+    ensures clock { OnOk result (clock.new ≡ clock_after clock.old []) }
+    ensures err { OnErr result (clock.new ≡ clock.old) }
+{
+    let book = PortBook::new(alloc, capacity, life, taker, clock)?;
+    let made = TurnLock::new(alloc, book, clock.thread)?;
+    clock.stamp(0);
+    Ok(made)
+}
+
+// One try of a write: `Err` gives the item back, without an entry, where it waits.
+fn try_write<R: Wait>(
+    port: &Port,
+    rt: &R,
+    seat: &mut Seat<PortBook>,
+    clock: &mut Clock,
+    item: Item,
+    how: How,
+) -> Result<WriteAnswer, Item>
+    requires of { seat.old.lock ≡ port.now }
+    requires idle { seat.old.turn ≡ false }
+    requires thread { seat.old.thread ≡ clock.old.thread.0 }
+    ensures answered { IfOk result (λ answer. HasAnswered (write_entry answer item) clock.old clock.new seat.old seat.new) }
+    ensures back { IfOk result (λ answer. GivesBack answer item) }
+    ensures full { IfOk result (λ answer. IsFull answer ≡ true → how ≡ How.NoWait) }
+    ensures looked { OnErr result (HasLooked clock.old clock.new seat.old seat.new) }
+    ensures item { IfErr result (λ back. back ≡ item) }
+    ensures port { IsAtPort seat.new }
+{
+    let mut turn = port.lock(rt, seat);
+    clock.ready(rt);
+    let tried = turn.book().write(clock, item, how);
+    turn.finish(seat);
+    tried
+}
+
+/// Writes an item at the end of what is pending, and answers its position. A write that finds the port full
+/// and is to wait gives its turn back, and tries again once there is a new entry. It copies the flat text,
+/// which stays in the history, and reserves what taking the item needs.
+pub fn write<R: Wait>(
+    port: &Port,
+    rt: &R,
+    seat: &mut Seat<PortBook>,
+    clock: &mut Clock,
+    item: Item,
+    how: How,
+) -> WriteAnswer
+    requires of { seat.old.lock ≡ port.now }
+    requires idle { seat.old.turn ≡ false }
+    requires thread { seat.old.thread ≡ clock.old.thread.0 }
+    ensures answered { HasAnswered (write_entry result item) clock.old clock.new seat.old seat.new }
+    ensures seat { KeepsSeat seat.old seat.new }
+    ensures clock { clock.new.thread ≡ clock.old.thread }
+    ensures port { IsAtPort seat.new }
+    ensures back { GivesBack result item }
+    ensures full { IsFull result ≡ true → how ≡ How.NoWait }
+    ensures taking { (thread : ThreadId) (room : ℕ) → CanTake thread room seat.old → CanTake thread room seat.new }
+{
+    let mut item = item;
+    for _ in rt.forever() {
+        match try_write(port, rt, seat, clock, item, how) {
+            Ok(answer) => return answer,
+            Err(back) => item = back,
+        }
+        port.wait_past(rt, seat.seen());
+    }
+    unreachable!()
+}
+
+// One try of a take.
+fn try_take<R: Wait>(
+    port: &Port,
+    rt: &R,
+    seat: &mut Seat<PortBook>,
+    clock: &mut Clock,
+    out: &mut VecDeque<Taken>,
+    most: u32,
+) -> Option<TakeAnswer>
+    requires of { seat.old.lock ≡ port.now }
+    requires idle { seat.old.turn ≡ false }
+    requires thread { seat.old.thread ≡ clock.old.thread.0 }
+    requires taking { CanTake clock.old.thread (deque_capacity out.old - deque_len out.old) seat.old }
+    requires most { 1 ≤ most }
+    ensures answered { IfSome result (λ answer. HasEntered clock.old clock.new (take_event answer) seat.old seat.new) }
+    ensures items { IfSome result (λ answer. out.new.items ≡ out.old.items ++ last_taken (take_count answer) (state_of seat.new.front)) }
+    ensures count { IfSome result (λ answer. IfTook answer (λ k. k ≡ min most (k + pending_count (state_of seat.new.front)))) }
+    ensures room { deque_capacity out.new ≡ deque_capacity out.old }
+    ensures looked { IfNone result (HasLooked clock.old clock.new seat.old seat.new) }
+    ensures nothing { IfNone result (out.new ≡ out.old) }
+    ensures port { IsAtPort seat.new }
+{
+    let mut turn = port.lock(rt, seat);
+    clock.ready(rt);
+    let tried = turn.book().take(clock, out, most);
+    turn.finish(seat);
+    tried
+}
+
+/// Takes the oldest pending items, no more than `most`, with their positions; where nothing is pending it
+/// waits. Once the port is shut it takes all that is left, which is the last that is taken. Takes no memory.
+pub fn take<R: Wait>(
+    port: &Port,
+    rt: &R,
+    seat: &mut Seat<PortBook>,
+    clock: &mut Clock,
+    out: &mut VecDeque<Taken>,
+    most: u32,
+) -> TakeAnswer
+    requires of { seat.old.lock ≡ port.now }
+    requires idle { seat.old.turn ≡ false }
+    requires thread { seat.old.thread ≡ clock.old.thread.0 }
+    requires taking { CanTake clock.old.thread (deque_capacity out.old - deque_len out.old) seat.old }
+    requires most { 1 ≤ most }
+    ensures answered { HasEntered clock.old clock.new (take_event result) seat.old seat.new }
+    ensures seat { KeepsSeat seat.old seat.new }
+    ensures clock { clock.new.thread ≡ clock.old.thread }
+    ensures port { IsAtPort seat.new }
+    ensures items { out.new.items ≡ out.old.items ++ last_taken (take_count result) (state_of seat.new.front) }
+    ensures count { IfTook result (λ k. k ≡ min most (k + pending_count (state_of seat.new.front))) }
+    ensures room { deque_capacity out.new ≡ deque_capacity out.old }
+    ensures taking { (room : ℕ) → CanTake clock.old.thread room seat.old → IfTook result (λ _. CanTake clock.old.thread room seat.new) }
+{
+    for _ in rt.forever() {
+        if let Some(answer) = try_take(port, rt, seat, clock, out, most) {
+            return answer;
+        }
+        port.wait_past(rt, seat.seen());
+    }
+    unreachable!()
+}
+
+// The closing itself.
+fn try_close<R: Wait>(
+    port: &Port,
+    rt: &R,
+    seat: &mut Seat<PortBook>,
+    clock: &mut Clock,
+) -> CloseAnswer
+    requires of { seat.old.lock ≡ port.now }
+    requires idle { seat.old.turn ≡ false }
+    requires thread { seat.old.thread ≡ clock.old.thread.0 }
+    ensures answered { HasAnswered (close_entry result) clock.old clock.new seat.old seat.new }
+    ensures port { IsAtPort seat.new }
+    ensures already { result ≡ CloseAnswer.AlreadyShut → (state_of seat.new.front).shut ≡ true }
+{
+    let mut turn = port.lock(rt, seat);
+    clock.ready(rt);
+    let shuts = turn.book().shut(clock);
+    turn.finish(seat);
+    if shuts {
+        CloseAnswer::Shut
+    } else {
+        CloseAnswer::AlreadyShut
+    }
+}
+
+/// Shuts the port: nothing is written any more. `AlreadyShut`, without an entry, where it is shut. Takes no
+/// memory.
+pub fn close<R: Wait>(
+    port: &Port,
+    rt: &R,
+    seat: &mut Seat<PortBook>,
+    clock: &mut Clock,
+) -> CloseAnswer
+    requires of { seat.old.lock ≡ port.now }
+    requires idle { seat.old.turn ≡ false }
+    requires thread { seat.old.thread ≡ clock.old.thread.0 }
+    ensures answered { HasAnswered (close_entry result) clock.old clock.new seat.old seat.new }
+    ensures seat { KeepsSeat seat.old seat.new }
+    ensures clock { clock.new.thread ≡ clock.old.thread }
+    ensures port { IsAtPort seat.new }
+    ensures shut { (state_of seat.new.front).shut ≡ true }
+    ensures taking { (thread : ThreadId) (room : ℕ) → CanTake thread room seat.old → CanTake thread room seat.new }
+{
+    try_close(port, rt, seat, clock)
+}

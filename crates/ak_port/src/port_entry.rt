@@ -1,0 +1,115 @@
+ghost use Rattle.std.specs.Prelude.{◌≡◌, IfOk};
+
+use ak_base::{NoMemory, ThreadId};
+use ak_flatten::Item;
+use std::alloc::Global;
+
+/// What was done to a port, by which thread, and when by its clock.
+#[derive(Debug, Drop)]
+pub struct PortEntry {
+    pub stamp: u64,
+    pub by: ThreadId,
+    pub event: PortEvent,
+}
+
+/// What was done to a port. Positions count all items that were ever written, from 0. (The Be Book, ports.)
+#[derive(Debug, Drop)]
+pub enum PortEvent {
+    /// It was made, to hold so many items at a time, and to accept so many in all.
+    Made { capacity: u32, life: u32 },
+    /// An item was written.
+    Written { position: u64, item: Item },
+    /// A write was refused, since as many items were pending as the port holds.
+    Full,
+    /// A write was refused, since the port was shut.
+    Refused,
+    /// A write was refused, since as many items were written as the port accepts in all.
+    Spent,
+    /// The taker took so many of the oldest pending items.
+    Took(u32),
+    /// After the port was shut the taker took what was pending, so many items.
+    Rest(u32),
+    /// It was shut: nothing is written any more.
+    Shut,
+}
+
+/// Whether a write to a full port waits.
+#[derive(Clone, Copy, Debug, PartialEq, Eq)]
+pub enum How {
+    Wait,
+    NoWait,
+}
+
+/// What a write answers. A refused item is given back.
+#[derive(Debug, Drop)]
+pub enum WriteAnswer {
+    /// It was written, at that position.
+    Wrote(u64),
+    /// The port is shut.
+    Closed(Item),
+    /// As many items were written as the port accepts in all.
+    Spent(Item),
+    /// As many items are pending as the port holds, and the write was not to wait.
+    Full(Item),
+    NoMemory(Item),
+}
+
+/// Why a write is refused, tested in this order.
+#[derive(Clone, Copy, Debug, PartialEq, Eq)]
+pub(crate) enum Refusal {
+    Closed,
+    Spent,
+    Full,
+}
+
+/// What a take answers, with the number of items that were handed out.
+#[derive(Clone, Copy, Debug, PartialEq, Eq)]
+pub enum TakeAnswer {
+    /// The oldest pending items, at least one. The port is not shut.
+    Took(u32),
+    /// All that was pending, maybe nothing. The port is shut.
+    Rest(u32),
+}
+
+#[derive(Clone, Copy, Debug, PartialEq, Eq)]
+pub enum CloseAnswer {
+    Shut,
+    AlreadyShut,
+}
+
+impl PortEvent {
+    /// An equal event.
+    pub fn try_clone(&self, alloc: Global) -> Result<PortEvent, NoMemory>
+        ensures { IfOk result (λ event. event ≡ self.now) }
+    {
+        Ok(match self {
+            PortEvent::Made { capacity, life } => PortEvent::Made {
+                capacity: *capacity,
+                life: *life,
+            },
+            PortEvent::Written { position, item } => PortEvent::Written {
+                position: *position,
+                item: item.try_clone(alloc)?,
+            },
+            PortEvent::Full => PortEvent::Full,
+            PortEvent::Refused => PortEvent::Refused,
+            PortEvent::Spent => PortEvent::Spent,
+            PortEvent::Took(count) => PortEvent::Took(*count),
+            PortEvent::Rest(count) => PortEvent::Rest(*count),
+            PortEvent::Shut => PortEvent::Shut,
+        })
+    }
+}
+
+impl PortEntry {
+    /// An equal entry.
+    pub fn try_clone(&self, alloc: Global) -> Result<PortEntry, NoMemory>
+        ensures { IfOk result (λ entry. entry ≡ self.now) }
+    {
+        Ok(PortEntry {
+            stamp: self.stamp,
+            by: self.by,
+            event: self.event.try_clone(alloc)?,
+        })
+    }
+}

@@ -1,0 +1,210 @@
+//! The calls on a shared reply book. Each may wait for its turn, and makes at most one entry.
+ghost use Rattle.std.specs.Prelude.{◌≡◌, false, None, Some, IfOk, IfErr, IfNone, IfSome, OnErr, IsSome, unwrap_or};
+ghost use Rattle.ak_port.specs.Reply.{IsFlatText, FillsWith, none_text};
+ghost use Rattle.ak_port.specs.ReplySeats.{HasEntered, HasLooked, HasFoundSettled, HasFoundFilled, KeepsSeat, MayCancel, MayTake};
+
+use crate::reply_book::ReplyBook;
+use crate::reply_entry::{CancelAnswer, FillAnswer, ReplyEvent};
+use ak_base::{Bytes, NoMemory};
+use ak_turn::{Clock, Seat, TurnLock};
+use std::sync::Wait;
+
+/// Opens the next slot, and answers its number. It keeps the memory for all that may become of the slot.
+pub fn open_ask<R: Wait>(
+    book: &TurnLock<ReplyBook>,
+    rt: &R,
+    seat: &mut Seat<ReplyBook>,
+    clock: &mut Clock,
+) -> Result<u64, NoMemory>
+    requires of { seat.old.lock ≡ book.now }
+    requires idle { seat.old.turn ≡ false }
+    requires thread { seat.old.thread ≡ clock.old.thread.0 }
+    ensures seat { KeepsSeat seat.old seat.new }
+    ensures clock { clock.new.thread ≡ clock.old.thread }
+    ensures opened { IfOk result (λ n. HasEntered (ReplyEvent.Opened n) clock.old clock.new seat.old seat.new) }
+    ensures take { IfOk result (λ n. MayTake seat.new.thread n seat.new.front) }
+    ensures cancel { IfOk result (λ n. MayCancel seat.new.thread n seat.new.front) }
+    ensures err { OnErr result (HasLooked clock.old clock.new seat.old seat.new) }
+{
+    let mut turn = book.lock(rt, seat);
+    clock.ready(rt);
+    let result = turn.book().open_slot(clock);
+    turn.finish(seat);
+    result
+}
+
+// One try to fill the slot, with the text or with the one for no reply. An `Err` gives the text back: the slot
+// is not opened yet.
+fn try_fill<R: Wait>(
+    book: &TurnLock<ReplyBook>,
+    rt: &R,
+    seat: &mut Seat<ReplyBook>,
+    clock: &mut Clock,
+    n: u64,
+    flat: Option<Bytes>,
+) -> Result<FillAnswer, Option<Bytes>>
+    requires of { seat.old.lock ≡ book.now }
+    requires idle { seat.old.turn ≡ false }
+    requires thread { seat.old.thread ≡ clock.old.thread.0 }
+    requires text { IfSome flat IsFlatText }
+    ensures seat { KeepsSeat seat.old seat.new }
+    ensures clock { clock.new.thread ≡ clock.old.thread }
+    ensures filled { result ≡ Ok FillAnswer.Filled → HasEntered (ReplyEvent.Filled n (unwrap_or flat none_text)) clock.old clock.new seat.old seat.new }
+    ensures duplicate { result ≡ Ok FillAnswer.Duplicate → HasFoundSettled n clock.old clock.new seat.old seat.new }
+    ensures unopened { IfErr result (λ text. text ≡ flat) }
+    ensures err { OnErr result (HasLooked clock.old clock.new seat.old seat.new) }
+{
+    let mut turn = book.lock(rt, seat);
+    clock.ready(rt);
+    let result = turn.book().fill(clock, n, flat);
+    turn.finish(seat);
+    result
+}
+
+// Tries until the slot is opened.
+fn fill_in<R: Wait>(
+    book: &TurnLock<ReplyBook>,
+    rt: &R,
+    seat: &mut Seat<ReplyBook>,
+    clock: &mut Clock,
+    n: u64,
+    flat: Option<Bytes>,
+) -> FillAnswer
+    requires of { seat.old.lock ≡ book.now }
+    requires idle { seat.old.turn ≡ false }
+    requires thread { seat.old.thread ≡ clock.old.thread.0 }
+    requires text { IfSome flat IsFlatText }
+    ensures seat { KeepsSeat seat.old seat.new }
+    ensures clock { clock.new.thread ≡ clock.old.thread }
+    ensures filled { result ≡ FillAnswer.Filled → HasEntered (ReplyEvent.Filled n (unwrap_or flat none_text)) clock.old clock.new seat.old seat.new }
+    ensures duplicate { result ≡ FillAnswer.Duplicate → HasFoundSettled n clock.old clock.new seat.old seat.new }
+{
+    let mut left = flat;
+    for _ in rt.forever() {
+        match try_fill(book, rt, seat, clock, n, left) {
+            Ok(answer) => return answer,
+            Err(text) => left = text,
+        }
+        book.wait_past(rt, seat.seen());
+    }
+    unreachable!()
+}
+
+/// Waits until the slot is opened, and fills it with the flat text of the reply. `Duplicate` exactly where it is
+/// filled or cancelled then. Takes no memory.
+pub fn fill<R: Wait>(
+    book: &TurnLock<ReplyBook>,
+    rt: &R,
+    seat: &mut Seat<ReplyBook>,
+    clock: &mut Clock,
+    n: u64,
+    flat: Bytes,
+) -> FillAnswer
+    requires of { seat.old.lock ≡ book.now }
+    requires idle { seat.old.turn ≡ false }
+    requires thread { seat.old.thread ≡ clock.old.thread.0 }
+    requires text { IsFlatText flat }
+    ensures seat { KeepsSeat seat.old seat.new }
+    ensures clock { clock.new.thread ≡ clock.old.thread }
+    ensures filled { result ≡ FillAnswer.Filled → HasEntered (ReplyEvent.Filled n flat) clock.old clock.new seat.old seat.new }
+    ensures duplicate { result ≡ FillAnswer.Duplicate → HasFoundSettled n clock.old clock.new seat.old seat.new }
+{
+    fill_in(book, rt, seat, clock, n, Some(flat))
+}
+
+/// The same with the flat text that stands for no reply. Takes no memory.
+pub fn fill_none<R: Wait>(
+    book: &TurnLock<ReplyBook>,
+    rt: &R,
+    seat: &mut Seat<ReplyBook>,
+    clock: &mut Clock,
+    n: u64,
+) -> FillAnswer
+    requires of { seat.old.lock ≡ book.now }
+    requires idle { seat.old.turn ≡ false }
+    requires thread { seat.old.thread ≡ clock.old.thread.0 }
+    ensures seat { KeepsSeat seat.old seat.new }
+    ensures clock { clock.new.thread ≡ clock.old.thread }
+    ensures filled { result ≡ FillAnswer.Filled → HasEntered (ReplyEvent.Filled n none_text) clock.old clock.new seat.old seat.new }
+    ensures duplicate { result ≡ FillAnswer.Duplicate → HasFoundSettled n clock.old clock.new seat.old seat.new }
+{
+    fill_in(book, rt, seat, clock, n, None)
+}
+
+/// Cancels a slot of the thread's own. `Duplicate` exactly where it is filled. Takes no memory.
+pub fn cancel<R: Wait>(
+    book: &TurnLock<ReplyBook>,
+    rt: &R,
+    seat: &mut Seat<ReplyBook>,
+    clock: &mut Clock,
+    n: u64,
+) -> CancelAnswer
+    requires of { seat.old.lock ≡ book.now }
+    requires idle { seat.old.turn ≡ false }
+    requires thread { seat.old.thread ≡ clock.old.thread.0 }
+    requires own { MayCancel seat.old.thread n seat.old.front }
+    ensures seat { KeepsSeat seat.old seat.new }
+    ensures clock { clock.new.thread ≡ clock.old.thread }
+    ensures cancelled { result ≡ CancelAnswer.Cancelled → HasEntered (ReplyEvent.Cancelled n) clock.old clock.new seat.old seat.new }
+    ensures duplicate { result ≡ CancelAnswer.Duplicate → HasFoundFilled n clock.old clock.new seat.old seat.new }
+{
+    let mut turn = book.lock(rt, seat);
+    clock.ready(rt);
+    let answer = turn.book().cancel(clock, n);
+    turn.finish(seat);
+    answer
+}
+
+// One try to take what the slot was filled with. `None` where it is still open.
+fn try_take<R: Wait>(
+    book: &TurnLock<ReplyBook>,
+    rt: &R,
+    seat: &mut Seat<ReplyBook>,
+    clock: &mut Clock,
+    n: u64,
+) -> Option<Bytes>
+    requires of { seat.old.lock ≡ book.now }
+    requires idle { seat.old.turn ≡ false }
+    requires thread { seat.old.thread ≡ clock.old.thread.0 }
+    requires own { MayTake seat.old.thread n seat.old.front }
+    ensures seat { KeepsSeat seat.old seat.new }
+    ensures clock { clock.new.thread ≡ clock.old.thread }
+    ensures taken { IfSome result (λ _. HasEntered (ReplyEvent.Taken n) clock.old clock.new seat.old seat.new) }
+    ensures filled { IfSome result (λ flat. FillsWith n flat seat.new.front) }
+    ensures text { IfSome result IsFlatText }
+    ensures waits { IfNone result (HasLooked clock.old clock.new seat.old seat.new) }
+    ensures still { IfNone result (MayTake seat.new.thread n seat.new.front) }
+{
+    let mut turn = book.lock(rt, seat);
+    clock.ready(rt);
+    let result = turn.book().take(clock, n);
+    turn.finish(seat);
+    result
+}
+
+/// Waits until a slot of the thread's own is filled, and takes the reply's flat text. Takes no memory.
+pub fn wait_for<R: Wait>(
+    book: &TurnLock<ReplyBook>,
+    rt: &R,
+    seat: &mut Seat<ReplyBook>,
+    clock: &mut Clock,
+    n: u64,
+) -> Bytes
+    requires of { seat.old.lock ≡ book.now }
+    requires idle { seat.old.turn ≡ false }
+    requires thread { seat.old.thread ≡ clock.old.thread.0 }
+    requires own { MayTake seat.old.thread n seat.old.front }
+    ensures seat { KeepsSeat seat.old seat.new }
+    ensures clock { clock.new.thread ≡ clock.old.thread }
+    ensures taken { HasEntered (ReplyEvent.Taken n) clock.old clock.new seat.old seat.new }
+    ensures filled { FillsWith n result seat.new.front }
+    ensures text { IsFlatText result }
+{
+    for _ in rt.forever() {
+        if let Some(flat) = try_take(book, rt, seat, clock, n) {
+            return flat;
+        }
+        book.wait_past(rt, seat.seen());
+    }
+    unreachable!()
+}
