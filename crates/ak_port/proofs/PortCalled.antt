@@ -31,10 +31,12 @@ looked_stays k l a b looked =
 -- what every call keeps
 pub answered_keeps : (e : Option PortEvent) (k l : Clock) (a b : PortSeat) → HasAnswered e k l a b → KeepsSeat a b × (l.thread ≡ k.thread)
 answered_keeps None k l a b answered =
-    let after = answered.seen.after in
-    (record { lock = ap (λ s. s.lock) after; opening = ap (λ s. s.opening) after; thread = ap (λ s. s.thread) after; joined = ap (λ s. s.joined) after; turn = ap (λ s. s.turn) after; names = ap (λ s. s.names) after },
-    ap (λ t. t.thread) answered.clocked)
+    let after = answered.seen.after in (
+      record { lock = ap (λ s. s.lock) after; opening = ap (λ s. s.opening) after; thread = ap (λ s. s.thread) after; joined = ap (λ s. s.joined) after; turn = ap (λ s. s.turn) after; names = ap (λ s. s.names) after },
+      ap (λ t. t.thread) answered.clocked,
+    )
 answered_keeps (Some event) k l a b answered =
-    let after = answered.called.after in
-    (record { lock = ap (λ s. s.lock) after; opening = ap (λ s. s.opening) after; thread = ap (λ s. s.thread) after; joined = ap (λ s. s.joined) after; turn = ap (λ s. s.turn) after; names = ap (λ s. s.names) after },
-    ap (λ t. t.thread) answered.clocked)
+    let after = answered.called.after in (
+      record { lock = ap (λ s. s.lock) after; opening = ap (λ s. s.opening) after; thread = ap (λ s. s.thread) after; joined = ap (λ s. s.joined) after; turn = ap (λ s. s.turn) after; names = ap (λ s. s.names) after },
+      ap (λ t. t.thread) answered.clocked,
+    )

@@ -3,6 +3,7 @@ use Rattle.std.proofs.Common.{◌≡◌, ℕ, zero, suc, ◌+◌, ◌<◌, ◌�
 use Rattle.std.proofs.Math.Seq.{take-add}
 use Rattle.std.proofs.lemmas.List.{take_all, drop_all, drop-drop, length-take-le, length-drop, take-append-le, drop-append-le}
 use Rattle.ak_flatten.specs.Item.{ItemData}
+use Rattle.ak_flatten.specs.declared.item.Taken.{Taken}
 use Rattle.ak_port.specs.declared.port_entry.PortEntry.{PortEntry}
 use Rattle.ak_port.specs.declared.port_entry.PortEvent.{PortEvent}
 use Rattle.ak_port.specs.declared.port_entry.PortEvent.TheVariants as event
@@ -42,6 +43,13 @@ handed_more first k xs lt =
     let front : length (take k xs) ≡ k = length-take-le k xs (omega arith) in
     ap (λ n. numbered first (take k xs) ++ numbered (first + n) (take 1 (drop k xs))) (sym front)
     ∙ sym (numbered-append first (take k xs) (take 1 (drop k xs))) ∙ ap (numbered first) (sym (take-add k 1 xs))
+
+-- what was handed out so far, and one item more
+pub handed_on : (out out' out'' : List Taken) (first k position : ℕ) (all left : List ItemData) → out' ≡ out ++ numbered first (take k all) → left ≡ drop k all → position ≡ first + k → k < length all → out'' ≡ out' ++ numbered position (take 1 left)
+    → out'' ≡ out ++ numbered first (take (k + 1) all)
+handed_on out out' out'' first k position all left so_far behind at there one =
+    one ∙ (λ i. so_far i ++ numbered (at i) (take 1 (behind i))) ∙ append_assoc out (numbered first (take k all)) (numbered (first + k) (take 1 (drop k all)))
+    ∙ ap (λ l. out ++ l) (handed_more first k all there)
 
 -- ---- one step
 pending_step : (taker by : ℕ) (s : PortState) (e : PortEvent) → IsReached s → IsAllowed taker by s e → pending_items s ++ written_item e ≡ handed_out s e ++ pending_items (state_after s e)

@@ -1,7 +1,7 @@
 -- What a taker has taken: its own takes alone add to it.
-use Rattle.std.proofs.Common.{◌≡◌, ◌≢◌, ℕ, ◌+◌, ◌-◌, ◌≤◌, Bool, true, false, List, [], ◌∷◌, ◌++◌, length, take, drop, All, Option, Some, None, refl, sym, ap, ◌∙◌, subst, arith, append-nil}
+use Rattle.std.proofs.Common.{◌≡◌, ◌≢◌, ℕ, ◌+◌, List, [], ◌∷◌, ◌++◌, length, take, drop, Some, refl, sym, ap, ◌∙◌, subst, arith}
 use Rattle.std.specs.Prelude.{IsSomeAnd}
-use Rattle.std.proofs.lemmas.List.{take-append-le, drop-take}
+use Rattle.std.proofs.lemmas.List.{take-append-le}
 use Rattle.std.proofs.lemmas.List.Elements.{All-head, All-tail}
 use Rattle.ak_base.specs.declared.thread.ThreadId.{ThreadId}
 use Rattle.ak_turn.specs.declared.clock.Clock.{Clock}
@@ -13,10 +13,10 @@ use Rattle.ak_port.specs.declared.port_entry.PortEvent.TheVariants as event
 use Rattle.ak_port.specs.declared.port_entry.TakeAnswer.{TakeAnswer}
 use Rattle.ak_port.specs.declared.port_entry.TakeAnswer.TheVariants as taken
 use Rattle.ak_port.specs.PortCalls.{PortData, IsPortBook, PortSeat, by_number, entry_now, HasEntered, IsAtPort, take_event, take_count}
-use Rattle.ak_port.specs.PortMachine.{PortState, PortStep, AreSteps, IsPort, IsAllowed, replayed, state_after, state_of, unmade, pending_count, numbered, taken_items, pending_items, last_taken, handed_out, written_in}
+use Rattle.ak_port.specs.PortMachine.{PortState, PortStep, AreSteps, IsPort, IsAllowed, replayed, state_after, state_of, unmade, numbered, taken_items, pending_items, last_taken, written_in}
 use Rattle.ak_port.proofs.PortItems.{each_once, oldest_first, taken_more, take-numbered}
-use Rattle.ak_port.proofs.PortLimits.{IsReached, reached_step, unmade_reached, reached_by, within_limits}
-use Rattle.ak_port.proofs.PortReplays.{replayed-append, AreSteps-behind, AreSteps-before, state_of-push, made_stays}
+use Rattle.ak_port.proofs.PortLimits.{IsReached, reached_step, unmade_reached, reached_by}
+use Rattle.ak_port.proofs.PortReplays.{replayed-append, AreSteps-behind, AreSteps-before, state_of-push}
 use Rattle.ak_port.proofs.PortSound.{took_items, rest_items}
 
 -- another thread takes nothing

@@ -7,7 +7,7 @@ use native.Mathlib.Decide.{ℕ_discrete}
 use Rattle.ak_base.specs.declared.thread.ThreadId.{ThreadId}
 use Rattle.ak_turn.specs.declared.clock.Clock.{Clock}
 use Rattle.ak_turn.specs.Lines.{places, places_from}
-use Rattle.ak_turn.specs.Seats.{HasSeen, HasCalled, IsGiven, KnowsWhole}
+use Rattle.ak_turn.specs.Seats.{HasSeen, HasCalled, IsGiven, KnowsWhole, new_seat, titled_seat}
 use Rattle.ak_port.specs.declared.port_entry.PortEntry.{PortEntry}
 use Rattle.ak_port.specs.declared.port_entry.PortEvent.{PortEvent}
 use Rattle.ak_port.specs.declared.port_entry.PortEvent.TheVariants as event
@@ -189,3 +189,12 @@ can_after_take (taken.Rest k) clock clock' a c entered at thread room can = tt
 pub shut_after : (answer : CloseAnswer) (clock clock' : Clock) (a c : PortSeat) → HasAnswered (close_entry answer) clock clock' a c → (answer ≡ closed.AlreadyShut → (state_of c.front).shut ≡ true) → (state_of c.front).shut ≡ true
 shut_after closed.Shut clock clock' a c answered already = ap (λ l. (state_of l).shut) answered.front ∙ ap (λ s. s.shut) (state_of-push answered.before (entry_now clock answered.before event.Shut))
 shut_after closed.AlreadyShut clock clock' a c answered already = already refl
+
+-- ---- seats that are split
+pub can_titled : (thread : ThreadId) (room : ℕ) (names : Option (List ℕ)) (a c : PortSeat) → CanTake thread room a → c ≡ titled_seat names a → CanTake thread room c
+can_titled thread room names a c can after = subst (CanTake thread room) (sym after) (record { taker = can.taker; unrested = can.unrested; made = can.made; capacity = can.capacity })
+
+-- a new seat for the taker
+pub can_new : (thread : ThreadId) (room : ℕ) (names : Option (List ℕ)) (a c : PortSeat) → a.opening ≡ Some thread → (state_of a.front).made ≡ true → (state_of a.front).capacity ≤ room → c ≡ new_seat thread.0 names a → CanTake thread room c
+can_new thread room names a c opening made capacity after =
+    subst (CanTake thread room) (sym after) (record { taker = opening; unrested = All-nil (IsNoRest a.front); made = made; capacity = capacity })

@@ -1,5 +1,5 @@
 -- What a thread wrote, as its seat and as others know it.
-use Rattle.std.proofs.Common.{◌≡◌, ℕ, List, [], ◌∷◌, ◌++◌, map, refl, sym, ap, ◌∙◌, append_assoc, append-nil}
+use Rattle.std.proofs.Common.{◌≡◌, ℕ, List, [], ◌∷◌, ◌++◌, map, refl, sym, ap, ◌∙◌, append_assoc}
 use Rattle.std.proofs.lemmas.List.{map-append}
 use Rattle.ak_flatten.specs.Item.{ItemData}
 use Rattle.ak_flatten.specs.declared.item.Taken.{Taken}
@@ -9,9 +9,12 @@ use Rattle.ak_turn.specs.Seats.{LockId, IsGiven, KnowsWhole, joined_seat}
 use Rattle.ak_turn.proofs.Calls.{makes_one, knows_still, knows_other, knows_whole}
 use Rattle.ak_port.specs.declared.port_entry.PortEntry.{PortEntry}
 use Rattle.ak_port.specs.declared.port_entry.PortEvent.TheVariants as event
-use Rattle.ak_port.specs.PortCalls.{PortSeat, by_number, entry_now, HasEntered}
-use Rattle.ak_port.specs.PortMachine.{written_in, written_item}
-use Rattle.ak_port.specs.PortWriters.{teams_in, HasSent, KnowsSent}
+use Rattle.ak_base.specs.declared.thread.ThreadId.{ThreadId}
+use Rattle.ak_port.specs.declared.port_entry.TakeAnswer.{TakeAnswer}
+use Rattle.ak_port.specs.PortCalls.{PortSeat, by_number, entry_now, HasEntered, IsAtPort, KeepsSeat, take_count, take_event}
+use Rattle.ak_port.specs.PortMachine.{last_taken, state_of, written_in, written_item}
+use Rattle.ak_port.specs.PortWriters.{teams_in, HasSent, HasTaken, KnowsSent}
+use Rattle.ak_port.proofs.PortTaken.{takes_more}
 
 written_in-append : (xs ys : List PortEntry) → written_in (xs ++ ys) ≡ written_in xs ++ written_in ys
 written_in-append [] ys = refl
@@ -40,3 +43,14 @@ sent_known_other lock thread sent old other new has after = record { made = has.
 -- and in the whole list that thread sent just that
 pub sent_known_whole : (thread : ℕ) (sent : List ℕ) (old new : PortSeat) → KnowsSent thread sent old → IsGiven by_number old new → KnowsWhole by_number new → teams_in (made_by by_number thread new.front) ≡ sent
 sent_known_whole thread sent old new knows given whole = ap teams_in (knows_whole by_number thread knows.made old new knows.knows given whole) ∙ knows.sent_so
+
+-- ---- a taker that takes on
+pub takes_on : (lock : LockId) (thread : ThreadId) (items items' : List Taken) (answer : TakeAnswer) (k l : Clock) (a c : PortSeat) → HasTaken lock thread items a → HasEntered k l (take_event answer) a c → KeepsSeat a c → IsAtPort c
+    → items' ≡ items ++ last_taken (take_count answer) (state_of c.front) → HasTaken lock thread items' c
+takes_on lock thread items items' answer k l a c has entered keeps at more = record {
+  of = keeps.lock ∙ has.of;
+  idle = keeps.turn ∙ has.idle;
+  is = keeps.thread ∙ has.is;
+  opening = keeps.opening ∙ has.opening;
+  taken = more ∙ ap (λ t. t ++ last_taken (take_count answer) (state_of c.front)) has.taken ∙ sym (takes_more thread k l answer a c entered has.opening has.is at);
+}

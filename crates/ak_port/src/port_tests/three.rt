@@ -49,7 +49,14 @@ fn item(alloc: Global, number: u32) -> Result<Item, NoMemory>
     ensures { IfOk result (λ item. item.team ≡ number) }
 {
     let message = Message::new(alloc, Code::GET);
-    match Item::new(alloc, Target::Preferred, number, false, Duty::None, &message) {
+    match Item::new(
+        alloc,
+        Target::Preferred,
+        number,
+        false,
+        Duty::None,
+        &message,
+    ) {
         Ok(item) => Ok(item),
         Err(_) => Err(NoMemory),
     }

@@ -1,7 +1,6 @@
-use Rattle.std.proofs.Common.{◌+◌, ◌<◌, ◌++◌, length, take, drop, ap, ◌∙◌, arith, append_assoc}
+use Rattle.std.proofs.Common.{◌+◌, ◌<◌, length, drop, ap, ◌∙◌, arith}
 use Rattle.std.proofs.lemmas.List.{drop-drop}
-use Rattle.ak_port.specs.PortMachine.{numbered}
-use Rattle.ak_port.proofs.PortItems.{handed_more}
+use Rattle.ak_port.proofs.PortItems.{handed_on}
 use Rattle.ak_port.proofs.port_book.hand_out.Goals as goal
 
 pub loop-k-preserved : goal.loop-k-preserved
@@ -14,8 +13,7 @@ loop-k-preserved c =
       pending = one.pending ∙ ap (drop 1) so_far.pending ∙ drop-drop 1 c.loop-k.k all;
       pending_len = omega arith;
       pending_room = one.pending_room ∙ so_far.pending_room;
-      out = one.out ∙ (λ i. so_far.out i ++ numbered (c.args.first + c.from.ensures i) (take 1 (so_far.pending i)))
-          ∙ append_assoc c.args.out.now.items _ _ ∙ ap (λ l. c.args.out.now.items ++ l) (handed_more c.args.first c.loop-k.k all there);
+      out = handed_on c.args.out.now.items _ _ c.args.first c.loop-k.k _ all _ so_far.out so_far.pending (ap (λ n. c.args.first + n) c.from.ensures) there one.out;
       out_len = omega arith;
       out_room = one.out_room ∙ so_far.out_room;
     }

@@ -14,4 +14,4 @@ returns-clause-sent g c t sent knows =
 pub returns-clause-taken : goal.returns-clause-taken
 returns-clause-taken g c =
     let turn = c.lock.ensures in
-    told_at_end c.args.taker _ _ _ _ c.keep-book.ensures turn.list turn.opening c.requires.opening c.requires.thread turn.seen c.taker-_taker.ensures.port
+    told_at_end c.args.taker _ _ _ _ c.keep-book.ensures turn.list turn.opening c.requires.opening c.requires.thread turn.seen c.taker-taker.ensures.port
