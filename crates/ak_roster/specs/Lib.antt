@@ -1,0 +1,6 @@
+pub mod Answers
+pub mod Heads
+pub mod Kept
+pub mod Machine
+pub mod Roster
+pub mod Told
