@@ -1,13 +1,11 @@
 -- What a call that makes an entry leaves, as contracts say it.
-use Rattle.std.proofs.Common.{◌≡◌, ◌<◌, ◌≤◌, ℕ, zero, suc, ◌+◌, ◌⊎◌, inl, inr, List, [], ◌∷◌, ◌++◌, length, map, refl, sym, ap, ◌∙◌, subst, arith, append-nil, Option, max}
+use Rattle.std.proofs.Common.{◌≡◌, ◌<◌, ◌≤◌, ℕ, ◌+◌, ◌⊎◌, List, [], ◌∷◌, ◌++◌, length, map, sym, ap, ◌∙◌, subst, arith, append-nil, Option, max}
 use Rattle.ak_turn.specs.declared.clock.Clock.{Clock}
-use Rattle.ak_roster.specs.declared.head.AppHead.{AppHead}
 use Rattle.ak_roster.specs.declared.entry.RosterEntry.{RosterEntry}
-use Rattle.ak_roster.specs.declared.entry.RosterLine.{RosterLine}
 use Rattle.ak_roster.specs.declared.entry.RosterEvent.{RosterEvent}
 use Rattle.ak_roster.specs.Machine.{LooperData, RosterState, IsLegal, after}
 use Rattle.ak_roster.specs.Kept.{Kept, IsSound, count_of, roster_seen}
-use Rattle.ak_roster.specs.Roster.{RosterData, IsRoster, IsAtRest, AreKept, Enters, last_stamp, new_line, next_stamp, state}
+use Rattle.ak_roster.specs.Roster.{RosterData, IsRoster, IsAtRest, AreKept, Enters, last_stamp, new_line, state}
 use Rattle.ak_roster.proofs.Sound.{Grows, line_of, seen, sound_grows, state_is}
 
 -- the entry of an event by that clock, past that stamp

@@ -1,19 +1,18 @@
 -- A door that gives a part.
-use Rattle.std.proofs.Common.{◌≡◌, ◌<◌, ◌≤◌, ℕ, zero, suc, ◌+◌, ◌⊎◌, inl, inr, Bool, true, false, List, [], ◌∷◌, ◌++◌, length, map, set, get_or, refl, sym, ap, ◌∙◌, subst, arith, append-nil, append_assoc, Option, None, Some, Contains, max}
-use Rattle.std.specs.Prelude.{slice_get, slice_set, option_map, IfSome}
-use Rattle.std.proofs.lemmas.List.{length-append, length-map, length-set, map-append, map-set, set-get_or}
+use Rattle.std.proofs.Common.{◌≡◌, ◌<◌, ◌≤◌, ℕ, zero, suc, ◌+◌, ◌⊎◌, inl, inr, List, [], ◌∷◌, ◌++◌, length, map, set, refl, sym, ap, ◌∙◌, subst, arith, append-nil, Option, None, Some, Contains, max}
+use Rattle.std.specs.Prelude.{slice_get, option_map, IfSome}
+use Rattle.std.proofs.lemmas.List.{length-set, map-append, map-set, set-get_or}
 use Rattle.std.proofs.lemmas.List.Elements.{Contains-append_left, Contains-append_right, Contains-push, Contains-push_cases}
 use Rattle.std.proofs.lemmas.Option.{get_or_from_slice_get, slice_get-map, slice_get_within}
 use Rattle.ak_turn.specs.declared.clock.Clock.{Clock}
-use Rattle.ak_roster.specs.declared.head.AppHead.{AppHead}
 use Rattle.ak_roster.specs.declared.entry.RosterEntry.{RosterEntry}
 use Rattle.ak_roster.specs.declared.entry.RosterEvent.TheVariants as event
-use Rattle.ak_roster.specs.Machine.{LooperData, RosterState, HasNoDoor, after, given_to, with_given}
+use Rattle.ak_roster.specs.Machine.{LooperData, HasNoDoor, given_to, with_given}
 use Rattle.ak_roster.specs.Kept.{Kept, IsSound, roster_seen}
 use Rattle.ak_roster.specs.Told.{IsNewIn, told_with}
-use Rattle.ak_roster.specs.Roster.{RosterData, AreKept, AreSame, GivesPart, GivesPartAt, IsAtRest, IsKept, IsRoster, IsStranger, holders, last_stamp, objects_of, state}
+use Rattle.ak_roster.specs.Roster.{RosterData, AreKept, AreSame, GivesPartAt, IsAtRest, IsKept, IsRoster, IsStranger, holders, last_stamp, objects_of, state}
 use Rattle.ak_roster.proofs.Histories.{length-with_given}
-use Rattle.ak_roster.proofs.Entering.{Entered, Holds, entered_so, entry_of, loopers_held, roster_held, running_held, teams_held, rests}
+use Rattle.ak_roster.proofs.Entering.{Entered, Holds, entered_so, entry_of, roster_held, running_held, teams_held, rests}
 
 -- the same threads, and then the same one more
 same-push : (ts us : List ℕ) (t : ℕ) → AreSame ts us → AreSame (ts ++ t ∷ []) (us ++ t ∷ [])

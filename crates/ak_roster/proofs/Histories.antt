@@ -1,6 +1,5 @@
 -- Histories of the roster that go on.
-use Rattle.std.proofs.Common.{◌≡◌, ◌<◌, ◌≤◌, ℕ, zero, suc, ◌+◌, ◌⊎◌, inl, inr, List, [], ◌∷◌, ◌++◌, length, refl, sym, ap, ◌∙◌, subst, arith, append_assoc, append-nil}
-use Rattle.std.specs.Prelude.{replicate}
+use Rattle.std.proofs.Common.{◌≡◌, ◌<◌, ℕ, zero, suc, ◌+◌, ◌⊎◌, inl, inr, List, [], ◌∷◌, ◌++◌, length, refl, ap, ◌∙◌, subst, arith}
 use Rattle.std.proofs.lemmas.List.{length-append, length-replicate}
 use Rattle.ak_turn.specs.Lines.{last_stamp_of}
 use Rattle.ak_roster.specs.declared.head.AppHead.{AppHead}
@@ -9,7 +8,7 @@ use Rattle.ak_roster.specs.declared.entry.RosterEvent.{RosterEvent}
 use Rattle.ak_roster.specs.declared.entry.RosterEvent.TheVariants as event
 use Rattle.ak_roster.specs.declared.entry.LaunchOutcome.{LaunchOutcome}
 use Rattle.ak_roster.specs.declared.entry.LaunchOutcome.TheVariants as launch
-use Rattle.ak_roster.specs.Machine.{LooperData, RosterState, IsLegal, RosterStep, IsHistory, after, launched, loopers_at, loopers_of, state_from, state_of, start, with_given, given_to}
+use Rattle.ak_roster.specs.Machine.{LooperData, RosterState, IsLegal, IsHistory, after, loopers_at, loopers_of, state_from, state_of, start, with_given}
 use Rattle.ak_roster.specs.Kept.{count_of, count_launched}
 use Rattle.ak_roster.proofs.Lines.{count_all}
 

@@ -1,8 +1,8 @@
 -- A launch that starts.
-use Rattle.std.proofs.Common.{◌≡◌, ◌<◌, ◌≤◌, ℕ, suc, ◌+◌, ◌⊎◌, inl, inr, Bool, true, false, List, [], ◌∷◌, ◌++◌, length, map, refl, sym, ap, ◌∙◌, subst, arith, append-nil, append_assoc, Option, None, Some, replicate, max}
-use Rattle.std.specs.Prelude.{slice_get, unwrap_or, option_map, if◌then◌else◌, nat_lt, nat_le, ◌&&◌}
+use Rattle.std.proofs.Common.{◌≡◌, ◌<◌, ◌≤◌, ℕ, suc, ◌+◌, inl, Bool, true, false, List, [], ◌∷◌, ◌++◌, length, map, refl, sym, ap, ◌∙◌, subst, arith, append_assoc, Option, None, Some, max}
+use Rattle.std.specs.Prelude.{slice_get, unwrap_or, option_map, if◌then◌else◌}
 use Rattle.std.proofs.lemmas.Bool.Decides.{nat_tests}
-use Rattle.std.proofs.lemmas.List.{length-append, length-map, length-replicate, map-append, nil_from_length}
+use Rattle.std.proofs.lemmas.List.{length-append, length-map, map-append, nil_from_length}
 use Rattle.ak_turn.specs.declared.clock.Clock.{Clock}
 use Rattle.ak_base.specs.declared.app_word.AppWord.{AppWord}
 use Rattle.ak_roster.specs.declared.head.AppHead.{AppHead}
@@ -11,15 +11,21 @@ use Rattle.ak_roster.specs.declared.entry.RosterEntry.{RosterEntry}
 use Rattle.ak_roster.specs.declared.entry.RosterEvent.TheVariants as event
 use Rattle.ak_roster.specs.declared.entry.LaunchOutcome.{LaunchOutcome}
 use Rattle.ak_roster.specs.declared.entry.LaunchOutcome.TheVariants as launch
+use Rattle.ak_roster.specs.declared.answer.Decision.TheVariants as decision
+use Rattle.ak_roster.specs.Answers.{decision_of}
 use Rattle.ak_roster.specs.Heads.{excluder, first_fit}
-use Rattle.ak_roster.specs.Machine.{LooperData, RosterState, after, has_room, launch_at, launch_first, launch_of, loopers_at, loopers_of, launched, team_of, unless_excluded}
+use Rattle.ak_roster.specs.Machine.{LooperData, RosterState, has_room, launch_at, launch_first, launch_of, loopers_at, loopers_of, team_of, unless_excluded}
 use Rattle.ak_roster.specs.Kept.{Kept, IsSound, count_launched, roster_seen}
 use Rattle.ak_roster.specs.Roster.{RosterData, IsAtRest, AreKept, last_stamp, state}
 use Rattle.ak_roster.proofs.Histories.{count_started}
-use Rattle.ak_roster.proofs.Entering.{Entered, Holds, entered_so, entry_of, doors_held, heads_held, loopers_held, roster_held, running_held, teams_held, rests}
+use Rattle.ak_roster.proofs.Entering.{Entered, Holds, entered_so, entry_of, roster_held, running_held, rests}
 
 -- the numbers with which a launch starts
-pub record StartsWith (heads : List AppHead) (teams loopers place team first : ℕ) : Type 0 where
+pub record StartsWith (heads : List AppHead) (running : List Running) (teams loopers place team first : ℕ) : Type 0 where
+  pub head : AppHead
+  pub stands : slice_get heads place ≡ Some head
+  -- no team keeps it from starting
+  pub free : excluder heads running head ≡ None
   pub team_is : team ≡ teams + 1
   pub first_is : first ≡ loopers
   pub few_teams : team ≤ 16
@@ -34,24 +40,24 @@ module _ (heads : List AppHead) (running : List Running) (teams loopers place te
 
   excluded_facts : (head : AppHead) (other : Option Running) (p : ℕ)
       → unless_excluded other (if has_room teams loopers head then launch.Started p (teams + 1) loopers else launch.Limit) ≡ launch.Started place team first
-      → (place ≡ p) × (team ≡ teams + 1) × (first ≡ loopers) × (teams < 16) × (loopers + head.loopers ≤ 32)
-  excluded_facts head None p e = room_facts head (has_room teams loopers head) refl p e
+      → (place ≡ p) × (team ≡ teams + 1) × (first ≡ loopers) × (teams < 16) × (loopers + head.loopers ≤ 32) × (other ≡ None)
+  excluded_facts head None p e = let f = room_facts head (has_room teams loopers head) refl p e in (f.0, f.1, f.2, f.3, f.4, refl)
   excluded_facts head (Some t) p e = absurd cc
 
   at_facts : (p : ℕ) (head : Option AppHead) → head ≡ slice_get heads p → launch_at heads running teams loopers p head ≡ launch.Started place team first
-      → StartsWith heads teams loopers place team first
+      → StartsWith heads running teams loopers place team first
   at_facts p None is e = absurd cc
   at_facts p (Some head) is e =
       let f = excluded_facts head (excluder heads running head) p e in
       let many : loopers_at heads place ≡ head.loopers = ap (λ (q : ℕ). loopers_at heads q) f.0 ∙ ap (λ (o : Option AppHead). unwrap_or (option_map (λ h. h.loopers) o) 0) (sym is) in
-      record { team_is = f.1; first_is = f.2; few_teams = omega (arith, f.1, f.3); few_loopers = omega (arith, f.2, f.4, many) }
+      record { head = head; stands = ap (λ (q : ℕ). slice_get heads q) f.0 ∙ sym is; free = f.5; team_is = f.1; first_is = f.2; few_teams = omega (arith, f.1, f.3); few_loopers = omega (arith, f.2, f.4, many) }
 
-  first_facts : (p : Option ℕ) → launch_first heads running teams loopers p ≡ launch.Started place team first → StartsWith heads teams loopers place team first
+  first_facts : (p : Option ℕ) → launch_first heads running teams loopers p ≡ launch.Started place team first → StartsWith heads running teams loopers place team first
   first_facts None e = absurd cc
   first_facts (Some p) e = at_facts p (slice_get heads p) refl e
 
 pub started_facts : (heads : List AppHead) (s : RosterState) (word : AppWord) (place team first : ℕ) → launch_of heads s word ≡ launch.Started place team first
-    → StartsWith heads s.teams (length s.loopers) place team first
+    → StartsWith heads s.running s.teams (length s.loopers) place team first
 started_facts heads s word place team first e = first_facts heads s.running s.teams (length s.loopers) place team first (first_fit heads word) e
 
 module _ {D : Type 0} (threads : D → Option (List ℕ)) where
@@ -77,7 +83,7 @@ module _ {D O : Type 0} (object : D → Option O) (threads : D → Option (List 
     (running : new.running ≡ old.running ++ (record { team = team; description = place; first = first; loopers = loopers_at old.heads place }) ∷ [])
     (teams : new.teams ≡ team) (loopers : new.loopers ≡ first + loopers_at old.heads place) (doors : new.doors ≡ old.doors ++ more)
     (room : length new.entries + length new.running ≤ new.room) where
-  facts : StartsWith roster.heads (state roster).teams (length (state roster).loopers) place team first
+  facts : StartsWith roster.heads (state roster).running (state roster).teams (length (state roster).loopers) place team first
   facts = started_facts roster.heads (state roster) word place team first starts
 
   many : loopers_at old.heads place ≡ loopers_at roster.heads place
@@ -144,3 +150,21 @@ module _ {D O : Type 0} (object : D → Option O) (threads : D → Option (List 
       (length-append roster.doors more
       ∙ (let n = length-AreKept threads (length (state roster).loopers) more (loopers_of roster.heads clock.thread.0 (launch_of roster.heads (state roster) word)) kept in omega (arith, rest, n))
       ∙ sym (length-append (state roster).loopers (loopers_of roster.heads clock.thread.0 (launch_of roster.heads (state roster) word))))
+
+-- ---- doors that tell nothing
+pub AreKept-nothing : {D : Type 0} (n : ℕ) (ds : List D) (ls : List LooperData) → length ds ≡ length ls → AreKept (λ _. None) n ds ls
+AreKept-nothing n [] [] same = refl
+AreKept-nothing n [] (l ∷ ls) same = absurd (omega arith)
+AreKept-nothing n (d ∷ ds) [] same = absurd (omega arith)
+AreKept-nothing n (d ∷ ds) (l ∷ ls) same = (tt, AreKept-nothing (suc n) ds ls (omega arith))
+
+pub started_by : (o : LaunchOutcome) (place team first : ℕ) → decision.Starts place team first ≡ decision_of o → o ≡ launch.Started place team first
+started_by (launch.Started p t f) place team first e = cc
+started_by (launch.AlreadyRunning t) place team first e = absurd cc
+started_by launch.NotFound place team first e = absurd cc
+started_by launch.Limit place team first e = absurd cc
+
+pub doors_for_start : {D : Type 0} (heads : List AppHead) (by : ℕ) (o : LaunchOutcome) (place team first n : ℕ) (ds : List D) → decision.Starts place team first ≡ decision_of o
+    → length ds ≡ loopers_at heads place → AreKept (λ _. None) n ds (loopers_of heads by o)
+doors_for_start heads by o place team first n ds starts many =
+    AreKept-nothing n ds (loopers_of heads by o) (many ∙ sym (count_started heads by o ∙ ap (count_launched heads) (started_by o place team first starts)))

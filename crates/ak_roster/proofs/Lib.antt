@@ -5,3 +5,7 @@ pub mod Entering
 pub mod Leaving
 pub mod Launching
 pub mod Granting
+pub mod Fresh
+pub mod Carried
+pub mod Apart
+pub mod Once

@@ -1,20 +1,13 @@
 -- The lines of the entries, with the objects of the loopers that they start.
-use Rattle.std.proofs.Common.{◌≡◌, ◌<◌, ◌≤◌, ℕ, zero, suc, ◌+◌, ◌-◌, Bool, List, [], ◌∷◌, ◌++◌, length, map, take, drop, refl, sym, ap, ◌∙◌, subst, arith, Option, Some, None, cond}
-use Rattle.std.specs.Prelude.{replicate, option_map, slice_get, unwrap_or}
-use Rattle.std.specs.List.{flat_map}
-use Rattle.std.proofs.lemmas.List.{length-append, length-drop, length-replicate, length-map, take_all, take-append-le, drop-append-le, take-append-drop, nil_from_length, append-nil, map-append}
-use Rattle.std.proofs.lemmas.Grind.{common_steps, flat_map-append}
+use Rattle.std.proofs.Common.{◌≡◌, ◌≤◌, ℕ, ◌+◌, ◌-◌, List, [], ◌∷◌, ◌++◌, length, take, drop, refl, sym, ap, ◌∙◌, arith, Option, Some, None}
+use Rattle.std.specs.Prelude.{option_map, slice_get, unwrap_or}
+use Rattle.std.proofs.lemmas.List.{length-drop, length-map, take-append-le, drop-append-le, take-append-drop, nil_from_length}
 use Rattle.std.proofs.lemmas.Option.{slice_get-map}
 use Rattle.ak_turn.specs.Lines.{last_stamp_of}
 use Rattle.ak_roster.specs.declared.head.AppHead.{AppHead}
 use Rattle.ak_roster.specs.declared.entry.RosterEntry.{RosterEntry}
 use Rattle.ak_roster.specs.declared.entry.RosterLine.{RosterLine}
-use Rattle.ak_roster.specs.declared.entry.RosterEvent.{RosterEvent}
-use Rattle.ak_roster.specs.declared.entry.RosterEvent.TheVariants as event
-use Rattle.ak_roster.specs.declared.entry.LaunchOutcome.{LaunchOutcome}
-use Rattle.ak_roster.specs.declared.entry.LaunchOutcome.TheVariants as launch
-use Rattle.ak_roster.specs.Machine.{LooperData, RosterState, after, launched, loopers_at, loopers_of, state_from, state_of, start, with_given}
-use Rattle.ak_roster.specs.Kept.{count_of, count_launched, lines_of}
+use Rattle.ak_roster.specs.Kept.{count_of, lines_of}
 use Rattle.ak_roster.specs.Roster.{entries_of, objects_of, last_stamp}
 
 module _ (heads : List AppHead) where

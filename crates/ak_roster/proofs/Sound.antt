@@ -1,16 +1,13 @@
 -- What is true of the book stays true when an entry is added.
-use Rattle.std.proofs.Common.{◌≡◌, ◌<◌, ◌≤◌, ℕ, zero, suc, ◌+◌, ◌⊎◌, inl, inr, List, [], ◌∷◌, ◌++◌, length, map, take, refl, sym, ap, ◌∙◌, subst, arith, append-nil, Option}
-use Rattle.std.specs.List.{flat_map}
+use Rattle.std.proofs.Common.{◌≡◌, ◌<◌, ◌≤◌, ℕ, ◌+◌, ◌⊎◌, List, [], ◌∷◌, ◌++◌, length, map, sym, ap, ◌∙◌, subst, arith, append-nil, Option}
 use Rattle.std.proofs.lemmas.List.{length-append, length-map, take_all, map-append, nil_from_length}
 use Rattle.std.proofs.lemmas.Grind.{flat_map-append}
-use Rattle.ak_turn.specs.Lines.{last_stamp_of}
 use Rattle.ak_roster.specs.declared.head.AppHead.{AppHead}
 use Rattle.ak_roster.specs.declared.entry.RosterEntry.{RosterEntry}
 use Rattle.ak_roster.specs.declared.entry.RosterLine.{RosterLine}
-use Rattle.ak_roster.specs.declared.entry.RosterEvent.{RosterEvent}
-use Rattle.ak_roster.specs.Machine.{LooperData, RosterState, IsLegal, IsHistory, after, state_of}
+use Rattle.ak_roster.specs.Machine.{RosterState, IsLegal, IsHistory, after, state_of}
 use Rattle.ak_roster.specs.Kept.{Kept, IsSound, count_of, lines_of, roster_seen}
-use Rattle.ak_roster.specs.Roster.{RosterData, IsRoster, IsAtRest, AreKept, entries_of, objects_of, last_stamp, state}
+use Rattle.ak_roster.specs.Roster.{RosterData, IsRoster, AreKept, entries_of, objects_of, last_stamp, state}
 use Rattle.ak_roster.proofs.Lines.{count_all, entries_of-lines_of, last_stamp-entries_of, lines_of-append, objects_of-lines_of}
 use Rattle.ak_roster.proofs.Histories.{history_goes_on, length-loopers, loopers-after, state_of-append}
 

@@ -8,7 +8,7 @@ use Rattle.ak_roster.specs.declared.entry.RosterEvent.{RosterEvent}
 use Rattle.ak_roster.specs.declared.entry.RosterEvent.TheVariants as event
 use Rattle.ak_roster.specs.declared.entry.LaunchOutcome.{LaunchOutcome}
 use Rattle.ak_roster.specs.declared.entry.LaunchOutcome.TheVariants as launch
-use Rattle.ak_roster.specs.Machine.{RosterState, loopers_at}
+use Rattle.ak_roster.specs.Machine.{loopers_at}
 use Rattle.ak_roster.specs.Roster.{RosterData, IsRoster, state}
 
 pub record Kept (D : Type 0) : Type 0 where

@@ -1,18 +1,15 @@
 -- What contracts see of the roster's book.
-use Rattle.std.specs.Prelude.{◌≡◌, ◌<◌, ℕ, suc, ◌+◌, max, List, [], ◌∷◌, ◌++◌, length, map, take, drop, Contains, Option, None, Some, IfSome, slice_get, slice_set, ◌↔◌}
+use Rattle.std.specs.Prelude.{◌≡◌, ℕ, suc, ◌+◌, max, List, [], ◌∷◌, ◌++◌, length, map, Contains, Option, None, Some, IfSome, slice_get, slice_set, ◌↔◌}
 use Rattle.std.specs.List.{flat_map}
 use Rattle.ak_turn.specs.declared.clock.Clock.{Clock}
 use Rattle.ak_turn.specs.Lines.{last_stamp_of}
-use Rattle.ak_base.specs.declared.app_word.AppWord.{AppWord}
 use Rattle.ak_roster.specs.declared.head.AppHead.{AppHead}
 use Rattle.ak_roster.specs.declared.entry.RosterEntry.{RosterEntry}
 use Rattle.ak_roster.specs.declared.entry.RosterLine.{RosterLine}
 use Rattle.ak_roster.specs.declared.entry.RosterEvent.{RosterEvent}
-use Rattle.ak_roster.specs.declared.entry.RosterEvent.TheVariants as event
-use Rattle.ak_roster.specs.declared.entry.LaunchOutcome.{LaunchOutcome}
 use Rattle.ak_roster.specs.Heads.{IsHeads}
 use Rattle.ak_roster.specs.Told.{told_with}
-use Rattle.ak_roster.specs.Machine.{LooperData, RosterState, IsHistory, loopers_of, state_of}
+use Rattle.ak_roster.specs.Machine.{LooperData, RosterState, IsHistory, state_of}
 
 -- the described applications; what was done, of which the line of a launch that started a team has the objects that its doors told, in the
 -- order of the loopers; and the doors that the book keeps, by the loopers' numbers

@@ -77,7 +77,8 @@ impl<D: Grant> RosterBook<D> {
     pub fn into_entries(self) -> Vec<RosterEntry>
         ensures { result.items ≡ entries_of self.lines }
     {
-        self.entries
+        let Self { entries, .. } = self;
+        entries
     }
 }
 

@@ -24,4 +24,7 @@ pub use book::RosterBook;
 pub use entry::{FindOutcome, LaunchOutcome, RosterEntry, RosterEvent, RosterLine};
 pub use grant::Grant;
 pub use head::{AppHead, HEAD_LIMIT, HEAD_LOOPER_LIMIT, Mode};
+pub use laws::{
+    answers_follow, last_parts_are_so, limits_hold, modes_hold, no_team_returns, the_least_is_found,
+};
 pub use team::{LOOPER_LIMIT, Running, TEAM_LIMIT};

@@ -4,7 +4,7 @@ use Rattle.std.proofs.lemmas.List.{length-append}
 use Rattle.std.specs.Vec.{vec_capacity}
 use Rattle.ak_roster.specs.Kept.{Kept}
 use Rattle.ak_roster.specs.Machine.{after}
-use Rattle.ak_roster.specs.Roster.{RosterData, state}
+use Rattle.ak_roster.specs.Roster.{state}
 use Rattle.ak_roster.proofs.Entering.{Entered, entered_still, rests}
 use Rattle.ak_roster.proofs.book.RosterBook.enter.Goals as goal
 use Rattle.ak_roster.proofs.book.RosterBook.enter.Given as given

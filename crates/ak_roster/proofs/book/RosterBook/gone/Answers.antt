@@ -1,13 +1,13 @@
 -- A team that runs is gone: the state is without it.
-use Rattle.std.proofs.Common.{◌≡◌, ◌++◌, ◌∷◌, [], ap, ◌∙◌, refl, arith, sym, length, subst}
+use Rattle.std.proofs.Common.{◌≡◌, ◌∷◌, [], ap, ◌∙◌, refl, arith, sym, length}
 use Rattle.std.specs.Prelude.{IsTrue, filter, not}
 use Rattle.std.specs.List.{list_any}
 use Rattle.std.proofs.lemmas.List.{length-append}
 use Rattle.std.specs.Vec.{vec_capacity}
 use Rattle.ak_roster.specs.declared.entry.RosterEvent.TheVariants as event
 use Rattle.ak_roster.specs.Kept.{Kept}
-use Rattle.ak_roster.specs.Machine.{after, runs_team}
-use Rattle.ak_roster.specs.Roster.{RosterData, state}
+use Rattle.ak_roster.specs.Machine.{runs_team}
+use Rattle.ak_roster.specs.Roster.{state}
 use Rattle.ak_roster.proofs.Entering.{Entered, entered_still, rests}
 use Rattle.ak_roster.proofs.Leaving.{fewer}
 use Rattle.ak_roster.proofs.book.RosterBook.gone.Goals as goal

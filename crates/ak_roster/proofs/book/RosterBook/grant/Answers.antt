@@ -1,5 +1,5 @@
 -- A door gives a part to a thread that has none, and the entry says so.
-use Rattle.std.proofs.Common.{◌≡◌, ◌≤◌, ◌+◌, ◌++◌, ◌∷◌, [], ap, ◌∙◌, refl, arith, sym, length, rules}
+use Rattle.std.proofs.Common.{◌≡◌, ◌≤◌, ◌+◌, ◌++◌, ◌∷◌, [], ap, ◌∙◌, refl, arith, length}
 use Rattle.std.proofs.lemmas.List.{length-append}
 use Rattle.std.specs.Vec.{vec_capacity}
 use Rattle.ak_roster.specs.declared.entry.RosterEvent.TheVariants as event

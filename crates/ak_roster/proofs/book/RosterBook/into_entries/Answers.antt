@@ -1,5 +1,5 @@
 -- The entries of the lines are the entries that are held.
-use Rattle.std.proofs.Common.{◌≡◌, map, ◌++◌, sym, ap, ◌∙◌}
+use Rattle.std.proofs.Common.{map, ◌++◌, sym, ap, ◌∙◌}
 use Rattle.ak_roster.specs.Roster.{entries_of}
 use Rattle.ak_roster.proofs.Lines.{entries_of-lines_of}
 use Rattle.ak_roster.proofs.book.RosterBook.into_entries.Goals as goal

@@ -1,15 +1,15 @@
 -- A launch that starts is entered with its doors.
-use Rattle.std.proofs.Common.{◌≡◌, ◌≤◌, ◌+◌, ◌++◌, ◌∷◌, [], ap, ◌∙◌, refl, arith, sym, length, List, map, rules}
+use Rattle.std.proofs.Common.{◌≡◌, ◌≤◌, ◌+◌, ◌++◌, ◌∷◌, [], ap, ◌∙◌, refl, arith, sym, length, map, rules}
 use Rattle.std.proofs.lemmas.List.{length-append}
 use Rattle.std.specs.Vec.{vec_capacity}
 use Rattle.ak_roster.specs.declared.team.Running.{Running}
 use Rattle.ak_roster.specs.declared.entry.RosterEvent.TheVariants as event
 use Rattle.ak_roster.specs.declared.entry.LaunchOutcome.TheVariants as launch
-use Rattle.ak_roster.specs.Kept.{Kept, roster_seen}
+use Rattle.ak_roster.specs.Kept.{Kept}
 use Rattle.ak_roster.specs.Machine.{launch_of, loopers_at}
-use Rattle.ak_roster.specs.Roster.{IsAtRest, RosterData, state}
+use Rattle.ak_roster.specs.Roster.{state}
 use Rattle.ak_roster.proofs.Entering.{Entered, entry_of}
-use Rattle.ak_roster.proofs.Launching.{launches, launched_rests, started_facts}
+use Rattle.ak_roster.proofs.Launching.{launches, launched_rests}
 use Rattle.ak_roster.proofs.book.RosterBook.launch.Goals as goal
 use Rattle.ak_roster.proofs.book.RosterBook.launch.Given as given
 

@@ -1,5 +1,5 @@
 -- There is one line for each entry.
-use Rattle.std.proofs.Common.{◌≡◌, length, map, ◌++◌, sym, ap, rules}
+use Rattle.std.proofs.Common.{length, map, ◌++◌, ap, rules}
 use Rattle.ak_roster.proofs.Lines.{length-lines_of}
 use Rattle.ak_roster.proofs.book.RosterBookBook.len.Goals as goal
 
