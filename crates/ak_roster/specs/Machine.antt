@@ -73,7 +73,7 @@ team_of heads (launch.AlreadyRunning team) = []
 team_of heads launch.NotFound = []
 team_of heads launch.Limit = []
 
--- how many teams, and which loopers, it starts
+-- the loopers that it starts
 abbrev pub loopers_of : List AppHead → ℕ → LaunchOutcome → List LooperData
 loopers_of heads by (launch.Started place team first) =
     replicate (loopers_at heads place) (record { own = first; starter = by; given = [] })

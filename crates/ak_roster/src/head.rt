@@ -1,11 +1,5 @@
 use ak_base::Text;
 
-/// How many applications may be described.
-pub const HEAD_LIMIT: usize = 16;
-
-/// How many loopers an application may have.
-pub const HEAD_LOOPER_LIMIT: u32 = 8;
-
 /// How often an application may run at once. (The names are those of The Be Book, BApplication.)
 #[derive(Clone, Copy, Debug, PartialEq, Eq)]
 pub enum Mode {

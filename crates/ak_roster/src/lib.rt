@@ -23,7 +23,7 @@ pub use answer::{Decision, FindAnswer, Launched};
 pub use book::RosterBook;
 pub use entry::{FindOutcome, LaunchOutcome, RosterEntry, RosterEvent, RosterLine};
 pub use grant::Grant;
-pub use head::{AppHead, HEAD_LIMIT, HEAD_LOOPER_LIMIT, Mode};
+pub use head::{AppHead, Mode};
 pub use laws::{
     answers_follow, last_parts_are_so, limits_hold, modes_hold, no_team_returns, the_least_is_found,
 };

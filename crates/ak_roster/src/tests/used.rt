@@ -26,7 +26,10 @@ pub enum Word {
     Team(u32),
 }
 
-pub fn clock_of(thread: u32) -> Clock {
+pub fn clock_of(thread: u32) -> Clock
+    ensures thread { result.thread.0 ≡ thread }
+    ensures time { result.time ≡ 0 }
+{
     Clock {
         thread: ThreadId(thread),
         time: 0,
@@ -67,6 +70,7 @@ fn add_head(alloc: Global, heads: &mut Vec<AppHead>, row: Row) -> Result<(), Fai
 pub fn roster_of(alloc: Global, rows: &[Row]) -> Result<Roster, Fail>
     ensures rest { IfOk result (λ roster. IsAtRest roster) }
     ensures fresh { IfOk result (λ roster. All (λ l. l.given ≡ []) (state roster).loopers) }
+    ensures empty { IfOk result (λ roster. roster.lines ≡ []) }
 {
     let mut heads = Vec::new(alloc);
     for row in rows {
