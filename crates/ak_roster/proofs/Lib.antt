@@ -1,0 +1,11 @@
+pub mod Lines
+pub mod Histories
+pub mod Sound
+pub mod Entering
+pub mod Leaving
+pub mod Launching
+pub mod Granting
+pub mod Fresh
+pub mod Carried
+pub mod Apart
+pub mod Once

@@ -1,0 +1,106 @@
+-- What holds of all histories of the roster.
+use Rattle.std.specs.Prelude.{◌≡◌, ◌≢◌, ◌<◌, ◌≤◌, ◌⊎◌, ℕ, false, IsTrue, List, [], ◌∷◌, ◌++◌, length, All, AllPairs, Contains, MatchOption, Some, slice_get}
+use Rattle.std.specs.List.{flat_map, list_any}
+use Rattle.ak_base.specs.declared.app_word.AppWord.{AppWord}
+use Rattle.ak_roster.specs.declared.head.AppHead.{AppHead}
+use Rattle.ak_roster.specs.declared.head.Mode.{Mode}
+use Rattle.ak_roster.specs.declared.head.Mode.TheVariants as mode
+use Rattle.ak_roster.specs.declared.team.Running.{Running}
+use Rattle.ak_roster.specs.declared.entry.RosterEntry.{RosterEntry}
+use Rattle.ak_roster.specs.declared.entry.RosterEvent.{RosterEvent}
+use Rattle.ak_roster.specs.declared.entry.RosterEvent.TheVariants as event
+use Rattle.ak_roster.specs.declared.entry.LaunchOutcome.{LaunchOutcome}
+use Rattle.ak_roster.specs.declared.entry.LaunchOutcome.TheVariants as launch
+use Rattle.ak_roster.specs.declared.entry.FindOutcome.{FindOutcome}
+use Rattle.ak_roster.specs.Heads.{last_part, team_fits, team_for}
+use Rattle.ak_roster.specs.Machine.{IsHistory, RosterState, runs_team, state_of}
+
+-- ---- an answer is a function of what stands before it: where two histories have the same beginning, and then the same question, they have
+-- the same answer
+abbrev pub OneLaunch : Type 0
+OneLaunch =
+    (heads : List AppHead) (before rest others : List RosterEntry) (entry other : RosterEntry) (word : AppWord) (o p : LaunchOutcome)
+    → IsHistory heads (before ++ entry ∷ rest) → IsHistory heads (before ++ other ∷ others)
+    → entry.event ≡ event.Launch word o → other.event ≡ event.Launch word p → o ≡ p
+
+abbrev pub OneLookUp : Type 0
+OneLookUp =
+    (heads : List AppHead) (before rest others : List RosterEntry) (entry other : RosterEntry) (word : AppWord) (o p : FindOutcome)
+    → IsHistory heads (before ++ entry ∷ rest) → IsHistory heads (before ++ other ∷ others)
+    → entry.event ≡ event.Find word o → other.event ≡ event.Find word p → o ≡ p
+
+-- ---- the numbers of the teams that a list of entries starts, in order
+abbrev pub number_in : LaunchOutcome → List ℕ
+number_in (launch.Started place team first) = team ∷ []
+number_in (launch.AlreadyRunning team) = []
+number_in launch.NotFound = []
+number_in launch.Limit = []
+
+abbrev pub number_of : RosterEvent → List ℕ
+number_of (event.Launch word result) = number_in result
+number_of (event.Find word result) = []
+number_of (event.Gone team) = []
+number_of (event.Door looper) = []
+
+abbrev pub numbers_of : List RosterEntry → List ℕ
+numbers_of entries = flat_map (λ entry. number_of entry.event) entries
+
+-- they rise, so none is given twice
+abbrev pub NumbersRise : Type 0
+NumbersRise = (heads : List AppHead) (entries : List RosterEntry) → IsHistory heads entries → AllPairs (λ a b. a < b) (numbers_of entries)
+
+abbrev pub Runs : ℕ → RosterState → Type 0
+Runs team s = IsTrue (list_any (runs_team team) s.running)
+
+-- and a team that was started before, and runs no more, never runs again
+abbrev pub NoTeamReturns : Type 0
+NoTeamReturns =
+    (heads : List AppHead) (before rest : List RosterEntry) (team : ℕ) → IsHistory heads (before ++ rest)
+    → team ≤ (state_of heads before).teams → Runs team (state_of heads (before ++ rest)) → Runs team (state_of heads before)
+
+-- ---- of two running teams the later one has, where its mode is single, another path, and where it is exclusive, another signature
+abbrev pub DifferBy : Mode → AppHead → AppHead → Type 0
+DifferBy mode.Single earlier later = earlier.path ≢ later.path
+DifferBy mode.Multiple earlier later = Unit {0}
+DifferBy mode.Exclusive earlier later = earlier.signature ≢ later.signature
+
+abbrev pub AreApart : List AppHead → Running → Running → Type 0
+AreApart heads earlier later =
+    (a b : AppHead) → slice_get heads earlier.description ≡ Some a → slice_get heads later.description ≡ Some b → DifferBy b.mode a b
+
+abbrev pub ModesHold : Type 0
+ModesHold = (heads : List AppHead) (entries : List RosterEntry) → IsHistory heads entries → AllPairs (AreApart heads) (state_of heads entries).running
+
+-- ---- the team that is found runs and fits, and none that fits has a lesser number; where none is found none fits
+pub record IsLeast (heads : List AppHead) (word : AppWord) (running : List Running) (team : Running) : Type 0 where
+  pub runs : Contains running team
+  pub fits : IsTrue (team_fits heads word team)
+  pub least : All (λ other. IsTrue (team_fits heads word other) → team.team ≤ other.team) running
+
+abbrev pub LeastIsFound : Type 0
+LeastIsFound =
+    (heads : List AppHead) (entries : List RosterEntry) (word : AppWord) → IsHistory heads entries
+    → MatchOption (team_for heads (state_of heads entries).running word) (All (λ team. team_fits heads word team ≡ false) (state_of heads entries).running)
+    (IsLeast heads word (state_of heads entries).running)
+
+-- ---- never more than 16 teams are started, nor more than 32 loopers
+pub record IsWithinLimits (s : RosterState) : Type 0 where
+  pub teams : s.teams ≤ 16
+  pub loopers : length s.loopers ≤ 32
+
+abbrev pub LimitsHold : Type 0
+LimitsHold = (heads : List AppHead) (entries : List RosterEntry) → IsHistory heads entries → IsWithinLimits (state_of heads entries)
+
+-- ---- no thread gets a looper's door twice
+abbrev pub DoorsAreGivenOnce : Type 0
+DoorsAreGivenOnce =
+    (heads : List AppHead) (entries : List RosterEntry) → IsHistory heads entries
+    → All (λ looper. AllPairs (λ a b. a ≢ b) looper.given) (state_of heads entries).loopers
+
+-- ---- the last part of a path has no slash, and is the whole path or stands after a slash
+pub record IsLastPart (path part : List ℕ) : Type 0 where
+  pub no_slash : ¬ (Contains part 47)
+  pub at_end : (path ≡ part) ⊎ ((front : List ℕ) × (path ≡ front ++ 47 ∷ part))
+
+abbrev pub LastPartIsSo : Type 0
+LastPartIsSo = (path : List ℕ) → IsLastPart path (last_part path)

@@ -1,0 +1,36 @@
+//! What holds of all histories of the roster.
+
+ghost use Rattle.ak_roster.specs.Laws as law;
+
+/// An answer is a function of what stands before it in the history.
+pub fn answers_follow()
+    ensures launches { law.OneLaunch }
+    ensures look_ups { law.OneLookUp }
+{}
+
+/// The numbers of teams rise, and a team that is gone never runs again.
+pub fn no_team_returns()
+    ensures rising { law.NumbersRise }
+    ensures gone { law.NoTeamReturns }
+{}
+
+/// At most one team of a path runs whose mode is single, and of a signature whose mode is exclusive.
+pub fn modes_hold()
+    ensures { law.ModesHold }
+{}
+
+/// A look-up gives the least running team that fits.
+pub fn the_least_is_found()
+    ensures { law.LeastIsFound }
+{}
+
+/// The limits of a run hold in every history, and no thread gets a looper's door twice.
+pub fn limits_hold()
+    ensures limits { law.LimitsHold }
+    ensures doors { law.DoorsAreGivenOnce }
+{}
+
+/// What a name is compared with is what stands after the last slash of a path.
+pub fn last_parts_are_so()
+    ensures { law.LastPartIsSo }
+{}

@@ -1,0 +1,30 @@
+//! Who runs, under which name and mode. The book of the roster has one history of launches, look-ups, ends of
+//! teams and doors that were given; each answer is the one that the machine of `specs/Machine.antt` gives at
+//! its entry's place. The book also keeps a door for each started looper, and gives its parts to the threads
+//! that ask. Nothing here waits; threads share the book behind a turn lock.
+#![tactic(auto)]
+
+mod answer;
+mod book;
+mod calls;
+mod doors;
+mod entry;
+mod fit;
+mod grant;
+mod head;
+mod launch;
+mod laws;
+mod room;
+mod team;
+#[cfg(test)]
+mod tests;
+
+pub use answer::{Decision, FindAnswer, Launched};
+pub use book::RosterBook;
+pub use entry::{FindOutcome, LaunchOutcome, RosterEntry, RosterEvent, RosterLine};
+pub use grant::Grant;
+pub use head::{AppHead, Mode};
+pub use laws::{
+    answers_follow, last_parts_are_so, limits_hold, modes_hold, no_team_returns, the_least_is_found,
+};
+pub use team::{LOOPER_LIMIT, Running, TEAM_LIMIT};

@@ -1,0 +1,4 @@
+mod doors;
+mod launches;
+mod shared;
+mod used;

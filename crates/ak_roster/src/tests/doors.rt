@@ -1,0 +1,62 @@
+//! Doors that are given and taken.
+ghost use Rattle.std.specs.Prelude.{◌≡◌, [], All, IfOk};
+ghost use Rattle.ak_roster.specs.Roster.{IsAtRest, state};
+
+use super::used::{Roster, Row, Word, clock_of, has_stamps, launch, roster_of};
+use crate::{Mode, RosterEvent};
+use ak_base::ThreadId;
+use ak_turn::{Book, Clock};
+use std::alloc::Global;
+use std::test::Fail;
+
+const FIVE: [Row; 1] = [(b"/boot/demo", b"application/demo", Mode::Single, 5)];
+
+// A roster with an application of five loopers that was launched, and gave no door yet.
+fn five(alloc: Global) -> Result<Roster, Fail>
+    ensures rest { IfOk result (λ roster. IsAtRest roster) }
+    ensures fresh { IfOk result (λ roster. All (λ l. l.given ≡ []) (state roster).loopers) }
+{
+    let mut roster = roster_of(alloc, &FIVE)?;
+    let mut clock = clock_of(0);
+    launch(alloc, &mut roster, &mut clock, &Word::Path(b"/boot/demo"))?;
+    Ok(roster)
+}
+
+// A door to nothing of that looper, for session 1.
+#[tactic(auto, using(crate::proofs::Fresh::stranger_fresh))]
+fn grant_to_session(roster: &mut Roster, looper: u32) -> Result<Option<()>, Fail>
+    requires rest { IsAtRest roster.old }
+    requires fresh { All (λ l. l.given ≡ []) (state roster.old).loopers }
+    ensures { IsAtRest roster.new }
+{
+    let mut clock = Clock {
+        thread: ThreadId(1),
+        time: 0,
+    };
+    if !has_stamps(roster, &clock) {
+        return Err(Fail::from("no stamp is left"));
+    }
+    Ok(roster.grant(looper, &mut clock)?)
+}
+
+#[test]
+fn no_door_is_given_where_no_looper_was_started(rt: HostRuntime) -> Result<(), Fail> {
+    let mut roster = five(rt.alloc())?;
+    assert_eq!(rt; grant_to_session(&mut roster, 5)?, None);
+    assert_eq!(rt; roster.len(), 1);
+    Ok(())
+}
+
+#[test]
+fn a_door_is_given_where_its_looper_was_started(rt: HostRuntime) -> Result<(), Fail> {
+    let mut roster = five(rt.alloc())?;
+    assert_eq!(rt; grant_to_session(&mut roster, 4)?, Some(()));
+    let entry = roster.entry(1)?.ok_or("an entry")?;
+    assert_eq!(rt; (entry.stamp, entry.by), (2, ThreadId(1)));
+    let RosterEvent::Door { looper } = entry.event else {
+        return Err(Fail::from("no door"));
+    };
+    assert_eq!(rt; looper, 4);
+    assert_eq!(rt; roster.take_doors().len(), 5);
+    Ok(())
+}
