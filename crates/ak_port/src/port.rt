@@ -38,6 +38,7 @@ pub fn make(
     requires capacity { (1 ≤ capacity) × (capacity ≤ CAPACITY_LIMIT) }
     requires life { (1 ≤ life) × (life ≤ LIFE_LIMIT) }
     requires time { clock.old.time < 2 ^ 63 }
+    ensures limits { (CAPACITY_LIMIT ≡ 1000) × (LIFE_LIMIT ≡ 8192) }
     ensures made { IfOk result (λ made. made.1 ≡ first_seat (arc_value made.0) taker (making clock.old capacity life ∷ []) (0 ∷ []) clock.old.thread.0) }
     ensures port { IfOk result (λ made. IsAtPort made.1) }
     ensures taking { IfOk result (λ made. CanTake taker capacity made.1) }
