@@ -17,6 +17,8 @@ mod properties;
 mod replies;
 mod reserved;
 mod task;
+#[cfg(test)]
+mod tests;
 
 pub use desk::Desk;
 pub use entry::{DeskEntry, DeskEvent, DeskLine, Edit, EditAnswer, EntryRoute};
