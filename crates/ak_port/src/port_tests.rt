@@ -1,7 +1,7 @@
 mod three;
 mod waiting;
 
-ghost use Rattle.std.specs.Prelude.{◌≡◌, ℕ, false};
+ghost use Rattle.std.specs.Prelude.{◌≡◌, ℕ, false, OnOk};
 ghost use Rattle.ak_base.specs.declared.thread.ThreadId.{ThreadId};
 ghost use Rattle.ak_turn.specs.Steps.{IsNewName};
 ghost use Rattle.ak_port.specs.PortCalls.{CanTake, KeepsSeat};
@@ -106,6 +106,34 @@ fn take_one<R: Wait>(
     }
 }
 
+// Takes one item of a port that is not shut: how many it took, and the item's position and code. It can take again.
+fn take_first<R: Wait>(
+    rt: &R,
+    alloc: Global,
+    port: &Port,
+    seat: &mut Seat<PortBook>,
+    clock: &mut Clock,
+) -> Result<(u32, u64, u32), Fail>
+    requires of { seat.old.lock ≡ port.now }
+    requires idle { seat.old.turn ≡ false }
+    requires thread { seat.old.thread ≡ clock.old.thread.0 }
+    requires taking { CanTake clock.old.thread 1 seat.old }
+    ensures seat { KeepsSeat seat.old seat.new }
+    ensures clock { clock.new.thread ≡ clock.old.thread }
+    ensures taking { OnOk result (CanTake clock.old.thread 1 seat.new) }
+{
+    let mut out = VecDeque::with_capacity(alloc, 1)?;
+    let answer = take(port, rt, seat, clock, &mut out, 1);
+    match answer {
+        TakeAnswer::Took(count) => {
+            let taken = out.pop_front().ok_or("an item")?;
+            let (position, code) = told(alloc, &taken)?;
+            Ok((count, position, code))
+        }
+        TakeAnswer::Rest(_) => Err(Fail::new("the port is shut")),
+    }
+}
+
 #[test]
 fn a_port_of_capacity_2_and_life_2(rt: HostRuntime) -> Result<(), Fail> {
     let alloc = rt.alloc();
@@ -135,8 +163,8 @@ fn a_port_of_capacity_1_and_life_3(rt: HostRuntime) -> Result<(), Fail> {
     assert_eq!(rt; first, Said::Wrote(0));
     let second = put(&rt, alloc, &port, &mut seat, &mut clock, 2)?;
     assert_eq!(rt; second, Said::Full);
-    let taken = take_one(&rt, alloc, &port, &mut seat, &mut clock)?;
-    assert_eq!(rt; taken, (TakeAnswer::Took(1), 0, 1));
+    let taken = take_first(&rt, alloc, &port, &mut seat, &mut clock)?;
+    assert_eq!(rt; taken, (1, 0, 1));
     let third = put(&rt, alloc, &port, &mut seat, &mut clock, 3)?;
     assert_eq!(rt; third, Said::Wrote(1));
     shut_and_empty(&rt, alloc, &port, seat, clock)
