@@ -13,9 +13,9 @@ ghost use Rattle.ak_kit.specs.Steps.{DoesStep, Carries};
 use crate::reply::print_reply;
 use crate::stopped::Stopped;
 use ak_base::{Bytes, NoMemory, Text};
-use first_desk::{Desk, get_message, ready_message};
 use ak_message::Message;
 use ak_outside::{Sink, write_all};
+use first_desk::{Desk, get_message, ready_message};
 use std::alloc::Global;
 
 // The line of the launch.

@@ -13,8 +13,8 @@ use crate::run::carry_out;
 use crate::script::FirstScript;
 use crate::stopped::Stopped;
 use ak_base::{Bytes, Ending, Items, RefusalKind, Text};
-use first_desk::{Desk, FirstEntry};
 use ak_outside::{ReadFault, Sink, Source, read_all, write_all};
+use first_desk::{Desk, FirstEntry};
 use std::alloc::Global;
 
 /// What a run did: the properties and the words of its script, and all that its desk dispatched.
