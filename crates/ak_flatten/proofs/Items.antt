@@ -33,7 +33,7 @@ named-unpopped name [] = refl
 named-unpopped name (f ∷ fs) =
     chosen-unpopped (is_named name f) f (find (is_named name) (map unpopped_field fs)) (find (is_named name) fs) (named-unpopped name fs)
 
-specifiers-unpopped : (m : MessageData) → specifier_count (unpopped m).fields ≡ specifier_count m.fields
+pub specifiers-unpopped : (m : MessageData) → specifier_count (unpopped m).fields ≡ specifier_count m.fields
 specifiers-unpopped m = named-unpopped (codes "specifiers") m.fields
 
 -- ---- what is read of the bytes

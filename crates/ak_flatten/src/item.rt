@@ -185,6 +185,14 @@ impl Item {
         Item { duty, ..self }
     }
 
+    /// The same with so many of its specifiers popped.
+    pub fn with_popped(self, popped: u32) -> Item
+        requires { popped ≤ specifier_count (message_of self).fields }
+        ensures { result ≡ record self { popped = popped } }
+    {
+        Item { popped, ..self }
+    }
+
     /// The same for the looper itself, with so many specifiers popped.
     pub fn forwarded(self, popped: u32) -> Item
         requires at_least { self.popped ≤ popped }
