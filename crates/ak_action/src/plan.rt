@@ -187,3 +187,6 @@ impl PlanParts {
         None
     }
 }
+
+#[cfg(test)]
+pub(crate) mod tests;
