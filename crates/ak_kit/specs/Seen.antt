@@ -21,9 +21,15 @@ abbrev pub Gives : {X Y : Type 0} → (X → Y) → Result X ScriptFault → Opt
 Gives view (Ok x) read = read ≡ Some (view x)
 Gives view (Err e) read = Fails e read
 
--- the properties and the words asked
-abbrev pub seen_script : FirstScript → List (List ℕ × ℤ) × List (List ℕ)
-seen_script s = (s.rows.items, s.asked.items)
+-- the looper's name and capacity, the properties, and the words asked
+pub record Parts : Type 0 where
+  pub looper : List ℕ
+  pub capacity : ℕ
+  pub rows : List (List ℕ × ℤ)
+  pub asked : List (List ℕ)
 
-abbrev pub parts_of : Script → List (List ℕ × ℤ) × List (List ℕ)
-parts_of s = (s.rows, s.asked)
+abbrev pub seen_script : FirstScript → Parts
+seen_script s = record { looper = s.looper; capacity = s.capacity; rows = s.rows.items; asked = s.asked.items }
+
+abbrev pub parts_of : Script → Parts
+parts_of s = record { looper = s.looper; capacity = s.capacity; rows = s.rows; asked = s.asked }
