@@ -120,10 +120,10 @@ abbrev pub IsTextOf : List ℕ → ℕ → List (List ℕ × ℤ) → List (List
 IsTextOf looper capacity rows asked input = (s : Script) × IsFirstInput input s × HasParts s looper capacity rows asked
 
 -- ---- what was read of a script
-pub record AreParts (looper : List ℕ) (capacity : ℕ) (rows : List (List ℕ × ℤ)) (asked : List (List ℕ)) : Type 0 where
-  pub looper : is_word looper ≡ true
-  pub capacity : (2 ≤ capacity) × (capacity ≤ 1000)
+pub record AreParts (name : List ℕ) (size : ℕ) (rows : List (List ℕ × ℤ)) (words : List (List ℕ)) : Type 0 where
+  pub looper : is_word name ≡ true
+  pub capacity : (2 ≤ size) × (size ≤ 1000)
   pub few_rows : length rows ≤ 64
   pub differ : names_differ rows ≡ true
-  pub few_asked : length asked ≤ 7999
-  pub asked : list_all is_askable asked ≡ true
+  pub few_asked : length words ≤ 7999
+  pub asked : list_all is_askable words ≡ true
