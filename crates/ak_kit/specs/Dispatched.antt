@@ -1,5 +1,5 @@
 -- A message that asks nothing of the outside, and a desk between two messages.
-use Rattle.std.specs.Prelude.{◌≡◌, ℕ, length, None}
+use Rattle.std.specs.Prelude.{◌≡◌, length, None}
 use Rattle.ak_flatten.specs.Item.{ItemData}
 use Rattle.ak_route.specs.declared.outcome.Route.{Route}
 use Rattle.ak_route.specs.declared.outcome.Route.TheVariants as route
