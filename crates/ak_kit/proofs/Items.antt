@@ -1,5 +1,6 @@
 -- An item is read back as the message that it was made of.
-use Rattle.std.proofs.Common.{◌≡◌, ℕ, ◌+◌, ◌<◌, ◌≤◌, ◌^◌, List, [], ◌∷◌, ◌++◌, length, length-append, refl, arith, true}
+use Rattle.std.proofs.Common.{◌≡◌, ℕ, ◌<◌, ◌≤◌, ◌^◌, List, [], ◌++◌, length, refl, arith, true}
+use Rattle.std.proofs.lemmas.List.{append-nil}
 use Rattle.std.proofs.lemmas.List.Elements.{All-nil}
 use Rattle.std.proofs.lemmas.Str.{IsUtf8-from_ascii}
 use Rattle.std.specs.Prelude.{codes}
@@ -32,7 +33,7 @@ no_fields what small =
     record {
       code = small;
       every_field = All-nil IsField;
-      names_differ = λ i j a b h lt. absurd (omega (arith, lt));
+      names_differ = λ i j a b h lt. absurd (omega arith);
       limit = omega arith;
       popped_within = omega arith;
       depth_within = omega arith;
@@ -52,14 +53,12 @@ ready_is_whole : IsWhole ready_to_run
 ready_is_whole = (no_fields (code_of (codes "_RTR")) (omega arith), tt)
 
 -- ---- and short
-word_bytes_short : (word rest : List ℕ) → length rest ≡ 0 → length word ≤ 64 → length (word ++ rest) ≤ 64
-word_bytes_short word rest none short = omega (arith, length-append word rest, none, short)
+-- nothing stands behind the word
+word_alone : (word : List ℕ) → length ((((word ++ []) ++ []) ++ []) ++ []) ≡ length word
+word_alone word = simp append-nil
 
 pub get_is_short : (word : List ℕ) → is_word word ≡ true → length (spelling (get_of word)) ≤ 4096
-get_is_short word h =
-    let short = word_bytes_short word [] refl (word_parts word h).0 in
-    let nested = length-append (word ++ []) [] in
-    omega (arith, short, nested)
+get_is_short word h = omega (arith, word_alone word, (word_parts word h).0)
 
 pub ready_is_short : length (spelling ready_to_run) ≤ 4096
 ready_is_short = omega arith
