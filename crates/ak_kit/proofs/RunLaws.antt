@@ -24,7 +24,7 @@ use Rattle.ak_desk.specs.Machine.{DeskStep, DispatchStep, Dispatches, IsHistory,
 use Rattle.ak_desk.specs.Place.{routed_of}
 use Rattle.ak_kit.specs.Dispatched.{IsQuiet}
 use Rattle.ak_kit.specs.FirstInput.{is_askable}
-use Rattle.ak_kit.specs.Laws.{AreLines, AreSteps, StepsMatch, entry_at, lines_from, lines_told, reply_words, route_to}
+use Rattle.ak_kit.specs.Laws.{AreLines, StepsMatch, entry_at, lines_from, lines_told, reply_words, route_to}
 use Rattle.ak_kit.specs.Messages.{answer, no_reply}
 use Rattle.ak_kit.specs.Opening.{IsOpening, OpensWith}
 use Rattle.ak_kit.specs.Rows.{value_of_row}
@@ -49,16 +49,16 @@ reply_from s item r reply c = ap (λ (d : Dispatch). unwrap_or (option_map fitti
 
 -- ---- at a looper that begins with these properties
 pub launch_quiet : (s : DeskState) → IsOpening s → IsQuiet s ready_item
-launch_quiet s (rows, (name, (capacity, opens))) = quiet_from s ready_item (entry.To 0) no_reply (launch_came name capacity rows s opens)
+launch_quiet s (rows, (name, capacity, opens)) = quiet_from s ready_item (entry.To 0) no_reply (launch_came name capacity rows s opens)
 
 pub word_quiet : (s : DeskState) (slot : ℕ) (word : List ℕ) → IsOpening s → is_askable word ≡ true → IsQuiet s (get_item slot word)
-word_quiet s slot word (rows, (name, (capacity, opens))) askable = quiet_from s (get_item slot word) _ _ (word_came name capacity rows s slot word opens askable)
+word_quiet s slot word (rows, (name, capacity, opens)) askable = quiet_from s (get_item slot word) _ _ (word_came name capacity rows s slot word opens askable)
 
 pub launch_reply : (rows : List (List ℕ × ℤ)) (s : DeskState) → OpensWith rows s → reply_of s ready_item ≡ no_reply
-launch_reply rows s (name, (capacity, opens)) = reply_from s ready_item (entry.To 0) no_reply (launch_came name capacity rows s opens)
+launch_reply rows s (name, capacity, opens) = reply_from s ready_item (entry.To 0) no_reply (launch_came name capacity rows s opens)
 
 pub word_reply : (rows : List (List ℕ × ℤ)) (s : DeskState) (slot : ℕ) (word : List ℕ) → OpensWith rows s → is_askable word ≡ true → reply_of s (get_item slot word) ≡ answer (value_of_row rows word)
-word_reply rows s slot word (name, (capacity, opens)) askable = reply_from s (get_item slot word) _ _ (word_came name capacity rows s slot word opens askable)
+word_reply rows s slot word (name, capacity, opens) askable = reply_from s (get_item slot word) _ _ (word_came name capacity rows s slot word opens askable)
 
 -- ---- the lines
 hey_lines_told : (rows : List (List ℕ × ℤ)) (s : DeskState) (slot : ℕ) (asked : List (List ℕ)) → OpensWith rows s → list_all is_askable asked ≡ true → lines_of (hey_steps s slot asked) ≡ lines_from rows slot asked
