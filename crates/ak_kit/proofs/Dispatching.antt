@@ -1,5 +1,5 @@
 -- A message that asks nothing of the outside is carried out at once.
-use Rattle.std.proofs.Common.{◌≡◌, ℕ, ◌+◌, ◌-◌, List, [], ◌∷◌, ◌++◌, length, Option, None, Some, option_map, unwrap_or, slice_get, refl, sym, ap, subst, ◌∙◌, arith}
+use Rattle.std.proofs.Common.{◌≡◌, ℕ, ◌+◌, ◌-◌, List, [], ◌∷◌, ◌++◌, length, Option, None, Some, option_map, unwrap_or, slice_get, refl, sym, ap, subst, ◌∙◌, arith, false}
 use Rattle.std.proofs.lemmas.List.{length_push}
 use Rattle.ak_message.specs.Message.{MessageData}
 use Rattle.ak_flatten.specs.Item.{ItemData}
@@ -98,23 +98,23 @@ pub record Carried (d : DeskData) (clock : Clock) (item : ItemData) (e : DeskDat
   pub rests : IsResting (ended e clock) (clock_after e clock)
 
 module _ (d : DeskData) (clock : Clock) (item : ItemData) (position : ℕ) (rests : IsResting d clock) (quiet : IsQuiet d.state item) (place : position ≡ clock.time) where
-  taken : Taken
+  abbrev taken : Taken
   taken = record { position = position; item = item }
 
-  r : Route
+  abbrev r : Route
   r = (routed_of d.state item).route
 
-  a : AtOnce d.state (routed_of d.state item).message r
+  abbrev a : AtOnce d.state (routed_of d.state item).message r
   a = at_once d.state (routed_of d.state item).message r quiet.alone
 
   -- the desk after the one want
-  after : DeskData
+  abbrev after : DeskData
   after = gone_on (begun_with d taken) (begun_at d.state taken) a.task_is a.state_is
 
   wanted_once : wanted_next None (begun_with d taken) ≡ desk_wants want.Done after
   wanted_once = ap (λ (w : Wanted). desk_wanted (begun_with d taken) (begun_at d.state taken) w) a.wanted
 
-  new_line : LineData
+  abbrev new_line : LineData
   new_line = record {
     entry = record { stamp = clock.time + 1; by = record { 0 = 10000 }; event = event.Dispatched clock.time (entry_route d.state r) (came d.state item).words (came d.state item).quit };
     item = Some item;
@@ -128,7 +128,7 @@ module _ (d : DeskData) (clock : Clock) (item : ItemData) (position : ℕ) (rest
   unfolding reply_of
   reply_told = ap (λ (o : Option MessageData). unwrap_or (option_map fitting o) no_reply) a.told
 
-  added : LineData
+  abbrev added : LineData
   added = line_after d.lines clock (ended_event (with_task (begun_at d.state taken) a.task_is)) (Some item)
 
   same_line : added ≡ new_line
@@ -193,11 +193,11 @@ pub kept : (memory : Option ℕ) (d e : DeskData) → wanted_next memory d ≡ d
 kept memory d e is = kept_by memory d e d.begun is
 
 -- ---- after its end
-pub record Finished (d : DeskData) (clock : Clock) (item : ItemData) (e : DeskData) (later : Clock) (reply : MessageData) : Type 0 where
+pub record Finished (d : DeskData) (clock : Clock) (item : ItemData) (e : DeskData) (later : Clock) (told : MessageData) : Type 0 where
   pub opening : e.opening ≡ d.opening
   pub line : e.lines ≡ d.lines ++ line_of d.opening clock.time item ∷ []
   pub rests : IsResting e later
-  pub reply : reply ≡ reply_of d.opening item
+  pub reply : told ≡ reply_of d.opening item
 
 pub finished
     : (d e f : DeskData) (clock later : Clock) (item : ItemData) (m : Made) (reply : MessageData) → Carried d clock item e → f ≡ ended e clock → later ≡ clock_after e clock → m ≡ made_by e.begun → m.reply ≡ Some reply
