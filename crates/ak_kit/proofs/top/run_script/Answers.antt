@@ -3,6 +3,7 @@ use Rattle.std.specs.List.{list_all}
 use Rattle.ak_action.specs.declared.state.DeskState.{DeskState}
 use Rattle.ak_outside.specs.Faults.{Rose}
 use Rattle.ak_outside.proofs.Counts.{Rose-after}
+use Rattle.ak_kit.specs.declared.top.FirstRun.{FirstRun}
 use Rattle.ak_kit.specs.FirstInput.{is_askable}
 use Rattle.ak_kit.specs.Opening.{OpensAs}
 use Rattle.ak_kit.specs.Rows.{IsRows}
@@ -19,12 +20,12 @@ desk_of-requires g c =
       rows = subst IsRows (sym c.deref.ensures.value) (record { few = c.requires.few_rows; differ = c.requires.differ });
     }
 
-pub carry_out-requires : goal.carry_out-requires
-carry_out-requires g c =
+pub carry_out-carried-requires : goal.carry_out-carried-requires
+carry_out-carried-requires g c =
     let opens = c.in-Ok.ensures.opening in
     record {
       rests = rests_first c.in-Ok.desk _ c.in-Ok.ensures.opened opens.looper_is refl refl;
-      opening = (c.deref.result.now, (c.args.script.looper, (c.args.script.capacity, opens)));
+      opening = (c.deref.result.now, (c.args.script.looper, c.args.script.capacity, opens));
       begins = refl;
       lines = ap (λ d. d.lines) c.in-Ok.ensures.opened;
       few = subst (λ (words : List (List ℕ)). length words ≤ 7999) (sym c.deref-2.ensures.value) c.requires.few_asked;
@@ -56,31 +57,31 @@ returns-in-Err-clause-run g c =
 pub returns-in-Ok-carried-clause-lines : goal.returns-in-Ok-carried-clause-lines
 returns-in-Ok-carried-clause-lines g c =
     let script = c.args.script in
-    let run = record { rows = c.from_vec.result; asked = c.from_vec-2.result; desk = c.carry_out-carried.new.desk } in
+    let run : FirstRun = record { rows = c.from_vec.result; asked = c.from_vec-2.result; desk = c.carry_out-carried.new.desk } in
     let opening = c.in-Ok.desk.opening in
     let asked = c.deref-2.result.now in
     let sink = c.carry_out-carried.new.sink in
     let same_asked = c.from_vec-2.ensures ∙ sym c.deref-2.ensures.value in
     rw c.close-in-Ok-carried.ensures.run
-    (run_lines {A = Unit {0}} (Ok tt) run c.deref.result.now opening asked (g.K.Sink.written c.args.sink.now) (g.K.Sink.written sink) c.in-Ok-carried.ensures.opening same_asked (script.looper, (script.capacity, c.in-Ok.ensures.opening)) (ap (list_all is_askable) c.deref-2.ensures.value ∙ c.requires.asked) c.in-Ok-carried.ensures.steps)
+    (run_lines {A = Unit {0}} (Ok tt) run c.deref.result.now opening asked (g.K.Sink.written c.args.sink.now) (g.K.Sink.written sink) c.in-Ok-carried.ensures.opening same_asked (script.looper, script.capacity, c.in-Ok.ensures.opening) (ap (list_all is_askable) c.deref-2.ensures.value ∙ c.requires.asked) c.in-Ok-carried.ensures.steps)
 
 pub returns-in-Err-clause-lines : goal.returns-in-Err-clause-lines
 returns-in-Err-clause-lines g c =
     let script = c.args.script in
-    let run = record { rows = c.from_vec.result; asked = c.from_vec-2.result; desk = c.carry_out-carried.new.desk } in
+    let run : FirstRun = record { rows = c.from_vec.result; asked = c.from_vec-2.result; desk = c.carry_out-carried.new.desk } in
     let opening = c.in-Ok.desk.opening in
     let asked = c.deref-2.result.now in
     let sink = c.carry_out-carried.new.sink in
     let same_asked = c.from_vec-2.ensures ∙ sym c.deref-2.ensures.value in
     rw c.close-in-Err.ensures.run
-    (run_lines {A = Unit {0}} (Err c.in-Err.stopped) run c.deref.result.now opening asked (g.K.Sink.written c.args.sink.now) (g.K.Sink.written sink) c.in-Err.ensures.opening same_asked (script.looper, (script.capacity, c.in-Ok.ensures.opening)) (ap (list_all is_askable) c.deref-2.ensures.value ∙ c.requires.asked) c.in-Err.ensures.steps)
+    (run_lines {A = Unit {0}} (Err c.in-Err.stopped) run c.deref.result.now opening asked (g.K.Sink.written c.args.sink.now) (g.K.Sink.written sink) c.in-Err.ensures.opening same_asked (script.looper, script.capacity, c.in-Ok.ensures.opening) (ap (list_all is_askable) c.deref-2.ensures.value ∙ c.requires.asked) c.in-Err.ensures.steps)
 
 pub returns-in-Ok-carried-clause-written : goal.returns-in-Ok-carried-clause-written
 returns-in-Ok-carried-clause-written g c =
     let end = c.close-in-Ok-carried in
     let carried = c.in-Ok-carried.ensures in
     let script = c.args.script in
-    let run = record { rows = c.from_vec.result; asked = c.from_vec-2.result; desk = c.carry_out-carried.new.desk } in
+    let run : FirstRun = record { rows = c.from_vec.result; asked = c.from_vec-2.result; desk = c.carry_out-carried.new.desk } in
     let opening = c.in-Ok.desk.opening in
     let asked = c.deref-2.result.now in
     let sink = c.carry_out-carried.new.sink in
@@ -94,7 +95,7 @@ returns-in-Err-clause-written g c =
     let end = c.close-in-Err in
     let carried = c.in-Err.ensures in
     let script = c.args.script in
-    let run = record { rows = c.from_vec.result; asked = c.from_vec-2.result; desk = c.carry_out-carried.new.desk } in
+    let run : FirstRun = record { rows = c.from_vec.result; asked = c.from_vec-2.result; desk = c.carry_out-carried.new.desk } in
     let opening = c.in-Ok.desk.opening in
     let asked = c.deref-2.result.now in
     let sink = c.carry_out-carried.new.sink in
