@@ -4,6 +4,7 @@ use Rattle.std.specs.Borrow.{Bor}
 use Rattle.ak_kit.specs.declared.fault.ScriptFault.{ScriptFault}
 use Rattle.ak_kit.specs.declared.script.FirstScript.{FirstScript}
 use Rattle.ak_kit.specs.FirstInput.{Script}
+use Rattle.ak_kit.specs.Reading.{App}
 use Rattle.ak_kit.specs.declared.fault.ScriptFault.TheVariants as fault
 
 abbrev pub seen : Bor (List ℕ) → List ℕ
@@ -11,6 +12,13 @@ seen bytes = bytes.now
 
 abbrev pub pair_of : Bor (List ℕ) × Bor (List ℕ) → List ℕ × List ℕ
 pair_of x = (x.0.now, x.1.now)
+
+-- the path, the looper's name and capacity, and the rest
+abbrev pub opening_seen : Bor (List ℕ) × Bor (List ℕ) × ℕ × Bor (List ℕ) → List ℕ × List ℕ × ℕ × List ℕ
+opening_seen x = (x.0.now, x.1.now, x.2, x.3.now)
+
+abbrev pub opening_told : (App × (List ℕ × ℕ)) × List ℕ → List ℕ × List ℕ × ℕ × List ℕ
+opening_told x = (x.0.0.path, x.0.1.0, x.0.1.1, x.1)
 
 -- What a function returned, seen by view, is what reading gives, unless memory ran out.
 abbrev pub Fails : {Y : Type 0} → ScriptFault → Option Y → Type 0

@@ -8,7 +8,7 @@ ghost use Rattle.ak_base.specs.Word as word;
 ghost use Rattle.ak_kit.specs.FirstInput.{AreParts, IsTextOf, IsNoScript, name_of, is_path, is_signature, is_mode, is_reserved, is_askable, names_differ};
 ghost use Rattle.ak_kit.specs.Reading as reads;
 ghost use Rattle.ak_kit.specs.Reading.{where_true};
-ghost use Rattle.ak_kit.specs.Seen.{Gives, seen, pair_of, seen_script, parts_of};
+ghost use Rattle.ak_kit.specs.Seen.{Gives, opening_seen, opening_told, pair_of, parts_of, seen, seen_script};
 
 use crate::fault::ScriptFault;
 use crate::script::FirstScript;
@@ -289,21 +289,20 @@ fn names_differ(rows: &[(Text, i32)]) -> bool
 }
 
 #[tactic(auto, unfolding(crate::specs::Reading::opening_at))]
-fn opening(bytes: &[u8]) -> Option<((&[u8], (&[u8], u32)), &[u8])>
-    ensures opening { option_map (λ x. ((x.0.0.now, (x.0.1.0.now, x.0.1.1)), x.1.now)) result
-        ≡ option_map (λ x. ((x.0.0.path, x.0.1), x.1)) (reads.opening_at bytes.now) }
-    ensures name { IfSome result (λ x. word.is_word x.0.1.0.now ≡ true) }
+fn opening(bytes: &[u8]) -> Option<(&[u8], &[u8], u32, &[u8])>
+    ensures opening { option_map opening_seen result ≡ option_map opening_told (reads.opening_at bytes.now) }
+    ensures name { IfSome result (λ x. word.is_word x.1.now ≡ true) }
 {
     let (path, rest) = app(after(bytes, b"kit 1\n")?)?;
-    let (looper, rest) = looper(rest)?;
-    Some(((path, looper), rest))
+    let ((name, capacity), rest) = looper(rest)?;
+    Some((path, name, capacity, rest))
 }
 
 #[tactic(auto, unfolding(crate::specs::Reading::script_of))]
 fn script(alloc: Global, input: &[u8]) -> Result<FirstScript, ScriptFault>
     ensures { Gives seen_script result (option_map parts_of (reads.script_of input.now)) }
 {
-    let Some(((path, (name, capacity)), rest)) = opening(input) else {
+    let Some((path, name, capacity, rest)) = opening(input) else {
         return Err(ScriptFault::NotYet);
     };
     let (rows, rest) = rows(alloc, rest)?;
