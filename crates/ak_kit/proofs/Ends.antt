@@ -1,6 +1,7 @@
 -- What the ends of a run say, put together from what its parts say.
-use Rattle.std.proofs.Common.{◌≡◌, ℕ, ℤ, List, [], ◌∷◌, ◌++◌, length, take, Option, Some, Result, Ok, Err, OnOk, OnErr, sym, ap, ◌∙◌, subst, append_assoc, arith, true}
+use Rattle.std.proofs.Common.{◌≡◌, ℕ, ℤ, List, [], ◌∷◌, ◌++◌, length, take, Option, None, Some, Result, Ok, Err, OnOk, OnErr, sym, ap, ◌∙◌, subst, append_assoc, arith, true}
 use Rattle.std.proofs.lemmas.List.{append-nil, map-append, take_all}
+use Rattle.std.specs.Prelude.{IfSome}
 use Rattle.std.specs.Io.KnownBytes.{Appends}
 use Rattle.ak_outside.specs.Sink.{AppendsPart}
 use Rattle.ak_outside.proofs.Joins.{Appends-joined}
@@ -14,8 +15,8 @@ use Rattle.ak_base.specs.declared.ending.Ending.TheVariants as ending
 use Rattle.ak_kit.specs.declared.stopped.Stopped.{Stopped}
 use Rattle.ak_kit.specs.declared.stopped.Stopped.TheVariants as stop
 use Rattle.ak_kit.specs.declared.top.FirstRun.{FirstRun}
-use Rattle.ak_kit.specs.FirstInput.{is_askable}
-use Rattle.ak_kit.specs.Kit.{Closes, ClosesEarly, HasLines, Writes, closing_line, ending_of, run_steps}
+use Rattle.ak_kit.specs.FirstInput.{IsTextOf, is_askable}
+use Rattle.ak_kit.specs.Kit.{Closes, ClosesEarly, HasLines, IsRunOf, IsRunWith, Writes, closing_line, ending_of, run_steps}
 use Rattle.ak_kit.specs.Opening.{OpensWith}
 use Rattle.ak_kit.proofs.RunLaws.{steps_match}
 
@@ -126,3 +127,20 @@ run_lines r run rows opening asked old new same_opening same_asked opens askable
       front = subst (λ (s : List Step). IsFrontOf run.desk.lines (lines_of s)) (sym same) front;
       history = subst (λ (s : DeskState). IsHistory s run.desk.lines s) (sym same_opening) ((steps_match rows asked opening opens askable).history run.desk.lines front);
     }
+
+-- ---- the run of an input
+run_with : (run : FirstRun) (looper : List ℕ) (capacity : ℕ) (rows : List (List ℕ × ℤ)) (asked : List (List ℕ)) (input : List ℕ) → IsTextOf looper capacity rows asked input → IsRunWith run looper capacity rows asked → IsRunOf run input
+run_with run looper capacity rows asked input text with_parts =
+    let s = text.0 in
+    let parts = text.2 in
+    (s, text.1, record {
+      rows_are = with_parts.rows_are ∙ parts.rows_are;
+      asked_are = with_parts.asked_are ∙ parts.asked_are;
+      opening_is = rw (sym parts.looper_is, sym parts.capacity_is, sym parts.rows_are) with_parts.opening_is;
+    })
+
+pub run_of
+    : (run : Option FirstRun) (looper : List ℕ) (capacity : ℕ) (rows : List (List ℕ × ℤ)) (asked : List (List ℕ)) (input : List ℕ) → IsTextOf looper capacity rows asked input → IfSome run (λ r. IsRunWith r looper capacity rows asked)
+    → IfSome run (λ r. IsRunOf r input)
+run_of None looper capacity rows asked input text with_parts = tt
+run_of (Some run) looper capacity rows asked input text with_parts = run_with run looper capacity rows asked input text with_parts
