@@ -58,32 +58,62 @@ at_once s m (route.Deliver token (taker.Property place)) alone = record {
   task_is = task.Done None (Some (property_replied s token place m).reply) false;
   state_is = (property_replied s token place m).state;
   reply_is = (property_replied s token place m).reply;
-  wanted = refl; done = tt; words = refl; quit = refl; replied = refl; told = refl; state = refl;
+  wanted = refl;
+  done = tt;
+  words = refl;
+  quit = refl;
+  replied = refl;
+  told = refl;
+  state = refl;
 }
 at_once s m (route.Deliver token (taker.Reaction place)) alone = absurd alone
 at_once s m (route.Deliver token taker.BuiltIn) alone = record {
   task_is = task.Done None (Some (built_in_reply s token m)) (built_in_quits s m);
   state_is = s;
   reply_is = built_in_reply s token m;
-  wanted = refl; done = tt; words = refl; quit = refl; replied = refl; told = refl; state = refl;
+  wanted = refl;
+  done = tt;
+  words = refl;
+  quit = refl;
+  replied = refl;
+  told = refl;
+  state = refl;
 }
 at_once s m route.Skipped alone = record {
   task_is = task.Done None (Some none_reply) false;
   state_is = s;
   reply_is = none_reply;
-  wanted = refl; done = tt; words = refl; quit = refl; replied = refl; told = refl; state = refl;
+  wanted = refl;
+  done = tt;
+  words = refl;
+  quit = refl;
+  replied = refl;
+  told = refl;
+  state = refl;
 }
 at_once s m route.Dropped alone = record {
   task_is = task.Done None (Some none_reply) false;
   state_is = s;
   reply_is = none_reply;
-  wanted = refl; done = tt; words = refl; quit = refl; replied = refl; told = refl; state = refl;
+  wanted = refl;
+  done = tt;
+  words = refl;
+  quit = refl;
+  replied = refl;
+  told = refl;
+  state = refl;
 }
 at_once s m route.NotUnderstood alone = record {
   task_is = task.Done None (Some not_understood) false;
   state_is = s;
   reply_is = not_understood;
-  wanted = refl; done = tt; words = refl; quit = refl; replied = refl; told = refl; state = refl;
+  wanted = refl;
+  done = tt;
+  words = refl;
+  quit = refl;
+  replied = refl;
+  told = refl;
+  state = refl;
 }
 at_once s m (route.Forward looper) alone = absurd alone
 

@@ -132,12 +132,15 @@ run_lines r run rows opening asked old new same_opening same_asked opens askable
 run_with : (run : FirstRun) (looper : List ℕ) (capacity : ℕ) (rows : List (List ℕ × ℤ)) (asked : List (List ℕ)) (input : List ℕ) → IsTextOf looper capacity rows asked input → IsRunWith run looper capacity rows asked → IsRunOf run input
 run_with run looper capacity rows asked input text with_parts =
     let s = text.0 in
-    let parts = text.2 in
-    (s, text.1, record {
-      rows_are = with_parts.rows_are ∙ parts.rows_are;
-      asked_are = with_parts.asked_are ∙ parts.asked_are;
-      opening_is = rw (sym parts.looper_is, sym parts.capacity_is, sym parts.rows_are) with_parts.opening_is;
-    })
+    let parts = text.2 in (
+      s,
+      text.1,
+      record {
+        rows_are = with_parts.rows_are ∙ parts.rows_are;
+        asked_are = with_parts.asked_are ∙ parts.asked_are;
+        opening_is = rw (sym parts.looper_is, sym parts.capacity_is, sym parts.rows_are) with_parts.opening_is;
+      },
+    )
 
 pub run_of
     : (run : Option FirstRun) (looper : List ℕ) (capacity : ℕ) (rows : List (List ℕ × ℤ)) (asked : List (List ℕ)) (input : List ℕ) → IsTextOf looper capacity rows asked input → IfSome run (λ r. IsRunWith r looper capacity rows asked)

@@ -1,5 +1,5 @@
 -- A run goes on step by step.
-use Rattle.std.proofs.Common.{◌≡◌, ◌⊎◌, inl, inr, ℕ, ◌+◌, ◌<◌, ◌≤◌, List, [], ◌∷◌, ◌++◌, length, take, drop, get_or, Option, None, Some, Err, refl, sym, ap, ◌∙◌, subst, append_assoc, add-one, arith, Bool, true, zero, suc}
+use Rattle.std.proofs.Common.{◌≡◌, ◌⊎◌, inl, inr, ℕ, ◌+◌, ◌<◌, ◌≤◌, List, [], ◌∷◌, ◌++◌, length, take, drop, get_or, Option, None, Some, Err, refl, sym, ap, ◌∙◌, subst, append_assoc, add-one, arith, true, zero, suc}
 use Rattle.std.proofs.lemmas.List.{drop_all, append-nil, map_push, map-append, length_push, length-map}
 use Rattle.std.proofs.lemmas.List.Concat.{flat_map-append}
 use Rattle.std.proofs.Math.Seq.{drop-cons}

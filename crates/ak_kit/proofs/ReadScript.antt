@@ -22,13 +22,16 @@ none_from None e = refl
 
 read : (input : List ℕ) (x : FirstScript) → option_map parts_of (script_of input) ≡ Some (seen_script x) → (s : Script) × (script_of input ≡ Some s) × HasParts s x.looper x.capacity x.rows.items x.asked.items
 read input x e =
-    let p = parts_from (script_of input) (seen_script x) e in
-    (p.0, p.1, record {
-      looper_is = sym (ap (λ (q : Parts). q.looper) p.2);
-      capacity_is = sym (ap (λ (q : Parts). q.capacity) p.2);
-      rows_are = sym (ap (λ (q : Parts). q.rows) p.2);
-      asked_are = sym (ap (λ (q : Parts). q.asked) p.2);
-    })
+    let p = parts_from (script_of input) (seen_script x) e in (
+      p.0,
+      p.1,
+      record {
+        looper_is = sym (ap (λ (q : Parts). q.looper) p.2);
+        capacity_is = sym (ap (λ (q : Parts). q.capacity) p.2);
+        rows_are = sym (ap (λ (q : Parts). q.rows) p.2);
+        asked_are = sym (ap (λ (q : Parts). q.asked) p.2);
+      },
+    )
 
 pub found : (input : List ℕ) (r : Result FirstScript ScriptFault) → length input ≤ 1048576 → Gives seen_script r (option_map parts_of (script_of input)) → IfOk r (λ x. IsTextOf x.looper x.capacity x.rows.items x.asked.items input)
 found input (Ok x) short gives =

@@ -1,5 +1,5 @@
 -- The replies that a desk makes, and the text of their numbers.
-use Rattle.std.specs.Prelude.{◌≡◌, ◌⊎◌, ℕ, ℤ, List, [], ◌++◌, codes, Result, Ok, Err}
+use Rattle.std.specs.Prelude.{◌≡◌, ◌⊎◌, ℕ, ℤ, List, [], ◌++◌, codes, Result, Ok}
 use Rattle.std.specs.Fmt.{signed_decimal}
 use Rattle.ak_message.specs.declared.fault.FindFault.{FindFault}
 use Rattle.ak_message.specs.Message.{ValueData, MessageData, int32_value}

@@ -1,5 +1,3 @@
-use Rattle.std.proofs.Common.{Option, None, Some, IfSome}
-use Rattle.ak_kit.specs.declared.top.FirstRun.{FirstRun}
 use Rattle.ak_kit.proofs.Ends.{run_of}
 use Rattle.ak_kit.proofs.top.run_input.Goals as goal
 

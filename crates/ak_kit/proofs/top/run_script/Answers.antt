@@ -1,4 +1,4 @@
-use Rattle.std.proofs.Common.{◌≡◌, ◌≤◌, ℕ, ℤ, List, length, Ok, Err, sym, ap, subst, refl, ◌∙◌, arith}
+use Rattle.std.proofs.Common.{◌≤◌, ℕ, ℤ, List, length, Ok, Err, sym, ap, subst, refl, ◌∙◌, arith}
 use Rattle.std.specs.List.{list_all}
 use Rattle.ak_action.specs.declared.state.DeskState.{DeskState}
 use Rattle.ak_outside.specs.Faults.{Rose}
