@@ -8,7 +8,7 @@ use Rattle.ak_message.specs.declared.kind.Kind.TheVariants as k
 use Rattle.ak_message.specs.Message.{MessageData}
 use Rattle.ak_message.specs.Fields.{found_in}
 use Rattle.ak_message.specs.MessageText.{message_text}
-use Rattle.first_desk.specs.Messages.{value_reply, no_reply, not_understood}
+use Rattle.ak_kit.specs.Messages.{value_reply, no_reply, not_understood}
 use Rattle.ak_kit.specs.Reply.{IsAnswer, number_text}
 
 -- after what was there, the code, and the two fields where they have a number

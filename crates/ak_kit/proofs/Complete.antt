@@ -1,5 +1,5 @@
 -- An input that is a script is run to its end, where no count rose, unless memory runs out.
-use Rattle.std.proofs.Common.{◌≡◌, ◌⊎◌, inl, inr, ℕ, ℤ, ◌≤◌, List, [], ◌++◌, length, Option, Some, None, refl, sym, ap, ◌∙◌, subst, arith, length-append}
+use Rattle.std.proofs.Common.{◌≡◌, ◌⊎◌, inl, inr, ℕ, ◌≤◌, List, [], ◌++◌, length, Option, Some, None, refl, sym, ap, ◌∙◌, subst, arith, length-append}
 use Rattle.std.proofs.lemmas.List.{append-nil}
 use Rattle.std.specs.Prelude.{IfSome}
 use Rattle.std.specs.Io.KnownBytes.{Consumes, IsAtEnd}
@@ -7,9 +7,9 @@ use Rattle.ak_base.specs.declared.ending.Ending.{Ending}
 use Rattle.ak_base.specs.declared.ending.Ending.TheVariants as ending
 use Rattle.ak_outside.specs.Faults.{Rose, Stayed}
 use Rattle.ak_outside.proofs.Counts.{Stayed-not_Rose}
-use Rattle.ak_kit.specs.FirstInput.{Script, IsFirstInput, IsNoScript, IsTextOf}
+use Rattle.ak_kit.specs.FirstInput.{Script, IsFirstInput, IsNoScript}
 use Rattle.ak_kit.specs.declared.top.FirstRun.{FirstRun}
-use Rattle.ak_kit.specs.Kit.{IsInputEnding, Writes, not_yet}
+use Rattle.ak_kit.specs.Kit.{IsInputEnding, IsRunOf, Writes, not_yet}
 
 -- what was read of a short input is all of it
 all_read : (input given : List ℕ) (new : Option (List ℕ)) → length input ≤ 1048576 → Consumes (Some input) new given → (length given ≤ 1048576 → IsAtEnd new) → given ≡ input
@@ -37,9 +37,9 @@ complete ending.ReadFault input given old new faults_old faults_new script (inl 
 complete ending.ThreadFault input given old new faults_old faults_new script (inl is) refused rose stayed consumed at_end told first = absurd is
 
 -- an input that is no script has no run
-no_run : (input given : List ℕ) (old new : Option (List ℕ)) (rows : List (List ℕ × ℤ)) (asked : List (List ℕ)) → IsNoScript input → IsTextOf rows asked given → Consumes old new given → (length given ≤ 1048576 → IsAtEnd new) → old ≡ Some input → ⊥
-no_run input given old None rows asked none text consumed at_end told = absurd (subst (λ (left : Option (List ℕ)). Consumes left None given) told consumed)
-no_run input given old (Some rest) rows asked none text consumed at_end told =
+no_run : (input given : List ℕ) (old new : Option (List ℕ)) (run : FirstRun) → IsNoScript input → IsRunOf run given → Consumes old new given → (length given ≤ 1048576 → IsAtEnd new) → old ≡ Some input → ⊥
+no_run input given old None run none text consumed at_end told = absurd (subst (λ (left : Option (List ℕ)). Consumes left None given) told consumed)
+no_run input given old (Some rest) run none text consumed at_end told =
     let split : input ≡ given ++ rest = subst (λ (left : Option (List ℕ)). Consumes left (Some rest) given) told consumed in
     let ended : rest ≡ [] = at_end text.1.short in
     let same : input ≡ given = split ∙ ap (λ (r : List ℕ). given ++ r) ended ∙ append-nil given in
@@ -47,12 +47,12 @@ no_run input given old (Some rest) rows asked none text consumed at_end told =
 
 pub refuses
     : (e : Ending) (run : Option FirstRun) (input given : List ℕ) (old new written_old written_new : Option (List ℕ)) (Failed : Type 0) → IsInputEnding e → Writes e run written_old written_new Failed
-    → IfSome run (λ r. IsTextOf r.rows r.asked given) → Consumes old new given → (length given ≤ 1048576 → IsAtEnd new) → old ≡ Some input → IsNoScript input → (e ≡ not_yet) ⊎ (e ≡ ending.NoMemory)
+    → IfSome run (λ r. IsRunOf r given) → Consumes old new given → (length given ≤ 1048576 → IsAtEnd new) → old ≡ Some input → IsNoScript input → (e ≡ not_yet) ⊎ (e ≡ ending.NoMemory)
 refuses e run input given old new written_old written_new Failed (inr is) writes text consumed at_end told none = inl is
 refuses ending.NoMemory run input given old new written_old written_new Failed (inl is) writes text consumed at_end told none = inr refl
-refuses ending.Done (Some r) input given old new written_old written_new Failed (inl is) writes text consumed at_end told none = absurd (no_run input given old new r.rows r.asked none text consumed at_end told)
+refuses ending.Done (Some r) input given old new written_old written_new Failed (inl is) writes text consumed at_end told none = absurd (no_run input given old new r none text consumed at_end told)
 refuses ending.Done None input given old new written_old written_new Failed (inl is) writes text consumed at_end told none = absurd writes
-refuses ending.WriteFault (Some r) input given old new written_old written_new Failed (inl is) writes text consumed at_end told none = absurd (no_run input given old new r.rows r.asked none text consumed at_end told)
+refuses ending.WriteFault (Some r) input given old new written_old written_new Failed (inl is) writes text consumed at_end told none = absurd (no_run input given old new r none text consumed at_end told)
 refuses ending.WriteFault None input given old new written_old written_new Failed (inl is) writes text consumed at_end told none = absurd writes
 refuses (ending.Refused line reason) run input given old new written_old written_new Failed (inl is) writes text consumed at_end told none = absurd is
 refuses ending.Usage run input given old new written_old written_new Failed (inl is) writes text consumed at_end told none = absurd is

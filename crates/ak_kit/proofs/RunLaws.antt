@@ -1,54 +1,156 @@
 -- The laws of a script's steps.
-use Rattle.std.proofs.Common.{◌≡◌, ℕ, zero, suc, ◌+◌, ◌==◌, List, [], ◌∷◌, ◌++◌, ℤ, length, map, Option, Some, None, refl, sym, ap, ◌∙◌, arith, true, false, cond, if◌then◌else◌, ◌/◌, ◌%◌, ◌≤◌, pos, negsuc}
-use Rattle.std.specs.Prelude.{codes, All, count_by}
-use Rattle.std.specs.List.{flat_map, slice_get}
+use Rattle.std.proofs.Common.{◌≡◌, ℕ, zero, suc, ◌+◌, ◌==◌, List, [], ◌∷◌, ◌++◌, ℤ, length, Option, Some, None, refl, sym, ap, subst, ◌∙◌, arith, true, false, cond, if◌then◌else◌, ◌/◌, ◌%◌, ◌≤◌, pos, negsuc}
+use Rattle.std.specs.Prelude.{codes, count_by, option_map, unwrap_or}
+use Rattle.std.specs.List.{flat_map, list_all}
 use Rattle.std.specs.Fmt.{signed_decimal, digits, digits_onto, digit_glyph}
 use Rattle.std.proofs.lemmas.Bool.{ne_eqb}
 use Rattle.std.proofs.lemmas.Bool.Decides.{nat_tests}
 use Rattle.std.proofs.lemmas.List.{append-nil}
+use Rattle.std.proofs.lemmas.List.Elements.{All-nil}
 use Rattle.std.proofs.lemmas.List.Sums.{sum_by-append}
 use Rattle.ak_base.specs.Code.{code_text}
-use Rattle.first_desk.specs.declared.desk.FirstEntry.{FirstEntry}
-use Rattle.first_desk.specs.Desk.{entry_of}
-use Rattle.first_desk.specs.Messages.{get_of, ready_to_run, no_reply}
-use Rattle.first_desk.specs.Replies.{first_reply, answer}
-use Rattle.first_desk.specs.Rows.{value_of_row}
-use Rattle.ak_kit.specs.Run.{hey_step, hey_steps, steps_of, entries_of, text_of, reply_text_line}
-use Rattle.ak_kit.specs.Laws.{reply_words, AreLines, StepsMatch}
+use Rattle.ak_message.specs.Message.{MessageData}
+use Rattle.ak_flatten.specs.Item.{ItemData}
+use Rattle.ak_route.specs.declared.outcome.Route.{Route}
+use Rattle.ak_route.specs.declared.outcome.Route.TheVariants as route
+use Rattle.ak_action.specs.Laws.{IsSpelled}
+use Rattle.ak_action.specs.declared.state.DeskState.{DeskState}
+use Rattle.ak_desk.specs.declared.entry.EntryRoute.{EntryRoute}
+use Rattle.ak_desk.specs.declared.entry.EntryRoute.TheVariants as entry
+use Rattle.ak_desk.specs.declared.entry.DeskEvent.TheVariants as event
+use Rattle.ak_desk.specs.Dispatch.{Dispatch, entry_route, fitting}
+use Rattle.ak_desk.specs.Line.{LineData}
+use Rattle.ak_desk.specs.Machine.{DeskStep, DispatchStep, Dispatches, IsHistory, Replays, StampsRise}
+use Rattle.ak_desk.specs.Place.{routed_of}
+use Rattle.ak_kit.specs.Dispatched.{IsQuiet}
+use Rattle.ak_kit.specs.FirstInput.{is_askable}
+use Rattle.ak_kit.specs.Laws.{AreLines, StepsMatch, entry_at, lines_from, lines_told, reply_words, route_to}
+use Rattle.ak_kit.specs.Messages.{answer, no_reply}
+use Rattle.ak_kit.specs.Opening.{IsOpening, OpensWith}
+use Rattle.ak_kit.specs.Rows.{value_of_row}
+use Rattle.ak_kit.specs.Run.{came, get_item, hey_steps, line_of, lines_of, ready_item, reply_of, reply_text_line, steps_of, text_of}
+use Rattle.ak_kit.specs.Steps.{IsFrontOf}
+use Rattle.ak_kit.proofs.Routes.{Came, launch_came, word_came}
+use Rattle.ak_kit.proofs.Words.{both_true}
 
--- the reply to the message that gets a word
-reply_of : (rows : List (List ℕ × ℤ)) (word : List ℕ) → first_reply rows (get_of word) ≡ answer (value_of_row rows word)
-reply_of rows word = refl
+-- ---- of one message
+pub quiet_from : (s : DeskState) (item : ItemData) (r : EntryRoute) (reply : MessageData) → Came s item r reply → IsQuiet s item
+quiet_from s item r reply c = record { alone = c.alone; keeps = ap (λ (d : Dispatch). d.state) c.dispatch_is }
 
-hey_positions : (rows : List (List ℕ × ℤ)) (n : ℕ) (asked : List (List ℕ)) (i : ℕ) (entry : FirstEntry) → slice_get (entries_of (hey_steps rows n asked)) i ≡ Some entry → entry.position ≡ n + i
-hey_positions rows n [] i entry h = absurd cc
-hey_positions rows n (word ∷ asked) zero entry h =
-    let same : (hey_step rows n word).entry ≡ entry = cc in
-    ap (λ (e : FirstEntry). e.position) (sym same) ∙ omega arith
-hey_positions rows n (word ∷ asked) (suc i) entry h = omega (arith, hey_positions rows (n + 1) asked i entry h)
+line_from : (s : DeskState) (position : ℕ) (item : ItemData) (r : EntryRoute) (reply : MessageData) → Came s item r reply → line_of s position item ≡ record { entry = entry_at position r; item = Some item }
+unfolding line_of
+line_from s position item r reply c =
+    ap (λ (x : EntryRoute). record { entry = record { stamp = position + 1; by = record { 0 = 10000 }; event = event.Dispatched position x (came s item).words (came s item).quit }; item = Some item }) c.route_is
+    ∙ ap (λ (d : Dispatch). record { entry = record { stamp = position + 1; by = record { 0 = 10000 }; event = event.Dispatched position r d.words d.quit }; item = Some item }) c.dispatch_is
 
-hey_messages : (rows : List (List ℕ × ℤ)) (n : ℕ) (asked : List (List ℕ)) → map (λ entry. entry.message) (entries_of (hey_steps rows n asked)) ≡ map get_of asked
-hey_messages rows n [] = refl
-hey_messages rows n (word ∷ asked) = ap (λ ms. get_of word ∷ ms) (hey_messages rows (n + 1) asked)
+reply_from : (s : DeskState) (item : ItemData) (r : EntryRoute) (reply : MessageData) → Came s item r reply → reply_of s item ≡ reply
+unfolding reply_of
+reply_from s item r reply c = ap (λ (d : Dispatch). unwrap_or (option_map fitting d.reply) no_reply) c.dispatch_is ∙ c.fits
 
-hey_replies : (rows : List (List ℕ × ℤ)) (n : ℕ) (asked : List (List ℕ)) → All (λ entry. entry.reply ≡ first_reply rows entry.message) (entries_of (hey_steps rows n asked))
-hey_replies rows n [] k d lt = absurd (omega arith)
-hey_replies rows n (word ∷ asked) zero d lt = refl
-hey_replies rows n (word ∷ asked) (suc k) d lt = hey_replies rows (n + 1) asked k d (omega arith)
+-- ---- at a looper that begins with these properties
+pub launch_quiet : (s : DeskState) → IsOpening s → IsQuiet s ready_item
+launch_quiet s (rows, (name, capacity, opens)) = quiet_from s ready_item (entry.To 0) no_reply (launch_came name capacity rows s opens)
 
-hey_values : (rows : List (List ℕ × ℤ)) (n : ℕ) (asked : List (List ℕ)) → map (λ entry. entry.reply) (entries_of (hey_steps rows n asked)) ≡ map (λ word. answer (value_of_row rows word)) asked
-hey_values rows n [] = refl
-hey_values rows n (word ∷ asked) = ap (λ rs. answer (value_of_row rows word) ∷ rs) (hey_values rows (n + 1) asked)
+pub word_quiet : (s : DeskState) (slot : ℕ) (word : List ℕ) → IsOpening s → is_askable word ≡ true → IsQuiet s (get_item slot word)
+word_quiet s slot word (rows, (name, capacity, opens)) askable = quiet_from s (get_item slot word) _ _ (word_came name capacity rows s slot word opens askable)
 
+pub launch_reply : (rows : List (List ℕ × ℤ)) (s : DeskState) → OpensWith rows s → reply_of s ready_item ≡ no_reply
+launch_reply rows s (name, capacity, opens) = reply_from s ready_item (entry.To 0) no_reply (launch_came name capacity rows s opens)
+
+pub word_reply : (rows : List (List ℕ × ℤ)) (s : DeskState) (slot : ℕ) (word : List ℕ) → OpensWith rows s → is_askable word ≡ true → reply_of s (get_item slot word) ≡ answer (value_of_row rows word)
+word_reply rows s slot word (name, capacity, opens) askable = reply_from s (get_item slot word) _ _ (word_came name capacity rows s slot word opens askable)
+
+-- ---- the lines
+hey_lines_told : (rows : List (List ℕ × ℤ)) (s : DeskState) (slot : ℕ) (asked : List (List ℕ)) → OpensWith rows s → list_all is_askable asked ≡ true → lines_of (hey_steps s slot asked) ≡ lines_from rows slot asked
+hey_lines_told rows s slot [] opens askable = refl
+hey_lines_told rows s slot (word ∷ asked) opens askable =
+    let parts = both_true (is_askable word) (list_all is_askable asked) askable in
+    let one = line_from s (slot + 1) (get_item slot word) _ _ (word_came opens.0 opens.1 rows s slot word opens.2 parts.0) in
+    ap (λ (line : LineData). line ∷ lines_of (hey_steps s (slot + 1) asked)) one
+    ∙ ap (λ (lines : List LineData). (record { entry = entry_at (slot + 1) (route_to (value_of_row rows word)); item = Some (get_item slot word) }) ∷ lines) (hey_lines_told rows s (slot + 1) asked opens parts.1)
+
+all_lines_told : (rows : List (List ℕ × ℤ)) (s : DeskState) (asked : List (List ℕ)) → OpensWith rows s → list_all is_askable asked ≡ true → lines_of (steps_of s asked) ≡ lines_told rows asked
+all_lines_told rows s asked opens askable =
+    ap (λ (line : LineData). line ∷ lines_of (hey_steps s 0 asked)) (line_from s 0 ready_item (entry.To 0) no_reply (launch_came opens.0 opens.1 rows s opens.2))
+    ∙ ap (λ (lines : List LineData). (record { entry = entry_at 0 (entry.To 0); item = Some ready_item }) ∷ lines) (hey_lines_told rows s 0 asked opens askable)
+
+-- ---- the machine
+never : (s : DeskState) (r : Route) → entry_route s r ≡ entry.NoMemory → ⊥
+never s (route.Deliver token t) e = absurd cc
+never s route.Skipped e = absurd cc
+never s route.Dropped e = absurd cc
+never s route.NotUnderstood e = absurd cc
+never s (route.Forward looper) e = absurd cc
+
+dispatches_so : (s : DeskState) (item : ItemData) (r : EntryRoute) (reply : MessageData) → Came s item r reply → Dispatches s item [] false s
+dispatches_so s item r reply c =
+    record {
+      answers = [];
+      memory = None;
+      spelled = All-nil IsSpelled;
+      waits = ap (λ (d : Dispatch). d.waits) c.dispatch_is;
+      used = ap (λ (d : Dispatch). d.answers) c.dispatch_is;
+      words_are = ap (λ (d : Dispatch). d.words) c.dispatch_is;
+      quit_is = ap (λ (d : Dispatch). d.quit) c.dispatch_is;
+      state_is = ap (λ (d : Dispatch). d.state) c.dispatch_is;
+    }
+
+dispatch_step : (s : DeskState) (item : ItemData) (r : EntryRoute) (reply : MessageData) → Came s item r reply → DispatchStep s r (Some item) [] false s
+dispatch_step s item (entry.To token) reply c = (sym c.route_is, dispatches_so s item (entry.To token) reply c)
+dispatch_step s item entry.Skipped reply c = (sym c.route_is, dispatches_so s item entry.Skipped reply c)
+dispatch_step s item entry.Dropped reply c = (sym c.route_is, dispatches_so s item entry.Dropped reply c)
+dispatch_step s item entry.NotUnderstood reply c = (sym c.route_is, dispatches_so s item entry.NotUnderstood reply c)
+dispatch_step s item (entry.Forward looper) reply c = (sym c.route_is, dispatches_so s item (entry.Forward looper) reply c)
+dispatch_step s item entry.NoMemory reply c = absurd (never s (routed_of s item).route c.route_is)
+
+desk_step : (s : DeskState) (item : ItemData) (r : EntryRoute) (reply : MessageData) (n : ℕ) → s.looper ≡ 0 → Came s item r reply → DeskStep s.looper n s (record { entry = entry_at n r; item = Some item }) s
+desk_step s item r reply n first c = record { by = omega (arith, first); event = (refl, dispatch_step s item r reply c) }
+
+same_head : (x y : LineData) (xs ys : List LineData) → x ∷ xs ≡ y ∷ ys → x ≡ y
+same_head x y xs ys e = cc
+
+same_tail : (x y : LineData) (xs ys : List LineData) → x ∷ xs ≡ y ∷ ys → xs ≡ ys
+same_tail x y xs ys e = cc
+
+-- the lines of any front of the words replay, and their stamps rise
+hey_replays
+    : (rows : List (List ℕ × ℤ)) (s : DeskState) (slot : ℕ) (asked : List (List ℕ)) (front : List LineData) → OpensWith rows s → list_all is_askable asked ≡ true → IsFrontOf front (lines_from rows slot asked)
+    → Replays s.looper (slot + 1) s front s × StampsRise (slot + 1) front
+hey_replays rows s slot asked [] opens askable of = (refl, tt)
+hey_replays rows s slot [] (line ∷ front) opens askable (rest, e) = absurd cc
+hey_replays rows s slot (word ∷ asked) (line ∷ front) opens askable (rest, e) =
+    let parts = both_true (is_askable word) (list_all is_askable asked) askable in
+    let r : EntryRoute = route_to (value_of_row rows word) in
+    let told : LineData = record { entry = entry_at (slot + 1) r; item = Some (get_item slot word) } in
+    let head = same_head told line (lines_from rows (slot + 1) asked) (front ++ rest) e in
+    let tail = same_tail told line (lines_from rows (slot + 1) asked) (front ++ rest) e in
+    let later = hey_replays rows s (slot + 1) asked front opens parts.1 (rest, tail) in
+    let step = desk_step s (get_item slot word) r _ (slot + 1) opens.2.looper_is (word_came opens.0 opens.1 rows s slot word opens.2 parts.0) in
+    subst (λ (l : LineData). Replays s.looper (slot + 1) s (l ∷ front) s × StampsRise (slot + 1) (l ∷ front)) head
+    ((s, (step, later.0)), (omega arith, later.1))
+
+told_history : (rows : List (List ℕ × ℤ)) (s : DeskState) (asked : List (List ℕ)) (front : List LineData) → OpensWith rows s → list_all is_askable asked ≡ true → IsFrontOf front (lines_told rows asked) → IsHistory s front s
+told_history rows s asked [] opens askable of = record { replays = refl; stamps = tt }
+told_history rows s asked (line ∷ front) opens askable (rest, e) =
+    let told : LineData = record { entry = entry_at 0 (entry.To 0); item = Some ready_item } in
+    let head = same_head told line (lines_from rows 0 asked) (front ++ rest) e in
+    let tail = same_tail told line (lines_from rows 0 asked) (front ++ rest) e in
+    let later = hey_replays rows s 0 asked front opens askable (rest, tail) in
+    let step = desk_step s ready_item (entry.To 0) no_reply 0 opens.2.looper_is (launch_came opens.0 opens.1 rows s opens.2) in
+    subst (λ (l : LineData). IsHistory s (l ∷ front) s) head (record { replays = (s, (step, later.0)); stamps = (omega arith, later.1) })
+
+-- ---- the text
 printed : (value : Option ℤ) → reply_text_line (answer value) ≡ codes "reply " ++ reply_words value ++ 10 ∷ []
 unfolding code_text digits
 printed None = refl
 printed (Some n) = ap (λ number. codes "reply 'RPLY' result=LONG:" ++ ((number ++ codes " error=LONG:0") ++ 10 ∷ [])) (append-nil (signed_decimal n))
 
-hey_lines : (rows : List (List ℕ × ℤ)) (n : ℕ) (asked : List (List ℕ)) → text_of (hey_steps rows n asked) ≡ flat_map (λ word. codes "reply " ++ reply_words (value_of_row rows word) ++ 10 ∷ []) asked
-hey_lines rows n [] = refl
-hey_lines rows n (word ∷ asked) =
-    ap (λ text. text ++ text_of (hey_steps rows (n + 1) asked)) (printed (value_of_row rows word)) ∙ ap (λ text. (codes "reply " ++ reply_words (value_of_row rows word) ++ 10 ∷ []) ++ text) (hey_lines rows (n + 1) asked)
+hey_text : (rows : List (List ℕ × ℤ)) (s : DeskState) (slot : ℕ) (asked : List (List ℕ)) → OpensWith rows s → list_all is_askable asked ≡ true → text_of (hey_steps s slot asked) ≡ flat_map (λ word. codes "reply " ++ reply_words (value_of_row rows word) ++ 10 ∷ []) asked
+hey_text rows s slot [] opens askable = refl
+hey_text rows s slot (word ∷ asked) opens askable =
+    let parts = both_true (is_askable word) (list_all is_askable asked) askable in
+    let one : reply_text_line (reply_of s (get_item slot word)) ≡ codes "reply " ++ reply_words (value_of_row rows word) ++ 10 ∷ [] = ap reply_text_line (word_reply rows s slot word opens parts.0) ∙ printed (value_of_row rows word) in
+    ap (λ text. text ++ text_of (hey_steps s (slot + 1) asked)) one ∙ ap (λ text. (codes "reply " ++ reply_words (value_of_row rows word) ++ 10 ∷ []) ++ text) (hey_text rows s (slot + 1) asked opens parts.1)
 
 -- ---- line ends
 
@@ -94,32 +196,20 @@ hey_line_ends rows (word ∷ asked) =
     omega (arith, line_ends-append one (flat_map (λ w. codes "reply " ++ reply_words (value_of_row rows w) ++ 10 ∷ []) asked), reply_line_ends (value_of_row rows word), hey_line_ends rows asked)
 
 -- ---- all together
-
-step_positions : (rows : List (List ℕ × ℤ)) (asked : List (List ℕ)) (i : ℕ) (entry : FirstEntry) → slice_get (entries_of (steps_of rows asked)) i ≡ Some entry → entry.position ≡ i
-step_positions rows asked zero entry h =
-    let same : entry_of rows 0 ready_to_run ≡ entry = cc in
-    ap (λ (e : FirstEntry). e.position) (sym same)
-step_positions rows asked (suc i) entry h = hey_positions rows 1 asked i entry h ∙ omega arith
-
-step_replies : (rows : List (List ℕ × ℤ)) (asked : List (List ℕ)) → All (λ entry. entry.reply ≡ first_reply rows entry.message) (entries_of (steps_of rows asked))
-step_replies rows asked zero d lt = refl
-step_replies rows asked (suc k) d lt = hey_replies rows 1 asked k d (omega arith)
-
-step_lines : (rows : List (List ℕ × ℤ)) (asked : List (List ℕ)) → AreLines rows asked (text_of (steps_of rows asked))
+step_lines : (rows : List (List ℕ × ℤ)) (s : DeskState) (asked : List (List ℕ)) → OpensWith rows s → list_all is_askable asked ≡ true → AreLines rows asked (text_of (steps_of s asked))
 unfolding line_ends
-step_lines rows asked =
+step_lines rows s asked opens askable =
     let launched : List ℕ = codes "launch team 1" ++ 10 ∷ [] in
     let replies : List ℕ = flat_map (λ word. codes "reply " ++ reply_words (value_of_row rows word) ++ 10 ∷ []) asked in
-    let lines : text_of (steps_of rows asked) ≡ launched ++ replies = ap (λ text. launched ++ text) (hey_lines rows 1 asked) in
+    let lines : text_of (steps_of s asked) ≡ launched ++ replies = ap (λ text. launched ++ text) (hey_text rows s 0 asked opens askable) in
     record { lines = lines; count = ap line_ends lines ∙ line_ends-append launched replies ∙ omega (arith, hey_line_ends rows asked) }
 
 pub steps_match : StepsMatch
-steps_match rows asked = (
-  record {
-    positions = step_positions rows asked;
-    messages = ap (λ ms. ready_to_run ∷ ms) (hey_messages rows 1 asked);
-    replies = step_replies rows asked;
-    values = ap (λ rs. no_reply ∷ rs) (hey_values rows 1 asked);
-  },
-  step_lines rows asked,
-)
+steps_match rows asked s opens askable =
+    let told = all_lines_told rows s asked opens askable in
+    record {
+      lines = told;
+      replies = record { launch = launch_reply rows s opens; words = λ slot word can. word_reply rows s slot word opens can };
+      text = step_lines rows s asked opens askable;
+      history = λ front of. told_history rows s asked front opens askable (subst (λ (lines : List LineData). IsFrontOf front lines) told of);
+    }

@@ -5,7 +5,7 @@ use Rattle.std.specs.Int.{w32}
 use Rattle.std.specs.Str.{bytes_eq}
 use Rattle.std.specs.Fmt.{decimal, signed_decimal}
 use Rattle.ak_base.specs.Word.{is_word}
-pub use Rattle.first_desk.specs.Rows.{names_differ}
+pub use Rattle.ak_kit.specs.Rows.{names_differ}
 
 -- what such an input says
 pub record Script : Type 0 where
@@ -108,6 +108,22 @@ pub record IsFirstInput (input : List ℕ) (s : Script) : Type 0 where
 abbrev pub IsNoScript : List ℕ → Type 0
 IsNoScript input = (s : Script) → IsFirstInput input s → ⊥
 
--- the input is the text of a script with these properties and words
-abbrev pub IsTextOf : List (List ℕ × ℤ) → List (List ℕ) → List ℕ → Type 0
-IsTextOf rows asked input = (s : Script) × IsFirstInput input s × (rows ≡ s.rows) × (asked ≡ s.asked)
+-- the script has this looper, these properties and these words
+pub record HasParts (s : Script) (looper : List ℕ) (capacity : ℕ) (rows : List (List ℕ × ℤ)) (asked : List (List ℕ)) : Type 0 where
+  pub looper_is : looper ≡ s.looper
+  pub capacity_is : capacity ≡ s.capacity
+  pub rows_are : rows ≡ s.rows
+  pub asked_are : asked ≡ s.asked
+
+-- the input is the text of a script with these parts
+abbrev pub IsTextOf : List ℕ → ℕ → List (List ℕ × ℤ) → List (List ℕ) → List ℕ → Type 0
+IsTextOf looper capacity rows asked input = (s : Script) × IsFirstInput input s × HasParts s looper capacity rows asked
+
+-- ---- what was read of a script
+pub record AreParts (name : List ℕ) (size : ℕ) (rows : List (List ℕ × ℤ)) (words : List (List ℕ)) : Type 0 where
+  pub looper : is_word name ≡ true
+  pub capacity : (2 ≤ size) × (size ≤ 1000)
+  pub few_rows : length rows ≤ 64
+  pub differ : names_differ rows ≡ true
+  pub few_asked : length words ≤ 7999
+  pub asked : list_all is_askable words ≡ true

@@ -1,14 +1,17 @@
 -- The top call: its endings, the input that it read, and what it wrote.
-use Rattle.std.specs.Prelude.{◌≡◌, ◌⊎◌, ℕ, ◌<◌, ◌≤◌, List, [], ◌∷◌, ◌++◌, length, take, codes, Option, Some, None}
+use Rattle.std.specs.Prelude.{◌≡◌, ◌⊎◌, ℕ, ℤ, ◌<◌, ◌≤◌, List, [], ◌∷◌, ◌++◌, length, take, codes, Option, Some, None}
 use Rattle.std.specs.Io.KnownBytes.{Appends, Consumes, IsAtEnd}
 use Rattle.ak_base.specs.declared.ending.Ending.{Ending}
 use Rattle.ak_base.specs.declared.ending.Ending.TheVariants as ending
 use Rattle.ak_base.specs.declared.ending.RefusalKind.TheVariants as kind
-use Rattle.first_desk.specs.declared.desk.FirstEntry.{FirstEntry}
+use Rattle.ak_desk.specs.Line.{LineData}
+use Rattle.ak_desk.specs.Machine.{IsHistory}
 use Rattle.ak_kit.specs.declared.stopped.Stopped.{Stopped}
 use Rattle.ak_kit.specs.declared.stopped.Stopped.TheVariants as stop
 use Rattle.ak_kit.specs.declared.top.FirstRun.{FirstRun}
-use Rattle.ak_kit.specs.Run.{Step, steps_of, entries_of, text_of}
+use Rattle.ak_kit.specs.FirstInput.{Script, IsFirstInput}
+use Rattle.ak_kit.specs.Opening.{OpensAs}
+use Rattle.ak_kit.specs.Run.{Step, steps_of, lines_of, text_of}
 use Rattle.ak_kit.specs.Steps.{IsFrontOf, MadeBy, IsCut}
 
 -- the one command
@@ -78,26 +81,42 @@ pub record WasRead (old new : Option (List ℕ)) (input : List ℕ) : Type 0 whe
 abbrev pub SomeInput : (List ℕ → Type 0) → Option (List ℕ) → Option (List ℕ) → Type 0
 SomeInput IsSo old new = (input : List ℕ) × WasRead old new input × IsSo input
 
--- ---- what is written
+-- the run of a script with these parts: its desk began as the plan of its looper says
+pub record IsRunWith (run : FirstRun) (looper : List ℕ) (capacity : ℕ) (rows : List (List ℕ × ℤ)) (asked : List (List ℕ)) : Type 0 where
+  pub rows_are : run.rows ≡ rows
+  pub asked_are : run.asked ≡ asked
+  pub opening_is : OpensAs looper capacity rows run.desk.opening
 
--- the steps of a run's script
+-- the input is the text of a script, and this is its run
+abbrev pub IsRunOf : FirstRun → List ℕ → Type 0
+IsRunOf run input = (s : Script) × IsFirstInput input s × IsRunWith run s.looper s.capacity s.rows s.asked
+
+-- the steps of a run's script, at the desk as it began
 abbrev pub run_steps : FirstRun → List Step
-run_steps run = steps_of run.rows run.asked
+run_steps run = steps_of run.desk.opening run.asked
+
+-- the desk's list is the lines of the script's first steps, and its machine allows it: from the opening on it replays, to handlers
+-- that are as they began
+pub record HasLines (run : FirstRun) : Type 0 where
+  pub front : IsFrontOf run.desk.lines (lines_of (run_steps run))
+  pub history : IsHistory run.desk.opening run.desk.lines run.desk.opening
+
+-- ---- what is written
 
 -- after what stands before, the closing line was written, or a front of it where the sink failed
 abbrev pub Closes : List ℕ → List ℕ → Option (List ℕ) → Option (List ℕ) → Type 0 → Type 0
 Closes before line old new Failed = (n : ℕ) × Appends old new (before ++ take n line) × (n < length line → Failed)
 
--- the lines of some first steps, of which the entries were made, and then that there is no memory
-abbrev pub ClosesEarly : List Step → List FirstEntry → Option (List ℕ) → Option (List ℕ) → Type 0 → Type 0
+-- the texts of some first steps, whose lines the desk has, and then that there is no memory
+abbrev pub ClosesEarly : List Step → List LineData → Option (List ℕ) → Option (List ℕ) → Type 0 → Type 0
 ClosesEarly steps made old new Failed = (done : List Step) × IsFrontOf done steps × MadeBy done made × Closes (text_of done) (closing_line ending.NoMemory) old new Failed
 
 -- What is written at each ending: the whole text, a front of it, some of its first lines and the closing line, or the closing line
--- alone. A run that is done has made every entry.
+-- alone. The desk of a run that is done has every line.
 abbrev pub Writes : Ending → Option FirstRun → Option (List ℕ) → Option (List ℕ) → Type 0 → Type 0
-Writes ending.Done (Some run) old new Failed = (run.desk ≡ entries_of (run_steps run)) × Appends old new (text_of (run_steps run))
-Writes ending.WriteFault (Some run) old new Failed = IsCut (run_steps run) run.desk old new
-Writes ending.NoMemory (Some run) old new Failed = ClosesEarly (run_steps run) run.desk old new Failed
+Writes ending.Done (Some run) old new Failed = (run.desk.lines ≡ lines_of (run_steps run)) × Appends old new (text_of (run_steps run))
+Writes ending.WriteFault (Some run) old new Failed = IsCut (run_steps run) run.desk.lines old new
+Writes ending.NoMemory (Some run) old new Failed = ClosesEarly (run_steps run) run.desk.lines old new Failed
 Writes ending.NoMemory None old new Failed = Closes [] (closing_line ending.NoMemory) old new Failed
 Writes ending.Usage None old new Failed = Closes [] (closing_line ending.Usage) old new Failed
 Writes (ending.Refused line reason) None old new Failed = Closes [] (closing_line (ending.Refused line reason)) old new Failed

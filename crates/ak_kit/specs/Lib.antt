@@ -1,8 +1,12 @@
+pub mod Dispatched
 pub mod FirstInput
 pub mod Kit
 pub mod Laws
+pub mod Messages
+pub mod Opening
 pub mod Reading
 pub mod Reply
+pub mod Rows
 pub mod Run
 pub mod Seen
 pub mod Steps

@@ -1,9 +1,9 @@
 -- The replies that a desk makes, and the text of their numbers.
-use Rattle.std.specs.Prelude.{◌≡◌, ◌⊎◌, ℕ, ℤ, List, [], ◌++◌, codes, Result, Ok, Err}
+use Rattle.std.specs.Prelude.{◌≡◌, ◌⊎◌, ℕ, ℤ, List, [], ◌++◌, codes, Result, Ok}
 use Rattle.std.specs.Fmt.{signed_decimal}
 use Rattle.ak_message.specs.declared.fault.FindFault.{FindFault}
 use Rattle.ak_message.specs.Message.{ValueData, MessageData, int32_value}
-use Rattle.first_desk.specs.Messages.{value_reply, no_reply, not_understood}
+use Rattle.ak_kit.specs.Messages.{value_reply, no_reply, not_understood}
 
 -- with a value, or without a field
 abbrev pub IsAnswer : MessageData → Type 0

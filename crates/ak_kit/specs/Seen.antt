@@ -4,6 +4,7 @@ use Rattle.std.specs.Borrow.{Bor}
 use Rattle.ak_kit.specs.declared.fault.ScriptFault.{ScriptFault}
 use Rattle.ak_kit.specs.declared.script.FirstScript.{FirstScript}
 use Rattle.ak_kit.specs.FirstInput.{Script}
+use Rattle.ak_kit.specs.Reading.{App}
 use Rattle.ak_kit.specs.declared.fault.ScriptFault.TheVariants as fault
 
 abbrev pub seen : Bor (List ℕ) → List ℕ
@@ -11,6 +12,13 @@ seen bytes = bytes.now
 
 abbrev pub pair_of : Bor (List ℕ) × Bor (List ℕ) → List ℕ × List ℕ
 pair_of x = (x.0.now, x.1.now)
+
+-- the path, the looper's name and capacity, and the rest
+abbrev pub opening_seen : Bor (List ℕ) × Bor (List ℕ) × ℕ × Bor (List ℕ) → List ℕ × List ℕ × ℕ × List ℕ
+opening_seen x = (x.0.now, x.1.now, x.2, x.3.now)
+
+abbrev pub opening_told : (App × (List ℕ × ℕ)) × List ℕ → List ℕ × List ℕ × ℕ × List ℕ
+opening_told x = (x.0.0.path, x.0.1.0, x.0.1.1, x.1)
 
 -- What a function returned, seen by view, is what reading gives, unless memory ran out.
 abbrev pub Fails : {Y : Type 0} → ScriptFault → Option Y → Type 0
@@ -21,9 +29,15 @@ abbrev pub Gives : {X Y : Type 0} → (X → Y) → Result X ScriptFault → Opt
 Gives view (Ok x) read = read ≡ Some (view x)
 Gives view (Err e) read = Fails e read
 
--- the properties and the words asked
-abbrev pub seen_script : FirstScript → List (List ℕ × ℤ) × List (List ℕ)
-seen_script s = (s.rows.items, s.asked.items)
+-- the looper's name and capacity, the properties, and the words asked
+pub record Parts : Type 0 where
+  pub looper : List ℕ
+  pub capacity : ℕ
+  pub rows : List (List ℕ × ℤ)
+  pub asked : List (List ℕ)
 
-abbrev pub parts_of : Script → List (List ℕ × ℤ) × List (List ℕ)
-parts_of s = (s.rows, s.asked)
+abbrev pub seen_script : FirstScript → Parts
+seen_script s = record { looper = s.looper; capacity = s.capacity; rows = s.rows.items; asked = s.asked.items }
+
+abbrev pub parts_of : Script → Parts
+parts_of s = record { looper = s.looper; capacity = s.capacity; rows = s.rows; asked = s.asked }

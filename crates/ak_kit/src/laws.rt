@@ -1,14 +1,26 @@
 //! Laws of the definitions that the contracts cite.
 
-ghost use Rattle.ak_kit.specs.Laws.{OneScript, StepsMatch};
+ghost use Rattle.ak_kit.specs.Laws as law;
 
 /// An input is the text of one script.
 pub fn one_script()
-    ensures { OneScript }
+    ensures { law.OneScript }
 {}
 
-/// The entries of a script's steps have the positions 0, 1, 2, .., the messages of the launch and of each
-/// word, and the replies that its properties give. Its text has one line for each.
+/// The lines of a script's steps have the positions 0, 1, 2, .., the items of the launch and of each word,
+/// and the replies that its properties give. Its text has one line for each. The machine of the desk allows
+/// each front of the list.
 pub fn steps_match()
-    ensures { StepsMatch }
+    ensures steps { law.StepsMatch }
+    ensures items { law.ItemsSay }
+{}
+
+/// The message that gets a property of the looper is answered with the property's value.
+pub fn each_property_is_answered()
+    ensures { law.EachPropertyIsAnswered }
+{}
+
+/// The message that gets a property that the looper does not have is not understood.
+pub fn no_other_is_answered()
+    ensures { law.NoOtherIsAnswered }
 {}

@@ -6,6 +6,8 @@
 
 mod fault;
 mod laws;
+mod looper;
+mod messages;
 mod reading;
 mod reply;
 mod run;
@@ -13,5 +15,5 @@ mod script;
 mod stopped;
 mod top;
 
-pub use laws::{one_script, steps_match};
+pub use laws::{each_property_is_answered, no_other_is_answered, one_script, steps_match};
 pub use top::{FirstRun, KitEnd, kit};

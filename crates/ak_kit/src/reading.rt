@@ -5,11 +5,10 @@ ghost use Rattle.std.specs.Option.{option_map};
 ghost use Rattle.std.specs.List.{suffix_len, list_any};
 ghost use Rattle.std.specs.Str.{bytes_eq};
 ghost use Rattle.ak_base.specs.Word as word;
-ghost use Rattle.ak_kit.specs.FirstInput.{IsTextOf, IsNoScript, name_of, is_path, is_signature, is_mode, is_reserved, is_askable, names_differ};
+ghost use Rattle.ak_kit.specs.FirstInput.{AreParts, IsTextOf, IsNoScript, name_of, is_path, is_signature, is_mode, is_reserved, is_askable, names_differ};
 ghost use Rattle.ak_kit.specs.Reading as reads;
 ghost use Rattle.ak_kit.specs.Reading.{where_true};
-ghost use Rattle.first_desk.specs.Rows.{IsRows};
-ghost use Rattle.ak_kit.specs.Seen.{Gives, seen, pair_of, seen_script, parts_of};
+ghost use Rattle.ak_kit.specs.Seen.{Gives, opening_seen, opening_told, pair_of, parts_of, seen, seen_script};
 
 use crate::fault::ScriptFault;
 use crate::script::FirstScript;
@@ -151,13 +150,18 @@ fn capacity_of(text: &[u8]) -> Option<u32>
 }
 
 #[tactic(auto, unfolding(crate::specs::Reading::looper_at))]
-fn looper(bytes: &[u8]) -> Option<&[u8]>
-    ensures { option_map seen result ≡ option_map (λ x. x.1) (reads.looper_at bytes.now) }
+fn looper(bytes: &[u8]) -> Option<((&[u8], u32), &[u8])>
+    ensures looper { option_map (λ x. ((x.0.0.now, x.0.1), x.1.now)) result ≡ reads.looper_at bytes.now }
+    ensures name { IfSome result (λ x. word.is_word x.0.0.now ≡ true) }
 {
     let (name, rest) = field(after(bytes, b"looper ")?, b' ')?;
     let (number, rest) = field(after(rest, b"capacity ")?, b'\n')?;
-    capacity_of(number)?;
-    if is_word(name) { Some(rest) } else { None }
+    let capacity = capacity_of(number)?;
+    if is_word(name) {
+        Some(((name, capacity), rest))
+    } else {
+        None
+    }
 }
 
 /// The text of a name.
@@ -285,18 +289,20 @@ fn names_differ(rows: &[(Text, i32)]) -> bool
 }
 
 #[tactic(auto, unfolding(crate::specs::Reading::opening_at))]
-fn opening(bytes: &[u8]) -> Option<(&[u8], &[u8])>
-    ensures { option_map pair_of result ≡ option_map (λ x. (x.0.0.path, x.1)) (reads.opening_at bytes.now) }
+fn opening(bytes: &[u8]) -> Option<(&[u8], &[u8], u32, &[u8])>
+    ensures opening { option_map opening_seen result ≡ option_map opening_told (reads.opening_at bytes.now) }
+    ensures name { IfSome result (λ x. word.is_word x.1.now ≡ true) }
 {
     let (path, rest) = app(after(bytes, b"kit 1\n")?)?;
-    Some((path, looper(rest)?))
+    let ((name, capacity), rest) = looper(rest)?;
+    Some((path, name, capacity, rest))
 }
 
 #[tactic(auto, unfolding(crate::specs::Reading::script_of))]
 fn script(alloc: Global, input: &[u8]) -> Result<FirstScript, ScriptFault>
     ensures { Gives seen_script result (option_map parts_of (reads.script_of input.now)) }
 {
-    let Some((path, rest)) = opening(input) else {
+    let Some((path, name, capacity, rest)) = opening(input) else {
         return Err(ScriptFault::NotYet);
     };
     let (rows, rest) = rows(alloc, rest)?;
@@ -304,13 +310,18 @@ fn script(alloc: Global, input: &[u8]) -> Result<FirstScript, ScriptFault>
     if !names_differ(&rows) {
         return Err(ScriptFault::NotYet);
     }
-    Ok(FirstScript { rows, asked })
+    Ok(FirstScript {
+        looper: text_of(alloc, name)?,
+        capacity,
+        rows,
+        asked,
+    })
 }
 
 /// The script that the input is the text of.
 pub(crate) fn read_script(alloc: Global, input: &[u8]) -> Result<FirstScript, ScriptFault>
-    ensures found { IfOk result (λ script. IsTextOf script.rows.items script.asked.items input.now) }
-    ensures rows { IfOk result (λ script. IsRows script.rows.items) }
+    ensures found { IfOk result (λ script. IsTextOf script.looper script.capacity script.rows.items script.asked.items input.now) }
+    ensures parts { IfOk result (λ script. AreParts script.looper script.capacity script.rows.items script.asked.items) }
     ensures none { IsErrOf result ScriptFault.NotYet → IsNoScript input.now }
 {
     if input.len() > INPUT_LIMIT {

@@ -1,21 +1,26 @@
-//! Carries out a script on the calling thread: one step after the other, each with its entry on the desk
-//! and then its line.
+//! Carries out a script on the calling thread: one step after the other, each with its line in the desk's
+//! list and then its text.
 
-ghost use Rattle.std.specs.Prelude.{◌≡◌, ◌≤◌, ◌⊎◌, [], ◌∷◌, ◌++◌, length, codes, OnOk, OnErr, IfOk, IsErrOf};
-ghost use Rattle.ak_message.specs.MessageText.{message_text};
-ghost use Rattle.first_desk.specs.Desk.{dispatched};
-ghost use Rattle.first_desk.specs.Messages.{get_of};
+ghost use Rattle.std.specs.Prelude.{◌≡◌, ◌≤◌, ◌<◌, ◌-◌, ◌^◌, ◌⊎◌, [], ◌∷◌, ◌++◌, length, true, OnOk, OnErr, IfOk, IsErrOf};
+ghost use Rattle.std.specs.List.{list_all};
+ghost use Rattle.ak_flatten.specs.Spelling.{spelling};
 ghost use Rattle.ak_outside.specs.Faults.{Rose};
+ghost use Rattle.ak_kit.specs.Dispatched.{IsQuiet, IsResting};
+ghost use Rattle.ak_kit.specs.FirstInput.{is_askable};
+ghost use Rattle.ak_kit.specs.Opening.{IsOpening};
 ghost use Rattle.ak_kit.specs.Reply.{IsAnswer};
-ghost use Rattle.ak_kit.specs.Run.{steps_of, hey_step, launch_step, reply_text_line};
-ghost use Rattle.ak_kit.specs.Steps.{DoesStep, Carries};
+ghost use Rattle.ak_kit.specs.Run.{hey_step, item_of, launch_step, line_of, reply_of, reply_text_line, steps_of};
+ghost use Rattle.ak_kit.specs.Steps.{AddsLine, DoesStep, Carries};
 
+use crate::messages::{get_message, ready_message};
 use crate::reply::print_reply;
 use crate::stopped::Stopped;
 use ak_base::{Bytes, NoMemory, Text};
-use ak_message::Message;
+use ak_desk::Desk;
+use ak_flatten::{Duty, FlattenFault, Item, Taken};
+use ak_message::{Message, Target};
 use ak_outside::{Sink, write_all};
-use first_desk::{Desk, get_message, ready_message};
+use ak_turn::{Book, Clock};
 use std::alloc::Global;
 
 // The line of the launch.
@@ -32,14 +37,66 @@ fn reply_line(alloc: Global, reply: &Message) -> Result<Bytes, NoMemory>
     Ok(line)
 }
 
+// The message for the preferred handler, from no team.
+fn item(alloc: Global, duty: Duty, message: &Message) -> Result<Item, NoMemory>
+    requires short { length (spelling message.now) ≤ 4096 }
+    requires unpopped { message.now.popped ≡ 0 }
+    ensures { IfOk result (λ item. item ≡ item_of duty message.now) }
+{
+    match Item::new(alloc, Target::Preferred, 0, false, duty, message) {
+        Ok(item) => Ok(item),
+        Err(fault) => {
+            // It is short, so nothing but memory can be missing.
+            prove!(matches!(fault, FlattenFault::NoMemory));
+            Err(NoMemory)
+        }
+    }
+}
+
+// Carries out one message that wants nothing from outside, and answers its reply. Where there is no memory
+// the list stays as it was.
+#[tactic(auto, using(crate::proofs::Dispatching::kept))]
+fn dispatch(desk: &mut Desk, clock: &mut Clock, item: Item) -> Result<Message, NoMemory>
+    requires rests { IsResting desk.old clock.old }
+    requires quiet { IsQuiet desk.old.opening item }
+    requires time { clock.old.time < 2 ^ 63 }
+    ensures opening { desk.new.opening ≡ desk.old.opening }
+    ensures reply { IfOk result (λ reply. reply ≡ reply_of desk.old.opening item) }
+    ensures line { OnOk result (desk.new.lines ≡ desk.old.lines ++ line_of desk.old.opening clock.old.time item ∷ []) }
+    ensures rests { OnOk result (IsResting desk.new clock.new) }
+    ensures err { OnErr result (desk.new.lines ≡ desk.old.lines) }
+{
+    let taken = Taken {
+        position: desk.len(),
+        item,
+    };
+    desk.begin(&taken)?;
+    desk.want()?;
+    let made = desk.end(clock);
+    Ok(made.reply.unwrap())
+}
+
 // Dispatches the message that gets the property, and makes the line of its reply.
-fn ask(alloc: Global, property: &Text, desk: &mut Desk) -> Result<Bytes, NoMemory>
-    ensures line { IfOk result (λ line. line ≡ (hey_step desk.old.rows (length desk.old.entries) property.now).line) }
-    ensures ok { IfOk result (λ _. desk.new ≡ dispatched desk.old (get_of property.now)) }
-    ensures err { OnErr result ((desk.new ≡ desk.old) ⊎ (desk.new ≡ dispatched desk.old (get_of property.now))) }
+fn ask(
+    alloc: Global,
+    property: &Text,
+    desk: &mut Desk,
+    clock: &mut Clock,
+) -> Result<Bytes, NoMemory>
+    requires rests { IsResting desk.old clock.old }
+    requires opening { IsOpening desk.old.opening }
+    requires property { is_askable property.now ≡ true }
+    requires begun { 1 ≤ clock.old.time }
+    requires time { clock.old.time < 2 ^ 63 }
+    ensures opening { desk.new.opening ≡ desk.old.opening }
+    ensures text { IfOk result (λ line. line ≡ (hey_step desk.old.opening (clock.old.time - 1) property.now).text) }
+    ensures line { OnOk result (AddsLine (hey_step desk.old.opening (clock.old.time - 1) property.now) desk.old.lines desk.new.lines) }
+    ensures rests { OnOk result (IsResting desk.new clock.new) }
+    ensures err { OnErr result ((desk.new.lines ≡ desk.old.lines) ⊎ AddsLine (hey_step desk.old.opening (clock.old.time - 1) property.now) desk.old.lines desk.new.lines) }
 {
     let message = get_message(alloc, property.try_clone()?)?;
-    let reply = desk.dispatch(message)?;
+    let item = item(alloc, Duty::Slot(desk.len() - 1), &message)?;
+    let reply = dispatch(desk, clock, item)?;
     reply_line(alloc, &reply)
 }
 
@@ -47,28 +104,44 @@ fn hey<K: Sink>(
     alloc: Global,
     property: &Text,
     desk: &mut Desk,
+    clock: &mut Clock,
     sink: &mut K,
 ) -> Result<(), Stopped>
-    ensures rows { desk.new.rows ≡ desk.old.rows }
-    ensures step { DoesStep result (hey_step desk.old.rows (length desk.old.entries) property.now) desk.old.entries desk.new.entries (K.written sink.old) (K.written sink.new) }
+    requires rests { IsResting desk.old clock.old }
+    requires opening { IsOpening desk.old.opening }
+    requires property { is_askable property.now ≡ true }
+    requires begun { 1 ≤ clock.old.time }
+    requires time { clock.old.time < 2 ^ 63 }
+    ensures opening { desk.new.opening ≡ desk.old.opening }
+    ensures step { DoesStep result (hey_step desk.old.opening (clock.old.time - 1) property.now) desk.old.lines desk.new.lines (K.written sink.old) (K.written sink.new) }
+    ensures rests { OnOk result (IsResting desk.new clock.new) }
     ensures cause { IsErrOf result Stopped.WriteFault → Rose (K.faults sink.old) (K.faults sink.new) }
     ensures never_falls { K.faults sink.old ≤ K.faults sink.new }
     ensures kept { OnOk result (K.faults sink.new ≡ K.faults sink.old) }
 {
-    let line = ask(alloc, property, desk)?;
+    let line = ask(alloc, property, desk, clock)?;
     write_all(sink, line.as_slice())?;
     Ok(())
 }
 
-fn launch<K: Sink>(alloc: Global, desk: &mut Desk, sink: &mut K) -> Result<(), Stopped>
-    requires { desk.old.entries ≡ [] }
-    ensures rows { desk.new.rows ≡ desk.old.rows }
-    ensures step { DoesStep result (launch_step desk.old.rows) desk.old.entries desk.new.entries (K.written sink.old) (K.written sink.new) }
+fn launch<K: Sink>(
+    alloc: Global,
+    desk: &mut Desk,
+    clock: &mut Clock,
+    sink: &mut K,
+) -> Result<(), Stopped>
+    requires rests { IsResting desk.old clock.old }
+    requires opening { IsOpening desk.old.opening }
+    requires begins { clock.old.time ≡ 0 }
+    ensures opening { desk.new.opening ≡ desk.old.opening }
+    ensures step { DoesStep result (launch_step desk.old.opening) desk.old.lines desk.new.lines (K.written sink.old) (K.written sink.new) }
+    ensures rests { OnOk result (IsResting desk.new clock.new) }
     ensures cause { IsErrOf result Stopped.WriteFault → Rose (K.faults sink.old) (K.faults sink.new) }
     ensures never_falls { K.faults sink.old ≤ K.faults sink.new }
     ensures kept { OnOk result (K.faults sink.new ≡ K.faults sink.old) }
 {
-    desk.dispatch(ready_message(alloc))?;
+    let item = item(alloc, Duty::None, &ready_message(alloc))?;
+    dispatch(desk, clock, item)?;
     write_all(sink, LAUNCHED)?;
     Ok(())
 }
@@ -78,18 +151,24 @@ pub(crate) fn carry_out<K: Sink>(
     alloc: Global,
     asked: &[Text],
     desk: &mut Desk,
+    clock: &mut Clock,
     sink: &mut K,
 ) -> Result<(), Stopped>
-    requires { desk.old.entries ≡ [] }
-    ensures rows { desk.new.rows ≡ desk.old.rows }
-    ensures steps { Carries result (steps_of desk.old.rows asked.now) desk.new.entries (K.written sink.old) (K.written sink.new) }
+    requires rests { IsResting desk.old clock.old }
+    requires opening { IsOpening desk.old.opening }
+    requires begins { clock.old.time ≡ 0 }
+    requires lines { desk.old.lines ≡ [] }
+    requires few { length asked.now ≤ 7999 }
+    requires asked { list_all is_askable asked.now ≡ true }
+    ensures opening { desk.new.opening ≡ desk.old.opening }
+    ensures steps { Carries result (steps_of desk.old.opening asked.now) desk.new.lines (K.written sink.old) (K.written sink.new) }
     ensures cause { IsErrOf result Stopped.WriteFault → Rose (K.faults sink.old) (K.faults sink.new) }
     ensures never_falls { K.faults sink.old ≤ K.faults sink.new }
     ensures kept { OnOk result (K.faults sink.new ≡ K.faults sink.old) }
 {
-    launch(alloc, desk, sink)?;
+    launch(alloc, desk, clock, sink)?;
     for property in asked {
-        hey(alloc, property, desk, sink)?;
+        hey(alloc, property, desk, clock, sink)?;
     }
     Ok(())
 }

@@ -1,28 +1,31 @@
 ghost use Rattle.std.specs.Prelude.{◌≡◌, ◌≢◌, ◌≤◌, [], ◌↔◌, ◌⊎◌, ℕ, List, Some, IfSome, IfOk, IsTrue};
 ghost use Rattle.ak_outside.specs.Faults.{Rose, Stayed};
 ghost use Rattle.ak_outside.specs.Source.{ConsumesAtMost};
-ghost use Rattle.first_desk.specs.Rows.{IsRows};
-ghost use Rattle.ak_kit.specs.FirstInput.{Script, IsFirstInput, IsNoScript, IsTextOf};
-ghost use Rattle.ak_kit.specs.Run.{entries_of};
-ghost use Rattle.ak_kit.specs.Steps.{IsFrontOf};
+ghost use Rattle.ak_kit.specs.FirstInput.{AreParts, Script, IsFirstInput, IsNoScript};
 ghost use Rattle.ak_kit.specs.Kit as kit;
 
 use crate::fault::ScriptFault;
+use crate::looper::desk_of;
 use crate::reading::{INPUT_LIMIT, read_script};
 use crate::run::carry_out;
 use crate::script::FirstScript;
 use crate::stopped::Stopped;
-use ak_base::{Bytes, Ending, Items, RefusalKind, Text};
+use ak_base::{Bytes, Ending, Items, RefusalKind, Text, ThreadId};
+use ak_desk::Desk;
 use ak_outside::{ReadFault, Sink, Source, read_all, write_all};
-use first_desk::{Desk, FirstEntry};
+use ak_turn::Clock;
 use std::alloc::Global;
 
-/// What a run did: the properties and the words of its script, and all that its desk dispatched.
+/// The thread of looper 0, which alone dispatches.
+const LOOPER_THREAD: ThreadId = ThreadId(10_000);
+
+/// What a run did: the properties and the words of its script, and the desk of its looper, whose list has all
+/// that was dispatched. Where memory ran out in the middle of a message, that is still begun on the desk.
 #[derive(Drop)]
 pub struct FirstRun {
     pub rows: Items<(Text, i32)>,
     pub asked: Items<Text>,
-    pub desk: Items<FirstEntry>,
+    pub desk: Desk,
 }
 
 /// How the program ends, with the run where an input was read and was a script.
@@ -105,26 +108,34 @@ fn close<K: Sink>(sink: &mut K, ending: Ending, run: Option<FirstRun>) -> KitEnd
 }
 
 fn run_script<K: Sink>(alloc: Global, script: FirstScript, sink: &mut K) -> KitEnd
-    requires { IsRows script.rows.items }
+    requires { AreParts script.looper script.capacity script.rows.items script.asked.items }
     ensures status { result.status ≡ kit.status_of result.ending }
     ensures ending { kit.IsRunEnding result.ending }
-    ensures run { IfSome result.run (λ run. (run.rows ≡ script.rows.items) × (run.asked ≡ script.asked.items)) }
-    ensures entries { IfSome result.run (λ run. IsFrontOf run.desk (entries_of (kit.run_steps run))) }
+    ensures run { IfSome result.run (λ run. kit.IsRunWith run script.looper script.capacity script.rows.items script.asked.items) }
+    ensures lines { IfSome result.run kit.HasLines }
     ensures written { kit.Writes result.ending result.run (K.written sink.old) (K.written sink.new) (Rose (K.faults sink.old) (K.faults sink.new)) }
     ensures write_fault { result.ending ≡ Ending.WriteFault → Rose (K.faults sink.old) (K.faults sink.new) }
     ensures done { result.ending ≡ Ending.Done → K.faults sink.new ≡ K.faults sink.old }
     ensures never_falls { K.faults sink.old ≤ K.faults sink.new }
 {
-    let FirstScript { rows, asked } = script;
-    let Ok(mut desk) = Desk::first(alloc, rows) else {
+    let FirstScript {
+        looper,
+        capacity,
+        rows,
+        asked,
+    } = script;
+    let Ok(mut desk) = desk_of(alloc, looper, capacity, &rows) else {
         return close(sink, Ending::NoMemory, None);
     };
-    let carried = carry_out(alloc, &asked, &mut desk, sink);
-    let (rows, entries) = desk.into_parts();
+    let mut clock = Clock {
+        thread: LOOPER_THREAD,
+        time: 0,
+    };
+    let carried = carry_out(alloc, &asked, &mut desk, &mut clock, sink);
     let run = Some(FirstRun {
-        rows,
+        rows: Items::from_vec(rows),
         asked: Items::from_vec(asked),
-        desk: entries,
+        desk,
     });
     match carried {
         Ok(()) => close(sink, Ending::Done, run),
@@ -136,8 +147,8 @@ fn run_input<K: Sink>(alloc: Global, input: &[u8], sink: &mut K) -> KitEnd
     ensures status { result.status ≡ kit.status_of result.ending }
     ensures ending { kit.IsInputEnding result.ending }
     ensures refused { result.ending ≡ kit.not_yet → IsNoScript input.now }
-    ensures run { IfSome result.run (λ run. IsTextOf run.rows run.asked input.now) }
-    ensures entries { IfSome result.run (λ run. IsFrontOf run.desk (entries_of (kit.run_steps run))) }
+    ensures run { IfSome result.run (λ run. kit.IsRunOf run input.now) }
+    ensures lines { IfSome result.run kit.HasLines }
     ensures written { kit.Writes result.ending result.run (K.written sink.old) (K.written sink.new) (Rose (K.faults sink.old) (K.faults sink.new)) }
     ensures write_fault { result.ending ≡ Ending.WriteFault → Rose (K.faults sink.old) (K.faults sink.new) }
     ensures done { result.ending ≡ Ending.Done → K.faults sink.new ≡ K.faults sink.old }
@@ -179,10 +190,10 @@ pub fn kit<S: Source, K: Sink>(
 
     // The input.
     ensures refused { result.ending ≡ kit.not_yet → kit.SomeInput IsNoScript (S.left source.old) (S.left source.new) }
-    ensures run { IfSome result.run (λ run. kit.SomeInput (IsTextOf run.rows run.asked) (S.left source.old) (S.left source.new)) }
+    ensures run { IfSome result.run (λ run. kit.SomeInput (kit.IsRunOf run) (S.left source.old) (S.left source.new)) }
 
-    // What the desk made of it, and what was written.
-    ensures entries { IfSome result.run (λ run. IsFrontOf run.desk (entries_of (kit.run_steps run))) }
+    // The desk's list, and what was written.
+    ensures lines { IfSome result.run kit.HasLines }
     ensures written { kit.Writes result.ending result.run (K.written sink.old) (K.written sink.new) (Rose (K.faults sink.old) (K.faults sink.new)) }
 
     // A fault has its cause, and where a call failed the run doesn't go on.

@@ -1,6 +1,8 @@
 use super::*;
-use ak_base::{Code, NoMemory};
+use ak_base::NoMemory;
+use ak_desk::{DeskEvent, EntryRoute};
 use ak_outside::{ListSink, SourceRead, TextSource};
+use ak_turn::Book;
 use std::test::Fail;
 
 const INPUT: &str = "kit 1
@@ -46,9 +48,9 @@ struct Outcome {
 
 impl Outcome {
     // How many entries the desk made, where there is a run.
-    fn entries(&self) -> Option<usize> {
+    fn entries(&self) -> Option<u64> {
         match &self.end.run {
-            Some(run) => Some(run.desk.as_slice().len()),
+            Some(run) => Some(run.desk.len()),
             None => None,
         }
     }
@@ -100,16 +102,29 @@ fn a_script_is_run(rt: HostRuntime) -> Result<(), Fail> {
     }
     assert_eq!(rt; run.asked.as_slice().len(), 2);
     let wants = [
-        (0, Code::READY_TO_RUN, Code::NO_REPLY),
-        (1, Code::GET, Code::REPLY),
-        (2, Code::GET, Code::NOT_UNDERSTOOD),
+        EntryRoute::To(0),
+        EntryRoute::To(0),
+        EntryRoute::NotUnderstood,
     ];
-    for (entry, (position, message, reply)) in run.desk.as_slice().iter().zip(wants) {
-        assert_eq!(rt; entry.position, position);
-        assert_eq!(rt; entry.message.what(), message);
-        assert_eq!(rt; entry.reply.what(), reply);
+    for (place, want) in wants.iter().enumerate() {
+        let entry = run.desk.entry(place as u64)?.ok_or("no entry")?;
+        assert_eq!(rt; entry.stamp, place as u64 + 1);
+        assert_eq!(rt; entry.by, ThreadId(10_000));
+        let DeskEvent::Dispatched {
+            position,
+            route,
+            answers,
+            quit,
+        } = entry.event
+        else {
+            return Err("an edit".into());
+        };
+        assert_eq!(rt; position, place as u64);
+        assert_eq!(rt; route, *want);
+        assert_eq!(rt; answers.as_slice().len(), 0);
+        assert!(rt; !quit);
     }
-    assert_eq!(rt; run.desk.as_slice().len(), 3);
+    assert_eq!(rt; run.desk.len(), 3);
     Ok(())
 }
 
