@@ -8,6 +8,8 @@ mod envelope;
 mod fault;
 mod hands;
 mod posting;
+#[cfg(test)]
+mod tests;
 
 pub use asking::{Reply, ask};
 pub use envelope::Envelope;

@@ -1,7 +1,9 @@
-ghost use Rattle.std.specs.Prelude.{◌≡◌, ◌≤◌, ◌<◌, ◌↔◌, false, length, IsErrOf};
+ghost use Rattle.std.specs.Prelude.{◌≡◌, ◌≤◌, ◌<◌, ◌↔◌, ℕ, false, length, IsErrOf};
+ghost use Rattle.ak_base.specs.declared.thread.ThreadId.{ThreadId};
 ghost use Rattle.ak_message.specs.Fields.{specifier_count};
 ghost use Rattle.ak_flatten.specs.Spelling.{spelling};
-ghost use Rattle.ak_port.specs.PortCalls.{HasAnswered, IsAtPort, KeepsSeat};
+ghost use Rattle.ak_port.specs.PortCalls.{CanTake, HasAnswered, IsAtPort};
+ghost use Rattle.ak_port.specs.SeatKept.{KeepsSeat};
 ghost use Rattle.ak_messenger.specs.Sends.{post_answer, post_event};
 
 use crate::envelope::Envelope;
@@ -44,11 +46,14 @@ pub fn post<R: Wait>(
     requires popped { e.popped ≤ specifier_count m.now.fields }
     ensures answered { HasAnswered (post_event e m.now result) h.old.clock h.new.clock seat.old seat.new }
     ensures too_long { IsErrOf result SendFault.TooLong ↔ (4096 < length (spelling m.now)) }
+    ensures unsent { IsErrOf result SendFault.TooLong → seat.new ≡ seat.old }
     ensures would_block { IsErrOf result SendFault.WouldBlock → how ≡ How.NoWait }
-    ensures book { h.new.book ≡ h.old.book }
-    ensures book_seat { h.new.book_seat ≡ h.old.book_seat }
     ensures port { IsAtPort seat.old → IsAtPort seat.new }
     ensures seat { KeepsSeat seat.old seat.new }
+    ensures taking { (thread : ThreadId) (room : ℕ) → CanTake thread room seat.old → CanTake thread room seat.new }
+    ensures book { h.new.book ≡ h.old.book }
+    ensures book_seat { h.new.book_seat ≡ h.old.book_seat }
+    ensures clock { h.new.clock.thread ≡ h.old.clock.thread }
 {
     let item = e.item(alloc, e.duty(), m)?;
     posted(write(port, rt, seat, &mut h.clock, item, how))
