@@ -4,7 +4,8 @@ use Rattle.ak_turn.specs.declared.clock.Clock.{Clock}
 use Rattle.ak_turn.specs.Seats.{HasCalled}
 use Rattle.ak_turn.proofs.Calls.{seen_then_seen, seen_then_called}
 use Rattle.ak_port.specs.declared.port_entry.PortEvent.{PortEvent}
-use Rattle.ak_port.specs.PortCalls.{PortSeat, by_number, entry_now, clock_after, HasAnswered, HasEntered, HasLooked, KeepsSeat}
+use Rattle.ak_port.specs.PortCalls.{PortSeat, by_number, entry_now, clock_after, HasAnswered, HasEntered, HasLooked}
+use Rattle.ak_port.specs.SeatKept.{KeepsSeat}
 
 -- a call that looked, and then looked or answered
 pub looked_then_looked : (k l m : Clock) (a b c : PortSeat) → HasLooked k l a b → HasLooked l m b c → HasLooked k m a c

@@ -11,7 +11,8 @@ use Rattle.ak_port.specs.declared.port_entry.PortEntry.{PortEntry}
 use Rattle.ak_port.specs.declared.port_entry.PortEvent.TheVariants as event
 use Rattle.ak_base.specs.declared.thread.ThreadId.{ThreadId}
 use Rattle.ak_port.specs.declared.port_entry.TakeAnswer.{TakeAnswer}
-use Rattle.ak_port.specs.PortCalls.{PortSeat, by_number, entry_now, HasEntered, IsAtPort, KeepsSeat, take_count, take_event}
+use Rattle.ak_port.specs.PortCalls.{PortSeat, by_number, entry_now, HasEntered, IsAtPort, take_count, take_event}
+use Rattle.ak_port.specs.SeatKept.{KeepsSeat}
 use Rattle.ak_port.specs.PortMachine.{last_taken, state_of, written_in, written_item}
 use Rattle.ak_port.specs.PortWriters.{teams_in, HasSent, HasTaken, KnowsSent}
 use Rattle.ak_port.proofs.PortTaken.{takes_more}

@@ -14,7 +14,8 @@ use Rattle.ak_port.specs.declared.reply_entry.ReplyEntry.{ReplyEntry}
 use Rattle.ak_port.specs.declared.reply_entry.ReplyEvent.{ReplyEvent}
 use Rattle.ak_port.specs.declared.reply_entry.ReplyEvent.TheVariants.{Opened, Filled, Cancelled, Taken}
 use Rattle.ak_port.specs.Reply.{Stage, open_stage, filled_stage, cancelled_stage, taken_stage, SlotData, slot_of, with_stage, changed, slots_from, slots_after, BookStep, Replays, IsLegal}
-use Rattle.ak_port.specs.ReplySeats.{KeepsSeat, ReplySeat, maker_of, entry_at, stamped, HasEntered, HasLooked, HasFoundSettled, IsItsSlot, IsUntaken, IsUncancelled, MayTake, MayCancel}
+use Rattle.ak_port.specs.ReplySeats.{ReplySeat, maker_of, entry_at, stamped, HasEnteredBook, HasLookedAtBook, HasFoundSettled, IsItsSlot, IsUntaken, IsUncancelled, MayTake, MayCancel}
+use Rattle.ak_port.specs.SeatKept.{KeepsSeat}
 use Rattle.ak_port.proofs.ReplyHistory.{Replays-append, slots_from-append, slots_push}
 use Rattle.ak_port.proofs.ReplySlots.{get_left, get_last, get_same, get_other}
 
@@ -113,7 +114,7 @@ module _ (old given : ReplySeat) (lines : List ReplyEntry) (seen : IsGiven maker
   module _ (clock clock' : Clock) (lines' : List ReplyEntry) (new : ReplySeat) (idle : old.turn ≡ false) (thread : old.thread ≡ clock.thread.0)
       (finish : (line : ReplyEntry) → lines' ≡ given.front ++ line ∷ [] → new ≡ at_leisure (entered_by given line)) (legal : IsLegal lines') where
     -- the book has one entry more, and the turn was ended
-    pub entered : (event : ReplyEvent) → lines' ≡ lines ++ entry_at clock' event ∷ [] → clock' ≡ stamped clock lines → HasEntered event clock clock' old new
+    pub entered : (event : ReplyEvent) → lines' ≡ lines ++ entry_at clock' event ∷ [] → clock' ≡ stamped clock lines → HasEnteredBook clock clock' event old new
     entered event more clock_after =
         let line : ReplyEntry = entry_at clock' event in
         let after = finish line (more ∙ ap (λ (all : List ReplyEntry). all ++ line ∷ []) list) in
@@ -126,16 +127,16 @@ module _ (old given : ReplySeat) (lines : List ReplyEntry) (seen : IsGiven maker
           legal = subst IsLegal (more ∙ ap (λ (all : List ReplyEntry). all ++ line ∷ []) lines_are ∙ sym (ap (λ (s : ReplySeat). s.front) called)) legal;
         }
 
-    pub opened : (r : Result ℕ NoMemory) → IfOk r (λ n. lines' ≡ lines ++ entry_at clock' (Opened n) ∷ []) → OnOk r (clock' ≡ stamped clock lines) → IfOk r (λ n. HasEntered (Opened n) clock clock' old new)
+    pub opened : (r : Result ℕ NoMemory) → IfOk r (λ n. lines' ≡ lines ++ entry_at clock' (Opened n) ∷ []) → OnOk r (clock' ≡ stamped clock lines) → IfOk r (λ n. HasEnteredBook clock clock' (Opened n) old new)
     opened (Ok n) more clock_after = entered (Opened n) more clock_after
     opened (Err e) more clock_after = tt
 
-    pub taken : (n : ℕ) (r : Option (List ℕ)) → (IsSome r → lines' ≡ lines ++ entry_at clock' (Taken n) ∷ []) → (IsSome r → clock' ≡ stamped clock lines) → IfSome r (λ _. HasEntered (Taken n) clock clock' old new)
+    pub taken : (n : ℕ) (r : Option (List ℕ)) → (IsSome r → lines' ≡ lines ++ entry_at clock' (Taken n) ∷ []) → (IsSome r → clock' ≡ stamped clock lines) → IfSome r (λ _. HasEnteredBook clock clock' (Taken n) old new)
     taken n (Some flat) more clock_after = entered (Taken n) (more refl) (clock_after refl)
     taken n None more clock_after = tt
 
     -- the new slot is its opener's
-    its : (n : ℕ) → HasEntered (Opened n) clock clock' old new → IsItsSlot new.thread n open_stage new.front
+    its : (n : ℕ) → HasEnteredBook clock clock' (Opened n) old new → IsItsSlot new.thread n open_stage new.front
     its n call =
         let before = old.front ++ call.called.between in
         let line : ReplyEntry = entry_at clock' (Opened n) in
@@ -148,11 +149,11 @@ module _ (old given : ReplySeat) (lines : List ReplyEntry) (seen : IsGiven maker
               ∙ ap (slice_get (slots_after before ++ slot_of clock'.thread.0 open_stage ∷ [])) place ∙ get_last (slots_after before) (slot_of clock'.thread.0 open_stage) ∙ ap (λ (t : ℕ). Some (slot_of t open_stage)) by;
         }
 
-    pub opened_takes : (r : Result ℕ NoMemory) → IfOk r (λ n. HasEntered (Opened n) clock clock' old new) → IfOk r (λ n. MayTake new.thread n new.front)
+    pub opened_takes : (r : Result ℕ NoMemory) → IfOk r (λ n. HasEnteredBook clock clock' (Opened n) old new) → IfOk r (λ n. MayTake new.thread n new.front)
     opened_takes (Ok n) call = record { stage = open_stage; slot = its n call; untaken = tt }
     opened_takes (Err e) call = tt
 
-    pub opened_cancels : (r : Result ℕ NoMemory) → IfOk r (λ n. HasEntered (Opened n) clock clock' old new) → IfOk r (λ n. MayCancel new.thread n new.front)
+    pub opened_cancels : (r : Result ℕ NoMemory) → IfOk r (λ n. HasEnteredBook clock clock' (Opened n) old new) → IfOk r (λ n. MayCancel new.thread n new.front)
     opened_cancels (Ok n) call = record { stage = open_stage; slot = its n call; uncancelled = tt }
     opened_cancels (Err e) call = tt
 
@@ -168,7 +169,7 @@ module _ (old given : ReplySeat) (lines : List ReplyEntry) (seen : IsGiven maker
 pub seen_nothing : (x : ReplySeat) → HasSeen maker_of x x
 seen_nothing x = record { between = []; others = All-nil (λ entry. maker_of entry ≢ x.thread); after = let at : List ReplyEntry → ReplySeat = λ l. record x { front = l } in ap at (sym (append-nil x.front)) }
 
-pub seen_then_entered : (event : ReplyEvent) (clock a b : Clock) (x y z : ReplySeat) → HasSeen maker_of x y → a ≡ clock → HasEntered event a b y z → HasEntered event clock b x z
+pub seen_then_entered : (event : ReplyEvent) (clock a b : Clock) (x y z : ReplySeat) → HasSeen maker_of x y → a ≡ clock → HasEnteredBook a b event y z → HasEnteredBook clock b event x z
 seen_then_entered event clock a b x y z one same two =
     let line : ReplyEntry = entry_at b event in
     let both = seen_then_called maker_of line x y z one two.called in
@@ -179,7 +180,7 @@ seen_then_entered event clock a b x y z one same two =
       legal = two.legal;
     }
 
-seen_then_looked : (clock a b : Clock) (x y z : ReplySeat) → HasSeen maker_of x y → a ≡ clock → HasLooked a b y z → HasLooked clock b x z
+seen_then_looked : (clock a b : Clock) (x y z : ReplySeat) → HasSeen maker_of x y → a ≡ clock → HasLookedAtBook a b y z → HasLookedAtBook clock b x z
 seen_then_looked clock a b x y z one same two = record { seen = seen_then_seen maker_of x y z one two.seen; clock_after = two.clock_after ∙ same; legal = two.legal }
 
 pub seen_then_settled : (n : ℕ) (clock a b : Clock) (x y z : ReplySeat) → HasSeen maker_of x y → a ≡ clock → HasFoundSettled n a b y z → HasFoundSettled n clock b x z

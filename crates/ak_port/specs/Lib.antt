@@ -8,3 +8,4 @@ pub mod ReplyInside
 pub mod ReplyKept
 pub mod ReplyLaws
 pub mod ReplySeats
+pub mod SeatKept

@@ -58,15 +58,6 @@ abbrev pub HasAnswered : Option PortEvent → Clock → Clock → PortSeat → P
 HasAnswered (Some event) clock clock' seat seat' = HasEntered clock clock' event seat seat'
 HasAnswered None clock clock' seat seat' = HasLooked clock clock' seat seat'
 
--- what no call changes of a seat
-pub record KeepsSeat (seat seat' : PortSeat) : Type 0 where
-  pub lock : seat'.lock ≡ seat.lock
-  pub opening : seat'.opening ≡ seat.opening
-  pub thread : seat'.thread ≡ seat.thread
-  pub joined : seat'.joined ≡ seat.joined
-  pub turn : seat'.turn ≡ seat.turn
-  pub names : seat'.names ≡ seat.names
-
 -- the seat's front is the history of a port with the seat's taker
 abbrev pub IsAtPort : PortSeat → Type 0
 IsAtPort seat = IsSomeAnd seat.opening (λ (taker : ThreadId). IsPort taker.0 seat.front)

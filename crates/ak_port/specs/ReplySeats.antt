@@ -28,35 +28,26 @@ stamped clock entries = record clock { time = 1 + max clock.time (last_stamp_of 
 
 -- the call made one entry, with that event: it stands in the history behind all that the seat had seen and entries by others, with the
 -- stamp that the clock gives there
-pub record HasEntered (event : ReplyEvent) (clock clock' : Clock) (seat seat' : ReplySeat) : Type 0 where
+pub record HasEnteredBook (clock clock' : Clock) (event : ReplyEvent) (seat seat' : ReplySeat) : Type 0 where
   pub called : HasCalled maker_of (entry_at clock' event) seat seat'
   pub clock_after : clock' ≡ stamped clock (seat.front ++ called.between)
   pub legal : IsLegal seat'.front
 
 -- the call made no entry: the seat has seen entries by others
-pub record HasLooked (clock clock' : Clock) (seat seat' : ReplySeat) : Type 0 where
+pub record HasLookedAtBook (clock clock' : Clock) (seat seat' : ReplySeat) : Type 0 where
   pub seen : HasSeen maker_of seat seat'
   pub clock_after : clock' ≡ clock
   pub legal : IsLegal seat'.front
 
 -- the call made no entry, since the slot is filled or cancelled
 pub record HasFoundSettled (n : ℕ) (clock clock' : Clock) (seat seat' : ReplySeat) : Type 0 where
-  pub looked : HasLooked clock clock' seat seat'
+  pub looked : HasLookedAtBook clock clock' seat seat'
   pub settled : IsSettled n seat'.front
 
 -- the same, since it is filled
 pub record HasFoundFilled (n : ℕ) (clock clock' : Clock) (seat seat' : ReplySeat) : Type 0 where
-  pub looked : HasLooked clock clock' seat seat'
+  pub looked : HasLookedAtBook clock clock' seat seat'
   pub filled : IsFilled n seat'.front
-
--- what no call changes of a seat
-pub record KeepsSeat (seat seat' : ReplySeat) : Type 0 where
-  pub lock : seat'.lock ≡ seat.lock
-  pub opening : seat'.opening ≡ seat.opening
-  pub thread : seat'.thread ≡ seat.thread
-  pub joined : seat'.joined ≡ seat.joined
-  pub turn : seat'.turn ≡ seat.turn
-  pub names : seat'.names ≡ seat.names
 
 -- ---- slots of a thread
 -- in that list the slot was opened by the thread, and is so far

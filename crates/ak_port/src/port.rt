@@ -4,7 +4,8 @@ ghost use Rattle.std.specs.Arc.{arc_value};
 ghost use Rattle.std.specs.VecDeque.{deque_len, deque_capacity};
 ghost use Rattle.ak_turn.specs.Seats.{first_seat};
 ghost use Rattle.ak_port.specs.PortMachine.{last_taken, pending_count, state_of};
-ghost use Rattle.ak_port.specs.PortCalls.{clock_after, close_entry, making, take_count, take_event, write_entry, CanTake, GivesBack, HasAnswered, HasEntered, HasLooked, IfTook, IsAtPort, IsFull, KeepsSeat};
+ghost use Rattle.ak_port.specs.PortCalls.{clock_after, close_entry, making, take_count, take_event, write_entry, CanTake, GivesBack, HasAnswered, HasEntered, HasLooked, IfTook, IsAtPort, IsFull};
+ghost use Rattle.ak_port.specs.SeatKept.{KeepsSeat};
 ghost use Rattle.ak_base.specs.declared.thread.ThreadId.{ThreadId};
 
 use crate::port_book::PortBook;

@@ -4,7 +4,8 @@ mod waiting;
 ghost use Rattle.std.specs.Prelude.{◌≡◌, ℕ, false, OnOk};
 ghost use Rattle.ak_base.specs.declared.thread.ThreadId.{ThreadId};
 ghost use Rattle.ak_turn.specs.Steps.{IsNewName};
-ghost use Rattle.ak_port.specs.PortCalls.{CanTake, KeepsSeat};
+ghost use Rattle.ak_port.specs.PortCalls.{CanTake};
+ghost use Rattle.ak_port.specs.SeatKept.{KeepsSeat};
 
 use crate::port_laws::{
     a_write_has_one_answer, nothing_is_written_after_shut, ports_stay_within_limits,

@@ -1,7 +1,8 @@
 //! The calls on a shared reply book. Each may wait for its turn, and makes at most one entry.
 ghost use Rattle.std.specs.Prelude.{◌≡◌, false, None, Some, IfOk, IfErr, IfNone, IfSome, OnErr, IsSome, unwrap_or};
 ghost use Rattle.ak_port.specs.Reply.{IsFlatText, FillsWith, none_text};
-ghost use Rattle.ak_port.specs.ReplySeats.{HasEntered, HasLooked, HasFoundSettled, HasFoundFilled, KeepsSeat, MayCancel, MayTake};
+ghost use Rattle.ak_port.specs.ReplySeats.{HasEnteredBook, HasLookedAtBook, HasFoundSettled, HasFoundFilled, MayCancel, MayTake};
+ghost use Rattle.ak_port.specs.SeatKept.{KeepsSeat};
 
 use crate::reply_book::ReplyBook;
 use crate::reply_entry::{CancelAnswer, FillAnswer, ReplyEvent};
@@ -21,10 +22,10 @@ pub fn open_ask<R: Wait>(
     requires thread { seat.old.thread ≡ clock.old.thread.0 }
     ensures seat { KeepsSeat seat.old seat.new }
     ensures clock { clock.new.thread ≡ clock.old.thread }
-    ensures opened { IfOk result (λ n. HasEntered (ReplyEvent.Opened n) clock.old clock.new seat.old seat.new) }
+    ensures opened { IfOk result (λ n. HasEnteredBook clock.old clock.new (ReplyEvent.Opened n) seat.old seat.new) }
     ensures take { IfOk result (λ n. MayTake seat.new.thread n seat.new.front) }
     ensures cancel { IfOk result (λ n. MayCancel seat.new.thread n seat.new.front) }
-    ensures err { OnErr result (HasLooked clock.old clock.new seat.old seat.new) }
+    ensures err { OnErr result (HasLookedAtBook clock.old clock.new seat.old seat.new) }
 {
     let mut turn = book.lock(rt, seat);
     clock.ready(rt);
@@ -49,10 +50,10 @@ fn try_fill<R: Wait>(
     requires text { IfSome flat IsFlatText }
     ensures seat { KeepsSeat seat.old seat.new }
     ensures clock { clock.new.thread ≡ clock.old.thread }
-    ensures filled { result ≡ Ok FillAnswer.Filled → HasEntered (ReplyEvent.Filled n (unwrap_or flat none_text)) clock.old clock.new seat.old seat.new }
+    ensures filled { result ≡ Ok FillAnswer.Filled → HasEnteredBook clock.old clock.new (ReplyEvent.Filled n (unwrap_or flat none_text)) seat.old seat.new }
     ensures duplicate { result ≡ Ok FillAnswer.Duplicate → HasFoundSettled n clock.old clock.new seat.old seat.new }
     ensures unopened { IfErr result (λ text. text ≡ flat) }
-    ensures err { OnErr result (HasLooked clock.old clock.new seat.old seat.new) }
+    ensures err { OnErr result (HasLookedAtBook clock.old clock.new seat.old seat.new) }
 {
     let mut turn = book.lock(rt, seat);
     clock.ready(rt);
@@ -76,7 +77,7 @@ fn fill_in<R: Wait>(
     requires text { IfSome flat IsFlatText }
     ensures seat { KeepsSeat seat.old seat.new }
     ensures clock { clock.new.thread ≡ clock.old.thread }
-    ensures filled { result ≡ FillAnswer.Filled → HasEntered (ReplyEvent.Filled n (unwrap_or flat none_text)) clock.old clock.new seat.old seat.new }
+    ensures filled { result ≡ FillAnswer.Filled → HasEnteredBook clock.old clock.new (ReplyEvent.Filled n (unwrap_or flat none_text)) seat.old seat.new }
     ensures duplicate { result ≡ FillAnswer.Duplicate → HasFoundSettled n clock.old clock.new seat.old seat.new }
 {
     let mut left = flat;
@@ -106,7 +107,7 @@ pub fn fill<R: Wait>(
     requires text { IsFlatText flat }
     ensures seat { KeepsSeat seat.old seat.new }
     ensures clock { clock.new.thread ≡ clock.old.thread }
-    ensures filled { result ≡ FillAnswer.Filled → HasEntered (ReplyEvent.Filled n flat) clock.old clock.new seat.old seat.new }
+    ensures filled { result ≡ FillAnswer.Filled → HasEnteredBook clock.old clock.new (ReplyEvent.Filled n flat) seat.old seat.new }
     ensures duplicate { result ≡ FillAnswer.Duplicate → HasFoundSettled n clock.old clock.new seat.old seat.new }
 {
     fill_in(book, rt, seat, clock, n, Some(flat))
@@ -125,7 +126,7 @@ pub fn fill_none<R: Wait>(
     requires thread { seat.old.thread ≡ clock.old.thread.0 }
     ensures seat { KeepsSeat seat.old seat.new }
     ensures clock { clock.new.thread ≡ clock.old.thread }
-    ensures filled { result ≡ FillAnswer.Filled → HasEntered (ReplyEvent.Filled n none_text) clock.old clock.new seat.old seat.new }
+    ensures filled { result ≡ FillAnswer.Filled → HasEnteredBook clock.old clock.new (ReplyEvent.Filled n none_text) seat.old seat.new }
     ensures duplicate { result ≡ FillAnswer.Duplicate → HasFoundSettled n clock.old clock.new seat.old seat.new }
 {
     fill_in(book, rt, seat, clock, n, None)
@@ -145,7 +146,7 @@ pub fn cancel<R: Wait>(
     requires own { MayCancel seat.old.thread n seat.old.front }
     ensures seat { KeepsSeat seat.old seat.new }
     ensures clock { clock.new.thread ≡ clock.old.thread }
-    ensures cancelled { result ≡ CancelAnswer.Cancelled → HasEntered (ReplyEvent.Cancelled n) clock.old clock.new seat.old seat.new }
+    ensures cancelled { result ≡ CancelAnswer.Cancelled → HasEnteredBook clock.old clock.new (ReplyEvent.Cancelled n) seat.old seat.new }
     ensures duplicate { result ≡ CancelAnswer.Duplicate → HasFoundFilled n clock.old clock.new seat.old seat.new }
 {
     let mut turn = book.lock(rt, seat);
@@ -169,10 +170,10 @@ fn try_take<R: Wait>(
     requires own { MayTake seat.old.thread n seat.old.front }
     ensures seat { KeepsSeat seat.old seat.new }
     ensures clock { clock.new.thread ≡ clock.old.thread }
-    ensures taken { IfSome result (λ _. HasEntered (ReplyEvent.Taken n) clock.old clock.new seat.old seat.new) }
+    ensures taken { IfSome result (λ _. HasEnteredBook clock.old clock.new (ReplyEvent.Taken n) seat.old seat.new) }
     ensures filled { IfSome result (λ flat. FillsWith n flat seat.new.front) }
     ensures text { IfSome result IsFlatText }
-    ensures waits { IfNone result (HasLooked clock.old clock.new seat.old seat.new) }
+    ensures waits { IfNone result (HasLookedAtBook clock.old clock.new seat.old seat.new) }
     ensures still { IfNone result (MayTake seat.new.thread n seat.new.front) }
 {
     let mut turn = book.lock(rt, seat);
@@ -196,7 +197,7 @@ pub fn wait_for<R: Wait>(
     requires own { MayTake seat.old.thread n seat.old.front }
     ensures seat { KeepsSeat seat.old seat.new }
     ensures clock { clock.new.thread ≡ clock.old.thread }
-    ensures taken { HasEntered (ReplyEvent.Taken n) clock.old clock.new seat.old seat.new }
+    ensures taken { HasEnteredBook clock.old clock.new (ReplyEvent.Taken n) seat.old seat.new }
     ensures filled { FillsWith n result seat.new.front }
     ensures text { IsFlatText result }
 {

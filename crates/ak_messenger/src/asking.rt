@@ -1,0 +1,183 @@
+ghost use Rattle.std.specs.Prelude.{◌≡◌, ◌≤◌, ◌<◌, ◌↔◌, ℕ, false, None, Err, length, IfOk, IsErrOf};
+ghost use Rattle.ak_base.specs.declared.thread.ThreadId.{ThreadId};
+ghost use Rattle.ak_message.specs.Fields.{specifier_count};
+ghost use Rattle.ak_flatten.specs.Item.{spelled};
+ghost use Rattle.ak_flatten.specs.Spelling.{spelling};
+ghost use Rattle.ak_port.specs.PortCalls.{CanTake, IsAtPort};
+ghost use Rattle.ak_port.specs.ReplySeats.{MayCancel, MayTake};
+ghost use Rattle.ak_port.specs.SeatKept.{KeepsSeat};
+ghost use Rattle.ak_messenger.specs.Sends.{item_in, write_fault};
+ghost use Rattle.ak_messenger.specs.Asks.{AskTells, BecameOf, HasClosed, IsReplied, IsWritten};
+
+use crate::envelope::Envelope;
+use crate::fault::SendFault;
+use crate::hands::Hands;
+use ak_base::Bytes;
+use ak_flatten::{Duty, Item, unflatten};
+use ak_message::Message;
+use ak_port::{How, Port, PortBook, WriteAnswer, cancel, open_ask, wait_for, write};
+use ak_turn::{Clock, Seat};
+use std::alloc::Global;
+use std::sync::Wait;
+
+/// The reply to an ask: the slot that it came by, its flat text, and the message which that spells.
+#[derive(Drop)]
+pub struct Reply {
+    pub slot: u64,
+    pub flat: Bytes,
+    pub message: Message,
+}
+
+// Why a write was refused, if it was.
+fn refusal(answer: WriteAnswer) -> Option<SendFault>
+    ensures { result ≡ write_fault answer }
+{
+    match answer {
+        WriteAnswer::Wrote(_) => None,
+        WriteAnswer::Closed(_) => Some(SendFault::BadPort),
+        WriteAnswer::Spent(_) => Some(SendFault::Spent),
+        WriteAnswer::Full(_) => Some(SendFault::WouldBlock),
+        WriteAnswer::NoMemory(_) => Some(SendFault::NoMemory),
+    }
+}
+
+// Writes the item once there is room. The answer is why it was not written, if it was not.
+fn write_once_free<R: Wait>(
+    port: &Port,
+    rt: &R,
+    seat: &mut Seat<PortBook>,
+    clock: &mut Clock,
+    item: Item,
+) -> Option<SendFault>
+    requires of { seat.old.lock ≡ port.now }
+    requires idle { seat.old.turn ≡ false }
+    requires thread { seat.old.thread ≡ clock.old.thread.0 }
+    ensures written { IsWritten item clock.old clock.new seat.old seat.new result }
+    ensures port { IsAtPort seat.new }
+    ensures seat { KeepsSeat seat.old seat.new }
+    ensures taking { (thread : ThreadId) (room : ℕ) → CanTake thread room seat.old → CanTake thread room seat.new }
+    ensures clock { clock.new.thread ≡ clock.old.thread }
+{
+    refusal(write(port, rt, seat, clock, item, How::Wait))
+}
+
+// Cancels a slot whose item was not written. The answer is that fault.
+fn give_up<R: Wait>(h: &mut Hands, rt: &R, slot: u64, fault: SendFault) -> Result<Reply, SendFault>
+    requires { MayCancel h.old.book_seat.thread slot h.old.book_seat.front }
+    ensures closed { HasClosed slot h.old.clock h.new.clock h.old.book_seat h.new.book_seat }
+    ensures fault { result ≡ Err fault }
+    ensures book { h.new.book ≡ h.old.book }
+    ensures book_seat { KeepsSeat h.old.book_seat h.new.book_seat }
+    ensures clock { h.new.clock.thread ≡ h.old.clock.thread }
+{
+    cancel(&h.book, rt, &mut h.book_seat, &mut h.clock, slot);
+    Err(fault)
+}
+
+// Waits for the reply, and reads its message.
+fn await_reply<R: Wait>(alloc: Global, h: &mut Hands, rt: &R, slot: u64) -> Result<Reply, SendFault>
+    requires { MayTake h.old.book_seat.thread slot h.old.book_seat.front }
+    ensures replied { IsReplied slot h.old.clock h.new.clock h.old.book_seat h.new.book_seat result }
+    ensures message { IfOk result (λ reply. reply.message ≡ spelled reply.flat) }
+    ensures book { h.new.book ≡ h.old.book }
+    ensures book_seat { KeepsSeat h.old.book_seat h.new.book_seat }
+    ensures clock { h.new.clock.thread ≡ h.old.clock.thread }
+{
+    let flat = wait_for(&h.book, rt, &mut h.book_seat, &mut h.clock, slot);
+    let Ok(message) = unflatten(alloc, flat.as_slice()) else {
+        // It is a flat text, so nothing but memory can be missing.
+        return Err(SendFault::NoMemory);
+    };
+    Ok(Reply {
+        slot,
+        flat,
+        message,
+    })
+}
+
+// Writes the item with the duty to fill the slot, and waits for the reply; or gives the slot up.
+fn converse<R: Wait>(
+    alloc: Global,
+    h: &mut Hands,
+    rt: &R,
+    port: &Port,
+    seat: &mut Seat<PortBook>,
+    item: Item,
+    slot: u64,
+) -> Result<Reply, SendFault>
+    requires of { seat.old.lock ≡ port.now }
+    requires idle { seat.old.turn ≡ false }
+    requires thread { seat.old.thread ≡ h.old.clock.thread.0 }
+    requires take { MayTake h.old.book_seat.thread slot h.old.book_seat.front }
+    requires cancel { MayCancel h.old.book_seat.thread slot h.old.book_seat.front }
+    ensures became { BecameOf item h.old.clock h.new.clock h.old.book_seat h.new.book_seat seat.old seat.new slot result }
+    ensures message { IfOk result (λ reply. reply.message ≡ spelled reply.flat) }
+    ensures port { IsAtPort seat.new }
+    ensures seat { KeepsSeat seat.old seat.new }
+    ensures taking { (thread : ThreadId) (room : ℕ) → CanTake thread room seat.old → CanTake thread room seat.new }
+    ensures book { h.new.book ≡ h.old.book }
+    ensures book_seat { KeepsSeat h.old.book_seat h.new.book_seat }
+    ensures clock { h.new.clock.thread ≡ h.old.clock.thread }
+{
+    let item = item.with_duty(Duty::Slot(slot));
+    match write_once_free(port, rt, seat, &mut h.clock, item) {
+        None => await_reply(alloc, h, rt, slot),
+        Some(fault) => give_up(h, rt, slot, fault),
+    }
+}
+
+// Asks by an item that has no duty yet.
+fn ask_by<R: Wait>(
+    alloc: Global,
+    h: &mut Hands,
+    rt: &R,
+    port: &Port,
+    seat: &mut Seat<PortBook>,
+    item: Item,
+) -> Result<Reply, SendFault>
+    requires of { seat.old.lock ≡ port.now }
+    requires idle { seat.old.turn ≡ false }
+    requires thread { seat.old.thread ≡ h.old.clock.thread.0 }
+    ensures answered { AskTells item h.old.clock h.new.clock h.old.book_seat h.new.book_seat seat.old seat.new result }
+    ensures not_long { IsErrOf result SendFault.TooLong → ⊥ }
+    ensures message { IfOk result (λ reply. reply.message ≡ spelled reply.flat) }
+    ensures port { IsAtPort seat.old → IsAtPort seat.new }
+    ensures seat { KeepsSeat seat.old seat.new }
+    ensures taking { (thread : ThreadId) (room : ℕ) → CanTake thread room seat.old → CanTake thread room seat.new }
+    ensures book { h.new.book ≡ h.old.book }
+    ensures book_seat { KeepsSeat h.old.book_seat h.new.book_seat }
+    ensures clock { h.new.clock.thread ≡ h.old.clock.thread }
+{
+    let slot = open_ask(&h.book, rt, &mut h.book_seat, &mut h.clock)?;
+    converse(alloc, h, rt, port, seat, item, slot)
+}
+
+/// Writes the message with its envelope to the port, waits for the reply, and answers it. Where the port refuses
+/// the message, no reply is awaited. (The Be Book, BMessenger: a synchronous send.)
+pub fn ask<R: Wait>(
+    alloc: Global,
+    h: &mut Hands,
+    rt: &R,
+    port: &Port,
+    seat: &mut Seat<PortBook>,
+    e: Envelope,
+    m: &Message,
+) -> Result<Reply, SendFault>
+    requires of { seat.old.lock ≡ port.now }
+    requires idle { seat.old.turn ≡ false }
+    requires thread { seat.old.thread ≡ h.old.clock.thread.0 }
+    requires popped { e.popped ≤ specifier_count m.now.fields }
+    requires back { e.back ≡ None }
+    ensures answered { AskTells (item_in e Duty.None m.now) h.old.clock h.new.clock h.old.book_seat h.new.book_seat seat.old seat.new result }
+    ensures too_long { IsErrOf result SendFault.TooLong ↔ (4096 < length (spelling m.now)) }
+    ensures message { IfOk result (λ reply. reply.message ≡ spelled reply.flat) }
+    ensures port { IsAtPort seat.old → IsAtPort seat.new }
+    ensures seat { KeepsSeat seat.old seat.new }
+    ensures taking { (thread : ThreadId) (room : ℕ) → CanTake thread room seat.old → CanTake thread room seat.new }
+    ensures book { h.new.book ≡ h.old.book }
+    ensures book_seat { KeepsSeat h.old.book_seat h.new.book_seat }
+    ensures clock { h.new.clock.thread ≡ h.old.clock.thread }
+{
+    let item = e.item(alloc, Duty::None, m)?;
+    ask_by(alloc, h, rt, port, seat, item)
+}

@@ -1,0 +1,43 @@
+ghost use Rattle.std.specs.Prelude.{◌≡◌, ◌≤◌, ◌<◌, ◌↔◌, length, IfOk, IsErrOf};
+ghost use Rattle.ak_message.specs.Fields.{specifier_count};
+ghost use Rattle.ak_flatten.specs.Spelling.{spelling};
+
+use ak_flatten::{Duty, FlattenFault, Item};
+use ak_message::{Address, Message, Target};
+use std::alloc::Global;
+
+/// What stands on a message when it is sent: for which handler it is, the sender's team, whether a user dropped
+/// it, how many of its specifiers are popped, and where a reply is posted, if anywhere.
+#[derive(Clone, Copy, Debug, PartialEq, Eq)]
+pub struct Envelope {
+    pub target: Target,
+    pub team: u32,
+    pub dropped: bool,
+    pub popped: u32,
+    pub back: Option<Address>,
+}
+
+impl Envelope {
+    ghost use Rattle.ak_messenger.specs.Sends.{back_duty, item_in};
+
+    // What is owed to the sender of a post.
+    pub(crate) fn duty(&self) -> Duty
+        ensures { result ≡ back_duty self.now.back }
+    {
+        match self.back {
+            Some(address) => Duty::Back(address),
+            None => Duty::None,
+        }
+    }
+
+    // The message as an item with this envelope and duty.
+    #[tactic(auto, using(crate::proofs::Sending::popped_fits))]
+    pub(crate) fn item(&self, alloc: Global, duty: Duty, m: &Message) -> Result<Item, FlattenFault>
+        requires { self.now.popped ≤ specifier_count m.now.fields }
+        ensures ok { IfOk result (λ item. item ≡ item_in self.now duty m.now) }
+        ensures too_long { IsErrOf result FlattenFault.TooLong ↔ (4096 < length (spelling m.now)) }
+    {
+        let item = Item::new(alloc, self.target, self.team, self.dropped, duty, m)?;
+        Ok(item.with_popped(self.popped))
+    }
+}

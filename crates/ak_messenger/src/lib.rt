@@ -1,0 +1,18 @@
+//! Messages sent to ports by what a thread holds. A post is one entry at the port. An ask opens a slot, writes
+//! with the duty to fill it, and waits for the reply; where the write is refused it cancels the slot. Each
+//! entry has the envelope and the message's flat text. Calls may wait for a turn, for room and for a reply.
+#![tactic(auto)]
+
+mod asking;
+mod envelope;
+mod fault;
+mod hands;
+mod posting;
+#[cfg(test)]
+mod tests;
+
+pub use asking::{Reply, ask};
+pub use envelope::Envelope;
+pub use fault::SendFault;
+pub use hands::Hands;
+pub use posting::post;

@@ -1,0 +1,60 @@
+ghost use Rattle.std.specs.Prelude.{◌≡◌, ◌≤◌, ◌<◌, ◌↔◌, ℕ, false, length, IsErrOf};
+ghost use Rattle.ak_base.specs.declared.thread.ThreadId.{ThreadId};
+ghost use Rattle.ak_message.specs.Fields.{specifier_count};
+ghost use Rattle.ak_flatten.specs.Spelling.{spelling};
+ghost use Rattle.ak_port.specs.PortCalls.{CanTake, HasAnswered, IsAtPort};
+ghost use Rattle.ak_port.specs.SeatKept.{KeepsSeat};
+ghost use Rattle.ak_messenger.specs.Sends.{post_answer, post_event};
+
+use crate::envelope::Envelope;
+use crate::fault::SendFault;
+use crate::hands::Hands;
+use ak_message::Message;
+use ak_port::{How, Port, PortBook, WriteAnswer, write};
+use ak_turn::Seat;
+use std::alloc::Global;
+use std::sync::Wait;
+
+// What a write answers, as a post answers it.
+fn posted(answer: WriteAnswer) -> Result<u64, SendFault>
+    ensures { result ≡ post_answer answer }
+{
+    match answer {
+        WriteAnswer::Wrote(position) => Ok(position),
+        WriteAnswer::Closed(_) => Err(SendFault::BadPort),
+        WriteAnswer::Spent(_) => Err(SendFault::Spent),
+        WriteAnswer::Full(_) => Err(SendFault::WouldBlock),
+        WriteAnswer::NoMemory(_) => Err(SendFault::NoMemory),
+    }
+}
+
+/// Writes the message with its envelope to the port, and answers its position there. (The Be Book, BMessenger:
+/// an asynchronous send.)
+pub fn post<R: Wait>(
+    alloc: Global,
+    h: &mut Hands,
+    rt: &R,
+    port: &Port,
+    seat: &mut Seat<PortBook>,
+    e: Envelope,
+    m: &Message,
+    how: How,
+) -> Result<u64, SendFault>
+    requires of { seat.old.lock ≡ port.now }
+    requires idle { seat.old.turn ≡ false }
+    requires thread { seat.old.thread ≡ h.old.clock.thread.0 }
+    requires popped { e.popped ≤ specifier_count m.now.fields }
+    ensures answered { HasAnswered (post_event e m.now result) h.old.clock h.new.clock seat.old seat.new }
+    ensures too_long { IsErrOf result SendFault.TooLong ↔ (4096 < length (spelling m.now)) }
+    ensures unsent { IsErrOf result SendFault.TooLong → seat.new ≡ seat.old }
+    ensures would_block { IsErrOf result SendFault.WouldBlock → how ≡ How.NoWait }
+    ensures port { IsAtPort seat.old → IsAtPort seat.new }
+    ensures seat { KeepsSeat seat.old seat.new }
+    ensures taking { (thread : ThreadId) (room : ℕ) → CanTake thread room seat.old → CanTake thread room seat.new }
+    ensures book { h.new.book ≡ h.old.book }
+    ensures book_seat { h.new.book_seat ≡ h.old.book_seat }
+    ensures clock { h.new.clock.thread ≡ h.old.clock.thread }
+{
+    let item = e.item(alloc, e.duty(), m)?;
+    posted(write(port, rt, seat, &mut h.clock, item, how))
+}

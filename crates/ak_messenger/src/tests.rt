@@ -1,0 +1,385 @@
+//! What posts and asks answer, and what stands in the port and in the book then.
+ghost use Rattle.std.specs.Prelude.{◌≡◌, ◌≤◌, false, None, IfOk};
+ghost use Rattle.std.specs.Arc.{arc_value};
+ghost use Rattle.ak_base.specs.declared.thread.ThreadId.{ThreadId};
+ghost use Rattle.ak_message.specs.Fields.{specifier_count};
+ghost use Rattle.ak_port.specs.PortCalls.{CanTake};
+ghost use Rattle.ak_port.specs.Reply.{IsFlatText};
+ghost use Rattle.ak_port.specs.SeatKept.{KeepsSeat};
+
+use crate::{Envelope, Hands, Reply, SendFault, ask, post};
+use ak_base::{Bytes, Code, NoMemory, Text, ThreadId};
+use ak_flatten::{Duty, Item, flatten};
+use ak_message::{AddFault, Address, Message, Target, Value};
+use ak_port::{FillAnswer, How, Port, PortBook, ReplyBook, ReplyEvent, close, fill, make, take};
+use ak_turn::{Book, Clock, Seat, TurnLock};
+use std::alloc::Global;
+use std::collections::VecDeque;
+use std::sync::{Arc, Wait};
+use std::test::Fail;
+use std::thread::{Threads, join};
+
+const MAIN: ThreadId = ThreadId(0);
+
+const LOOPER: ThreadId = ThreadId(10_000);
+
+fn clock_of(thread: ThreadId) -> Clock
+    ensures { result ≡ record { thread = thread; time = 0 } }
+{
+    Clock { thread, time: 0 }
+}
+
+// Main's hands; a port whose taker is the looper, and main's seat there; the looper's seats.
+#[derive(Drop)]
+struct Scene {
+    hands: Hands,
+    port: Arc<Port>,
+    seat: Seat<PortBook>,
+    taker: Seat<PortBook>,
+    filler: Seat<ReplyBook>,
+    ghost main: { hands.clock.thread.0 ≡ 0 },
+    ghost of: { seat.lock ≡ arc_value port },
+    ghost idle: { seat.turn ≡ false },
+    ghost thread: { seat.thread ≡ 0 },
+    ghost taker_of: { taker.lock ≡ arc_value port },
+    ghost taker_idle: { taker.turn ≡ false },
+    ghost taker_thread: { taker.thread ≡ 10000 },
+    ghost filler_of: { filler.lock ≡ arc_value hands.book },
+    ghost filler_idle: { filler.turn ≡ false },
+    ghost filler_thread: { filler.thread ≡ 10000 },
+}
+
+// The port holds one item, and accepts so many.
+fn make_scene(alloc: Global, life: u32) -> Result<Scene, NoMemory>
+    requires { (1 ≤ life) × (life ≤ 9) }
+    ensures { IfOk result (λ scene. CanTake LOOPER 1 scene.taker) }
+{
+    let (port, mut taker) = make(alloc, 1, life, LOOPER, &mut clock_of(LOOPER))?;
+    let seat = port.split(&mut taker, MAIN);
+    let (book, mut book_seat) = TurnLock::new(alloc, ReplyBook::new(alloc)?, MAIN)?;
+    let filler = book.split(&mut book_seat, LOOPER);
+    let hands = Hands {
+        clock: clock_of(MAIN),
+        book,
+        book_seat,
+    };
+    Ok(Scene {
+        hands,
+        port,
+        seat,
+        taker,
+        filler,
+    })
+}
+
+// A dropped message of team 7 for the handler with token 3, with so many specifiers popped.
+fn envelope(popped: u32) -> Envelope
+    ensures popped { result.popped ≡ popped }
+    ensures back { result.back ≡ None }
+{
+    Envelope {
+        target: Target::Token(3),
+        team: 7,
+        dropped: true,
+        popped,
+        back: None,
+    }
+}
+
+// A message with one specifier, which is not popped.
+fn question(alloc: Global) -> Result<Message, AddFault> {
+    let mut message = Message::new(alloc, Code::GET);
+    let specifier = Value::from_message(alloc, Message::new(alloc, Code(1)))?;
+    message.add(b"specifiers", specifier)?;
+    Ok(message)
+}
+
+// A message whose flat text has 4,123 bytes.
+fn long(alloc: Global) -> Result<Message, Fail> {
+    let mut message = Message::new(alloc, Code(1));
+    for _ in 0..4 {
+        message.add(b"t", Value::Text(Text::from_bytes(alloc, &[b'x'; 1024])?))?;
+    }
+    Ok(message)
+}
+
+// The flat text of a reply without fields.
+fn reply_text(alloc: Global) -> Result<Bytes, NoMemory>
+    ensures { IfOk result IsFlatText }
+{
+    match flatten(alloc, &Message::new(alloc, Code::REPLY)) {
+        Ok(text) => Ok(text),
+        Err(_) => Err(NoMemory),
+    }
+}
+
+// Posts the message, without waiting, and with all its specifiers popped.
+fn post_one<R: Wait>(
+    rt: &R,
+    alloc: Global,
+    hands: &mut Hands,
+    port: &Port,
+    seat: &mut Seat<PortBook>,
+    m: &Message,
+) -> Result<u64, SendFault>
+    requires of { seat.old.lock ≡ port.now }
+    requires idle { seat.old.turn ≡ false }
+    requires thread { seat.old.thread ≡ hands.old.clock.thread.0 }
+    ensures seat { KeepsSeat seat.old seat.new }
+    ensures clock { hands.new.clock.thread ≡ hands.old.clock.thread }
+{
+    let mut e = envelope(m.specifiers());
+    e.back = Some(Address {
+        looper: 2,
+        target: Target::Preferred,
+    });
+    post(alloc, hands, rt, port, seat, e, m, How::NoWait)
+}
+
+// Takes an item as the looper.
+fn take_one<R: Wait>(
+    rt: &R,
+    alloc: Global,
+    port: &Port,
+    taker: &mut Seat<PortBook>,
+) -> Result<Option<Item>, NoMemory>
+    requires of { taker.old.lock ≡ port.now }
+    requires idle { taker.old.turn ≡ false }
+    requires thread { taker.old.thread ≡ 10000 }
+    requires taking { CanTake LOOPER 1 taker.old }
+{
+    let mut out = VecDeque::with_capacity(alloc, 1)?;
+    take(port, rt, taker, &mut clock_of(LOOPER), &mut out, 1);
+    Ok(out.pop_front().map(|taken| taken.item))
+}
+
+/// What posts answer.
+#[derive(Drop)]
+struct Posts {
+    first: Result<u64, SendFault>,
+    full: Result<u64, SendFault>,
+    long: Result<u64, SendFault>,
+    item: Option<Item>,
+    second: Result<u64, SendFault>,
+    spent: Result<u64, SendFault>,
+    shut: Result<u64, SendFault>,
+    entries: u64,
+}
+
+// Posts to a port that has room, is full, has room again, has accepted all that it does, and is shut.
+fn post_in_turn<R: Wait>(rt: &R, alloc: Global) -> Result<Posts, Fail> {
+    let Scene {
+        mut hands,
+        port,
+        mut seat,
+        mut taker,
+        ..
+    } = make_scene(alloc, 2)?;
+    let m = question(alloc)?;
+    let first = post_one(rt, alloc, &mut hands, &port, &mut seat, &m);
+    let full = post_one(rt, alloc, &mut hands, &port, &mut seat, &m);
+    let long = post_one(rt, alloc, &mut hands, &port, &mut seat, &long(alloc)?);
+    let item = take_one(rt, alloc, &port, &mut taker)?;
+    let second = post_one(rt, alloc, &mut hands, &port, &mut seat, &m);
+    let spent = post_one(rt, alloc, &mut hands, &port, &mut seat, &m);
+    close(&port, rt, &mut seat, &mut hands.clock);
+    let shut = post_one(rt, alloc, &mut hands, &port, &mut seat, &m);
+    Ok(Posts {
+        first,
+        full,
+        long,
+        item,
+        second,
+        spent,
+        shut,
+        entries: seat.seen(),
+    })
+}
+
+#[test]
+fn posts_answer_by_their_causes(rt: HostRuntime) -> Result<(), Fail> {
+    let posts = post_in_turn(&rt, rt.alloc())?;
+    assert_eq!(rt; posts.first, Ok(0));
+    assert_eq!(rt; posts.full, Err(SendFault::WouldBlock));
+    assert_eq!(rt; posts.long, Err(SendFault::TooLong));
+    assert_eq!(rt; posts.second, Ok(1));
+    assert_eq!(rt; posts.spent, Err(SendFault::Spent));
+    assert_eq!(rt; posts.shut, Err(SendFault::BadPort));
+    // The making, four writes or refusals, the take, the closing, and a refusal.
+    assert_eq!(rt; posts.entries, 8);
+    let item = posts.item.ok_or("an item")?;
+    assert_eq!(rt; item.target(), Target::Token(3));
+    assert_eq!(rt; item.team(), 7);
+    assert!(rt; item.dropped());
+    assert_eq!(rt; item.popped(), 1);
+    let back = Address {
+        looper: 2,
+        target: Target::Preferred,
+    };
+    assert_eq!(rt; item.duty(), Duty::Back(back));
+    Ok(())
+}
+
+// Asks, with all the specifiers of the message popped.
+fn ask_one<R: Wait>(
+    rt: &R,
+    alloc: Global,
+    hands: &mut Hands,
+    port: &Port,
+    seat: &mut Seat<PortBook>,
+    m: &Message,
+) -> Result<Reply, SendFault>
+    requires of { seat.old.lock ≡ port.now }
+    requires idle { seat.old.turn ≡ false }
+    requires thread { seat.old.thread ≡ hands.old.clock.thread.0 }
+    ensures seat { KeepsSeat seat.old seat.new }
+    ensures clock { hands.new.clock.thread ≡ hands.old.clock.thread }
+{
+    ask(alloc, hands, rt, port, seat, envelope(m.specifiers()), m)
+}
+
+/// What refused asks answer, and the book then.
+#[derive(Drop)]
+struct Asks {
+    long: Option<SendFault>,
+    spent: Option<SendFault>,
+    shut: Option<SendFault>,
+    book: ReplyBook,
+}
+
+// The whole book.
+fn whole<R: Wait>(rt: &R, hands: Hands) -> ReplyBook {
+    let Hands {
+        clock: _,
+        book,
+        mut book_seat,
+    } = hands;
+    book.lock(rt, &mut book_seat).keep()
+}
+
+// Asks by a message that is too long; at a port that has accepted all that it does; and at one that is shut.
+fn ask_in_vain<R: Wait>(rt: &R, alloc: Global) -> Result<Asks, Fail> {
+    let Scene {
+        mut hands,
+        port,
+        mut seat,
+        ..
+    } = make_scene(alloc, 1)?;
+    let m = question(alloc)?;
+    post_one(rt, alloc, &mut hands, &port, &mut seat, &m)?;
+    let long = ask_one(rt, alloc, &mut hands, &port, &mut seat, &long(alloc)?).err();
+    let spent = ask_one(rt, alloc, &mut hands, &port, &mut seat, &m).err();
+    close(&port, rt, &mut seat, &mut hands.clock);
+    let shut = ask_one(rt, alloc, &mut hands, &port, &mut seat, &m).err();
+    Ok(Asks {
+        long,
+        spent,
+        shut,
+        book: whole(rt, hands),
+    })
+}
+
+#[test]
+fn asks_in_vain_cancel_their_slots(rt: HostRuntime) -> Result<(), Fail> {
+    let asks = ask_in_vain(&rt, rt.alloc())?;
+    assert_eq!(rt; asks.long, Some(SendFault::TooLong));
+    assert_eq!(rt; asks.spent, Some(SendFault::Spent));
+    assert_eq!(rt; asks.shut, Some(SendFault::BadPort));
+    assert_eq!(rt; asks.book.len(), 4);
+    let first = asks.book.entry(1)?.ok_or("an entry")?;
+    assert!(rt; matches!(first.event, ReplyEvent::Cancelled(0)));
+    let second = asks.book.entry(3)?.ok_or("an entry")?;
+    assert!(rt; matches!(second.event, ReplyEvent::Cancelled(1)));
+    Ok(())
+}
+
+// Takes an item as the looper, and fills its slot with the text.
+fn answer_one<R: Wait>(
+    rt: &R,
+    alloc: Global,
+    port: &Port,
+    mut taker: Seat<PortBook>,
+    book: &TurnLock<ReplyBook>,
+    mut filler: Seat<ReplyBook>,
+    text: Bytes,
+) -> Result<Option<Item>, NoMemory>
+    requires of { taker.lock ≡ port.now }
+    requires idle { taker.turn ≡ false }
+    requires thread { taker.thread ≡ 10000 }
+    requires taking { CanTake LOOPER 1 taker }
+    requires filler_of { filler.lock ≡ book.now }
+    requires filler_idle { filler.turn ≡ false }
+    requires filler_thread { filler.thread ≡ 10000 }
+    requires text { IsFlatText text }
+{
+    let Some(item) = take_one(rt, alloc, port, &mut taker)? else {
+        return Ok(None);
+    };
+    if let Duty::Slot(n) = item.duty() {
+        let _answer: FillAnswer = fill(book, rt, &mut filler, &mut clock_of(LOOPER), n, text);
+    }
+    Ok(Some(item))
+}
+
+// Asks once, and gives up the hands.
+fn ask_alone<R: Wait>(
+    rt: &R,
+    alloc: Global,
+    mut hands: Hands,
+    port: &Port,
+    mut seat: Seat<PortBook>,
+    m: Message,
+) -> Result<Reply, SendFault>
+    requires of { seat.lock ≡ port.now }
+    requires idle { seat.turn ≡ false }
+    requires thread { seat.thread ≡ hands.clock.thread.0 }
+{
+    ask_one(rt, alloc, &mut hands, port, &mut seat, &m)
+}
+
+// Asks in one thread what another answers with the text: the reply, and the item.
+fn ask_beside<R: Threads + Wait + Sync>(
+    rt: &R,
+    alloc: Global,
+    text: Bytes,
+) -> Result<(Reply, Option<Item>), Fail>
+    requires { IsFlatText text }
+{
+    let Scene {
+        hands,
+        port,
+        seat,
+        taker,
+        filler,
+    } = make_scene(alloc, 1)?;
+    let m = question(alloc)?;
+    let shared = Arc::try_clone(&hands.book)?;
+    let (port, book): (&Port, &TurnLock<ReplyBook>) = (&port, &shared);
+    let (reply, item) = join(
+        rt,
+        || -> Result<Reply, SendFault>
+            requires { (seat.lock ≡ port.now) × (seat.turn ≡ false) × (seat.thread ≡ hands.clock.thread.0) }
+        { ask_alone(rt, alloc, hands, port, seat, m) },
+        || -> Result<Option<Item>, NoMemory>
+            requires { (taker.lock ≡ port.now) × (taker.turn ≡ false) × (taker.thread ≡ 10000) × CanTake LOOPER 1 taker × (filler.lock ≡ book.now) × (filler.turn ≡ false) × (filler.thread ≡ 10000) × IsFlatText text }
+        { answer_one(rt, alloc, port, taker, book, filler, text) },
+    );
+    Ok((reply?, item?))
+}
+
+#[test]
+fn an_ask_gets_the_reply_of_another_thread(rt: HostRuntime) -> Result<(), Fail> {
+    let alloc: Global = rt.alloc();
+    let wanted = reply_text(alloc)?;
+    let (reply, item) = ask_beside(&rt, alloc, reply_text(alloc)?)?;
+    assert_eq!(rt; reply.slot, 0);
+    assert_eq!(rt; reply.flat.as_slice(), wanted.as_slice());
+    assert_eq!(rt; reply.message.what(), Code::REPLY);
+    let item = item.ok_or("an item")?;
+    assert_eq!(rt; item.duty(), Duty::Slot(0));
+    assert_eq!(rt; item.target(), Target::Token(3));
+    assert_eq!(rt; item.team(), 7);
+    assert!(rt; item.dropped());
+    assert_eq!(rt; item.popped(), 1);
+    Ok(())
+}
