@@ -1,6 +1,6 @@
 use super::*;
 use ak_base::NoMemory;
-use ak_desk::{DeskEvent, EntryRoute};
+use ak_desk::{DeskEntry, DeskEvent, EntryRoute};
 use ak_outside::{ListSink, SourceRead, TextSource};
 use ak_turn::Book;
 use std::test::Fail;
@@ -38,22 +38,15 @@ fn changed(alloc: Global, old: &str, new: &[u8]) -> Result<Bytes, NoMemory> {
     }
 }
 
-// The end of a run, and what it left of its source and its sink.
+// What a run came to: its status, its ending, how many lines its desk's list has, where there is a run, and what it left
+// of its source and its sink.
 #[derive(Drop)]
 struct Outcome {
-    end: KitEnd,
+    status: u8,
+    ending: Ending,
+    entries: Option<u64>,
     source: TextSource,
     sink: ListSink,
-}
-
-impl Outcome {
-    // How many entries the desk made, where there is a run.
-    fn entries(&self) -> Option<u64> {
-        match &self.end.run {
-            Some(run) => Some(run.desk.len()),
-            None => None,
-        }
-    }
 }
 
 // Runs the program. The calls of these numbers fail, and 0 is the number of none.
@@ -71,60 +64,126 @@ fn run_words(
     let mut source = TextSource::new(input, vec![in alloc; read]?);
     let mut sink = ListSink::new(alloc, vec![in alloc; write]?);
     let end = kit(alloc, &given, &mut source, &mut sink);
-    Ok(Outcome { end, source, sink })
+    Ok(Outcome {
+        status: end.status,
+        ending: end.ending,
+        entries: end.run.map(|run| run.desk.len()),
+        source,
+        sink,
+    })
 }
 
 fn run_whole(alloc: Global, input: Bytes) -> Result<Outcome, NoMemory> {
     run_words(alloc, "run", input, 0, 0)
 }
 
-#[test]
-fn a_script_is_run(rt: HostRuntime) -> Result<(), Fail> {
-    let input = bytes_of(
-        rt.alloc(),
-        &[INPUT.as_bytes(), b"hey demo get Nothing\n".as_slice()],
-    )?;
-    let ran = run_whole(rt.alloc(), input)?;
-    assert_eq!(rt; ran.end.status, 0);
-    assert_eq!(rt; ran.end.ending, Ending::Done);
-    assert_eq!(rt;
-        ran.sink.written(),
-        b"launch team 1\nreply 'RPLY' result=LONG:3 error=LONG:0\nreply 'MNOT'\n".as_slice()
-    );
-    let run = ran.end.run.ok_or("no run")?;
-    for (row, (name, value)) in run.rows.as_slice().iter().zip([("Count", 3)]) {
-        assert_eq!(rt; row.0.as_str(), name);
-        assert_eq!(rt; row.1, value);
-    }
-    assert_eq!(rt; run.rows.as_slice().len(), 1);
-    for (word, want) in run.asked.as_slice().iter().zip(["Count", "Nothing"]) {
-        assert_eq!(rt; word.as_str(), want);
-    }
-    assert_eq!(rt; run.asked.as_slice().len(), 2);
-    let wants = [
-        EntryRoute::To(0),
-        EntryRoute::To(0),
-        EntryRoute::NotUnderstood,
-    ];
-    for (place, want) in wants.iter().enumerate() {
-        let entry = run.desk.entry(place as u64)?.ok_or("no entry")?;
-        assert_eq!(rt; entry.stamp, place as u64 + 1);
-        assert_eq!(rt; entry.by, ThreadId(10_000));
-        let DeskEvent::Dispatched {
+// A line of a desk's list: a message that was dispatched.
+#[derive(Drop, Debug, PartialEq)]
+struct Line {
+    stamp: u64,
+    by: ThreadId,
+    position: u64,
+    route: EntryRoute,
+    words: usize,
+    quit: bool,
+}
+
+fn line_at(desk: &Desk, place: u64) -> Result<Line, Fail> {
+    let DeskEntry { stamp, by, event } = desk.entry(place)?.ok_or("no entry")?;
+    match event {
+        DeskEvent::Dispatched {
             position,
             route,
             answers,
             quit,
-        } = entry.event
-        else {
-            return Err("an edit".into());
-        };
-        assert_eq!(rt; position, place as u64);
-        assert_eq!(rt; route, *want);
-        assert_eq!(rt; answers.as_slice().len(), 0);
-        assert!(rt; !quit);
+        } => Ok(Line {
+            stamp,
+            by,
+            position,
+            route,
+            words: answers.as_slice().len(),
+            quit,
+        }),
+        DeskEvent::Edited { .. } => Err("an edit".into()),
     }
-    assert_eq!(rt; run.desk.len(), 3);
+}
+
+// The parts of the run of the input: its properties, its words, and three lines of its desk's list.
+#[derive(Drop)]
+struct Parts {
+    rows: Items<(Text, i32)>,
+    asked: Items<Text>,
+    lines: [Line; 3],
+    count: u64,
+}
+
+fn parts_of(run: FirstRun) -> Result<Parts, Fail> {
+    let FirstRun { rows, asked, desk } = run;
+    let lines = [line_at(&desk, 0)?, line_at(&desk, 1)?, line_at(&desk, 2)?];
+    Ok(Parts {
+        rows,
+        asked,
+        lines,
+        count: desk.len(),
+    })
+}
+
+// Runs the input with a line more, which asks for what is not there.
+fn run_both(alloc: Global) -> Result<Parts, Fail> {
+    let lines: &[u8] = b"hey demo get Nothing\n";
+    let input = bytes_of(alloc, &[INPUT.as_bytes(), lines])?;
+    let words = [bytes_of(alloc, &[b"run".as_slice()])?];
+    let mut source = TextSource::new(input, Vec::new(alloc));
+    let mut sink = ListSink::new(alloc, Vec::new(alloc));
+    let end = kit(alloc, &words, &mut source, &mut sink);
+    parts_of(end.run.ok_or("no run")?)
+}
+
+#[test]
+fn a_run_tells_its_script_and_its_list(rt: HostRuntime) -> Result<(), Fail> {
+    let parts = run_both(rt.alloc())?;
+    let [row] = parts.rows.as_slice() else {
+        return Err("not one property".into());
+    };
+    assert_eq!(rt; row.0.as_str(), "Count");
+    assert_eq!(rt; row.1, 3);
+    let [first, second] = parts.asked.as_slice() else {
+        return Err("not two words".into());
+    };
+    assert_eq!(rt; first.as_str(), "Count");
+    assert_eq!(rt; second.as_str(), "Nothing");
+    let routes = [
+        EntryRoute::To(0),
+        EntryRoute::To(0),
+        EntryRoute::NotUnderstood,
+    ];
+    for (place, route) in routes.into_iter().enumerate() {
+        let want = Line {
+            stamp: place as u64 + 1,
+            by: ThreadId(10_000),
+            position: place as u64,
+            route,
+            words: 0,
+            quit: false,
+        };
+        assert_eq!(rt; parts.lines[place], want);
+    }
+    assert_eq!(rt; parts.count, 3);
+    Ok(())
+}
+
+#[test]
+fn a_script_is_run(rt: HostRuntime) -> Result<(), Fail> {
+    let lines: &[u8] = b"hey demo get Nothing\n";
+    let input = bytes_of(rt.alloc(), &[INPUT.as_bytes(), lines])?;
+    let ran = run_whole(rt.alloc(), input)?;
+    assert_eq!(rt; ran.status, 0);
+    assert_eq!(rt; ran.ending, Ending::Done);
+    assert_eq!(rt;
+        ran.sink.written(),
+        b"launch team 1\nreply 'RPLY' result=LONG:3 error=LONG:0\nreply 'MNOT'\n".as_slice()
+    );
+    assert_eq!(rt; ran.entries, Some(3));
     Ok(())
 }
 
@@ -156,10 +215,10 @@ fn each_ending_has_its_cause(rt: HostRuntime) -> Result<(), Fail> {
     for (words, read, write, status, ending, text, entries) in rows {
         let input = bytes_of(rt.alloc(), &[INPUT.as_bytes()])?;
         let mut ran = run_words(rt.alloc(), words, input, read, write)?;
-        assert_eq!(rt; ran.end.status, status, "{read} {write} {text}");
-        assert_eq!(rt; ran.end.ending, ending);
+        assert_eq!(rt; ran.status, status, "{read} {write} {text}");
+        assert_eq!(rt; ran.ending, ending);
         assert_eq!(rt; ran.sink.written(), text.as_bytes());
-        assert_eq!(rt; ran.entries(), entries);
+        assert_eq!(rt; ran.entries, entries);
         if status == 1 {
             // no read was made before
             assert_eq!(rt; ran.source.read(&mut [0]), SourceRead::Failed);
@@ -210,10 +269,10 @@ fn other_inputs_are_refused(rt: HostRuntime) -> Result<(), Fail> {
     ];
     for (old, new) in rows {
         let ran = run_whole(rt.alloc(), changed(rt.alloc(), old, new)?)?;
-        assert_eq!(rt; ran.end.status, 2, "{old} {new:?}");
-        assert_eq!(rt; ran.end.ending, REFUSED);
+        assert_eq!(rt; ran.status, 2, "{old} {new:?}");
+        assert_eq!(rt; ran.ending, REFUSED);
         assert_eq!(rt; ran.sink.written(), b"refused line 0: not yet\n".as_slice());
-        assert_eq!(rt; ran.entries(), None);
+        assert_eq!(rt; ran.entries, None);
     }
     Ok(())
 }
@@ -250,7 +309,7 @@ fn inputs_of_the_form_are_run(rt: HostRuntime) -> Result<(), Fail> {
             rt.alloc(),
             &[b"launch team 1\n".as_slice(), lines.as_bytes()],
         )?;
-        assert_eq!(rt; ran.end.status, 0, "{new}");
+        assert_eq!(rt; ran.status, 0, "{new}");
         assert_eq!(rt; ran.sink.written(), want.as_slice());
     }
     Ok(())
@@ -276,7 +335,7 @@ fn a_path_begins_and_ends_as_a_path(rt: HostRuntime) -> Result<(), Fail> {
                 b"\n",
             ],
         )?;
-        assert_eq!(rt; run_whole(rt.alloc(), input)?.end.status, status, "{path}");
+        assert_eq!(rt; run_whole(rt.alloc(), input)?.status, status, "{path}");
     }
     Ok(())
 }
@@ -286,13 +345,13 @@ fn names_and_properties_are_limited(rt: HostRuntime) -> Result<(), Fail> {
     for (length, status) in [(64, 0), (65, 2)] {
         let name = "n".repeat(rt.alloc(), length)?;
         let input = changed(rt.alloc(), "Count", name.as_bytes())?;
-        assert_eq!(rt; run_whole(rt.alloc(), input)?.end.status, status);
+        assert_eq!(rt; run_whole(rt.alloc(), input)?.status, status);
         let input = changed(
             rt.alloc(),
             "Count\n",
             format!(in rt.alloc(); "{name}\n")?.as_bytes(),
         )?;
-        assert_eq!(rt; run_whole(rt.alloc(), input)?.end.status, status);
+        assert_eq!(rt; run_whole(rt.alloc(), input)?.status, status);
     }
     for (count, status) in [(64, 0), (65, 2)] {
         let mut rows = Bytes::new(rt.alloc());
@@ -302,7 +361,7 @@ fn names_and_properties_are_limited(rt: HostRuntime) -> Result<(), Fail> {
         }
         rows.extend(b"script\n")?;
         let input = changed(rt.alloc(), "script\n", rows.as_slice())?;
-        assert_eq!(rt; run_whole(rt.alloc(), input)?.end.status, status);
+        assert_eq!(rt; run_whole(rt.alloc(), input)?.status, status);
     }
     Ok(())
 }
@@ -313,8 +372,8 @@ fn hey_lines_are_limited(rt: HostRuntime) -> Result<(), Fail> {
         let lines = "hey demo get Count\n".repeat(rt.alloc(), count)?;
         let input = changed(rt.alloc(), "hey demo get Count\n", lines.as_bytes())?;
         let ran = run_whole(rt.alloc(), input)?;
-        assert_eq!(rt; ran.end.status, status);
-        assert_eq!(rt; ran.entries(), entries);
+        assert_eq!(rt; ran.status, status);
+        assert_eq!(rt; ran.entries, entries);
     }
     Ok(())
 }
@@ -334,7 +393,7 @@ fn the_length_is_limited(rt: HostRuntime) -> Result<(), Fail> {
             input.extend(line.repeat(rt.alloc(), count)?.as_bytes())?;
         }
         assert_eq!(rt; input.as_slice().len(), length);
-        assert_eq!(rt; run_whole(rt.alloc(), input)?.end.status, status);
+        assert_eq!(rt; run_whole(rt.alloc(), input)?.status, status);
     }
     Ok(())
 }
