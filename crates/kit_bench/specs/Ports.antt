@@ -1,8 +1,7 @@
 -- The threads at a port or a reply book that is timed.
-use Rattle.std.specs.Prelude.{◌≡◌, ℕ, ◌≤◌, false, length, Some}
-use Rattle.ak_base.specs.declared.thread.ThreadId.{ThreadId}
+use Rattle.std.specs.Prelude.{◌≡◌, ℕ, ◌≤◌, false, length}
 use Rattle.ak_turn.specs.Seats.{LockId, SeatData}
-use Rattle.ak_port.specs.PortCalls.{CanTake, PortSeat}
+use Rattle.ak_port.specs.PortCalls.{PortSeat}
 use Rattle.ak_port.specs.PortMachine.{state_of, taken_items}
 use Rattle.kit_bench.specs.declared.ports.PortShape.{PortShape}
 
@@ -19,11 +18,6 @@ module _ {O L : Type 0} where
     pub of : seat.lock ≡ lock
     pub idle : seat.turn ≡ false
     pub is : seat.thread ≡ thread
-
--- such a seat of the taker, which can take so many items at a time
-pub record IsTaker (lock : LockId) (thread : ThreadId) (room : ℕ) (seat : PortSeat) : Type 0 where
-  pub at : IsSeated lock thread.0 seat
-  pub taking : CanTake thread room seat
 
 -- the taker has taken so many items, as far as the history that the seat has seen says
 pub record HasCounted (count : ℕ) (seat : PortSeat) : Type 0 where

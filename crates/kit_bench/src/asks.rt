@@ -1,18 +1,19 @@
 //! A thread that asks and one that answers, so that a round trip can be timed.
-ghost use Rattle.std.specs.Prelude.{◌≡◌, ◌≤◌, IfOk};
-ghost use Rattle.std.specs.VecDeque.{deque_len, deque_capacity};
+ghost use Rattle.std.specs.Prelude.{◌≡◌, [], IfOk};
+ghost use Rattle.std.specs.VecDeque.{deque_capacity};
+ghost use Rattle.ak_port.specs.PortWriters.{StartsToTake};
 ghost use Rattle.ak_port.specs.Reply.{IsFlatText};
-ghost use Rattle.kit_bench.specs.Ports.{IsSeated, IsTaker};
+ghost use Rattle.kit_bench.specs.Ports.{IsSeated};
 
 use crate::fault::BenchFault;
 use crate::port_seats::{CLOSER, TAKER};
-use crate::ports::question;
+use crate::ports::{question, take_next};
 use ak_base::{Bytes, Code, NoMemory, ThreadId};
 use ak_flatten::{Duty, Item, Taken};
 use ak_message::{Message, Target, Value};
 use ak_port::{
-    CloseAnswer, FillAnswer, How, LIFE_LIMIT, Port, PortBook, ReplyBook, TakeAnswer, WriteAnswer,
-    close, fill, fill_none, make, open_ask, take, wait_for, write,
+    FillAnswer, How, LIFE_LIMIT, Port, PortBook, ReplyBook, TakeAnswer, WriteAnswer, close, fill,
+    fill_none, make, open_ask, wait_for, write,
 };
 use ak_turn::{Clock, Seat, TurnLock};
 use std::alloc::Global;
@@ -52,6 +53,7 @@ fn small_reply(alloc: Global) -> Result<Item, BenchFault> {
 }
 
 /// At a new port and a new reply book, so many questions. Answers how many replies came.
+#[tactic(auto, using(crate::proofs::Taking::starts_first, crate::proofs::Taking::starts_still))]
 fn ask_round<R: Threads + Wait + Sync>(
     rt: &R,
     alloc: Global,
@@ -79,7 +81,7 @@ fn ask_round<R: Threads + Wait + Sync>(
     let (_, asked) = join(
         rt,
         ||
-            requires { IsTaker port.now TAKER CAPACITY answerer.at_port × IsSeated book.now 0 answerer.at_book × (deque_capacity room ≡ CAPACITY) × (deque_len room ≡ 0) }
+            requires { StartsToTake port.now TAKER CAPACITY answerer.at_port × IsSeated book.now 0 answerer.at_book × (deque_capacity room ≡ CAPACITY) × (room.items ≡ []) }
         { answer_all(rt, alloc, port, book, answerer, room) },
         || -> Result<u32, BenchFault>
             requires { IsSeated port.now 1 asker.at_port × IsSeated book.now 1 asker.at_book }
@@ -182,7 +184,7 @@ fn ask<R: Wait>(
 }
 
 /// Takes until the port is shut, and answers each item.
-#[tactic(auto, using(crate::proofs::Taking::taking, crate::proofs::Seating::seating))]
+#[tactic(auto, using(crate::proofs::Taking::starting, crate::proofs::Seating::staying))]
 fn answer_all<R: Wait>(
     rt: &R,
     alloc: Global,
@@ -191,10 +193,10 @@ fn answer_all<R: Wait>(
     answerer: Side,
     room: VecDeque<Taken>,
 )
-    requires port { IsTaker port.now TAKER CAPACITY answerer.at_port }
+    requires port { StartsToTake port.now TAKER CAPACITY answerer.at_port }
     requires book { IsSeated book.now 0 answerer.at_book }
     requires room { deque_capacity room ≡ CAPACITY }
-    requires empty { deque_len room ≡ 0 }
+    requires empty { room.items ≡ [] }
 {
     let Side {
         mut at_port,
@@ -207,7 +209,7 @@ fn answer_all<R: Wait>(
     };
     let mut taken = room;
     for _ in rt.forever() {
-        let answer = take(port, rt, &mut at_port, &mut clock, &mut taken, CAPACITY);
+        let answer = take_next(rt, port, &mut at_port, &mut clock, &mut taken, CAPACITY);
         answer_each(rt, alloc, book, &mut at_book, &mut clock, &mut taken, &item);
         if let TakeAnswer::Rest(_) = answer {
             return;
@@ -230,7 +232,7 @@ fn answer_each<R: Wait>(
     requires book { IsSeated book.now clock.old.thread.0 at_book.old }
     ensures clock { clock.new.thread ≡ clock.old.thread }
     ensures book { IsSeated book.now clock.new.thread.0 at_book.new }
-    ensures empty { deque_len taken.new ≡ 0 }
+    ensures empty { taken.new.items ≡ [] }
     ensures room { deque_capacity taken.new ≡ deque_capacity taken.old }
 {
     while let Some(next) = taken.pop_front() {

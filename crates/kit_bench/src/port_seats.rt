@@ -1,7 +1,7 @@
 //! The threads at a port that is timed, and their seats.
-ghost use Rattle.std.specs.Prelude.{◌≡◌, ◌≤◌, All, IfOk, vec_len};
+ghost use Rattle.std.specs.Prelude.{◌≡◌, ◌≤◌, ◌∷◌, [], All, Some, IfOk, vec_len};
 ghost use Rattle.ak_port.specs.PortWriters.{StartsToTake};
-ghost use Rattle.kit_bench.specs.Turns.{AreNamesBelow, IsReady};
+ghost use Rattle.kit_bench.specs.Turns.{IsReady};
 
 use crate::fault::BenchFault;
 use crate::ports::question;
@@ -29,7 +29,7 @@ pub struct Writer {
 }
 
 /// That many threads that write. The seat stays the taker's, and takes as many items at a time.
-#[tactic(auto, using(crate::proofs::Naming::naming))]
+#[tactic(auto, using(crate::proofs::Naming::naming, crate::proofs::Taking::starts_still))]
 pub fn writers(
     alloc: Global,
     port: &Port,
@@ -39,14 +39,14 @@ pub fn writers(
 ) -> Result<Vec<Writer>, BenchFault>
     requires few { count ≤ 8 }
     requires taker { StartsToTake port.now TAKER room seat.old }
-    requires names { AreNamesBelow FIRST seat.old.names }
+    requires names { seat.old.names ≡ Some (0 ∷ 1 ∷ []) }
     ensures taker { StartsToTake port.now TAKER room seat.new }
     ensures ready { IfOk result (λ writers. All (λ writer. IsReady port.now writer.thread.0 writer.seat) writers.items) }
     ensures count { IfOk result (λ writers. vec_len writers ≡ count) }
 {
     let mut writers = Vec::new(alloc);
-    for place in 0..count {
-        let thread = ThreadId(FIRST + place);
+    for number in FIRST..FIRST + count {
+        let thread = ThreadId(number);
         let item = question(alloc)?;
         writers.push(Writer {
             seat: port.split(seat, thread),

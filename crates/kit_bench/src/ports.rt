@@ -1,6 +1,8 @@
 //! Threads that write items to a port while one takes them, so that a write and a take can be timed.
-ghost use Rattle.std.specs.Prelude.{◌≡◌, ◌≤◌, All, length, IfOk};
-ghost use Rattle.std.specs.VecDeque.{deque_len, deque_capacity};
+ghost use Rattle.std.specs.Prelude.{◌≡◌, ◌≤◌, ◌+◌, ℕ, [], All, length, IfOk};
+ghost use Rattle.std.specs.VecDeque.{deque_capacity};
+ghost use Rattle.ak_port.specs.PortCalls.{CanTake, HasEntered, IfTook, IsAtPort, take_count, take_event};
+ghost use Rattle.ak_port.specs.PortMachine.{last_taken, state_of};
 ghost use Rattle.ak_port.specs.PortWriters.{StartsToTake};
 ghost use Rattle.kit_bench.specs.Ports.{HasCounted, IsPortShape, IsSeated};
 ghost use Rattle.kit_bench.specs.Turns.{IsReady};
@@ -60,6 +62,7 @@ pub fn question(alloc: Global) -> Result<Item, BenchFault> {
 }
 
 /// At one new port the threads write so many items each. Answers how many were taken.
+#[tactic(auto, using(crate::proofs::Taking::starts_first, crate::proofs::Taking::starts_still))]
 fn take_round<R: Threads + Wait + Sync>(
     rt: &R,
     alloc: Global,
@@ -81,7 +84,7 @@ fn take_round<R: Threads + Wait + Sync>(
     let (hauled, written) = join(
         rt,
         || -> Result<Haul, BenchFault>
-            requires { StartsToTake port.now TAKER most seat × (deque_capacity room ≡ most) × (deque_len room ≡ 0) × (1 ≤ most) }
+            requires { StartsToTake port.now TAKER most seat × (1 ≤ most) × (deque_capacity room ≡ most) × (room.items ≡ []) }
             ensures { IfOk result (λ haul. HasCounted haul.count haul.seat) }
         { take_all(rt, port, seat, room, most) },
         || -> Result<(), BenchFault>
@@ -92,8 +95,8 @@ fn take_round<R: Threads + Wait + Sync>(
     Ok(hauled?.count)
 }
 
-/// Takes until the port is shut, all that is pending at a time.
-#[tactic(auto, using(crate::proofs::Taking::taking))]
+/// Takes until the port is shut, all that is pending at a time, and counts what was taken.
+#[tactic(auto, using(crate::proofs::Taking::starting))]
 fn take_all<R: Wait>(
     rt: &R,
     port: &Port,
@@ -104,7 +107,7 @@ fn take_all<R: Wait>(
     requires seat { StartsToTake port.now TAKER most seat }
     requires most { 1 ≤ most }
     requires room { deque_capacity room ≡ most }
-    requires empty { deque_len room ≡ 0 }
+    requires empty { room.items ≡ [] }
     ensures { IfOk result (λ haul. HasCounted haul.count haul.seat) }
 {
     let mut clock = Clock {
@@ -114,16 +117,86 @@ fn take_all<R: Wait>(
     let mut taken = room;
     let mut count = 0u64;
     for _ in rt.forever() {
-        let answer = take(port, rt, &mut seat, &mut clock, &mut taken, most);
-        count = count
-            .checked_add(taken.len() as u64)
-            .ok_or(BenchFault::Refused)?;
-        taken.clear();
+        let (answer, number) = take_some(rt, port, &mut seat, &mut clock, &mut taken, most);
+        count = added(count, number)?;
         if let TakeAnswer::Rest(_) = answer {
             return Ok(Haul { seat, count });
         }
     }
     unreachable!()
+}
+
+/// One take, and how many items it handed out. They are let go.
+#[tactic(auto, using(crate::proofs::Taking::counts_on))]
+fn take_some<R: Wait>(
+    rt: &R,
+    port: &Port,
+    seat: &mut Seat<PortBook>,
+    clock: &mut Clock,
+    taken: &mut VecDeque<Taken>,
+    most: u32,
+) -> (TakeAnswer, u64)
+    requires at { IsSeated port.now clock.old.thread.0 seat.old }
+    requires taking { CanTake clock.old.thread most seat.old }
+    requires most { 1 ≤ most }
+    requires room { deque_capacity taken.old ≡ most }
+    requires empty { taken.old.items ≡ [] }
+    ensures at { IsSeated port.now clock.new.thread.0 seat.new }
+    ensures taking { IfTook result.0 (λ _. CanTake clock.new.thread most seat.new) }
+    ensures counted { (count : ℕ) → HasCounted count seat.old → HasCounted (count + result.1) seat.new }
+    ensures room { deque_capacity taken.new ≡ most }
+    ensures empty { taken.new.items ≡ [] }
+{
+    let answer = take_next(rt, port, seat, clock, taken, most);
+    let number = let_go(taken);
+    (answer, number)
+}
+
+/// One take, by a thread whose clock it is, into empty room.
+#[tactic(auto, using(crate::proofs::Taking::took_again, crate::proofs::Seating::seating))]
+pub fn take_next<R: Wait>(
+    rt: &R,
+    port: &Port,
+    seat: &mut Seat<PortBook>,
+    clock: &mut Clock,
+    taken: &mut VecDeque<Taken>,
+    most: u32,
+) -> TakeAnswer
+    requires at { IsSeated port.now clock.old.thread.0 seat.old }
+    requires taking { CanTake clock.old.thread most seat.old }
+    requires most { 1 ≤ most }
+    requires room { deque_capacity taken.old ≡ most }
+    requires empty { taken.old.items ≡ [] }
+    ensures clock { clock.new.thread ≡ clock.old.thread }
+    ensures at { IsSeated port.now clock.new.thread.0 seat.new }
+    ensures port { IsAtPort seat.new }
+    ensures entered { HasEntered clock.old clock.new (take_event result) seat.old seat.new }
+    ensures taking { IfTook result (λ _. CanTake clock.new.thread most seat.new) }
+    ensures items { taken.new.items ≡ last_taken (take_count result) (state_of seat.new.front) }
+    ensures room { deque_capacity taken.new ≡ most }
+{
+    take(port, rt, seat, clock, taken, most)
+}
+
+/// How many items there are. They are let go.
+fn let_go(taken: &mut VecDeque<Taken>) -> u64
+    ensures number { result ≡ length taken.old.items }
+    ensures items { taken.new.items ≡ [] }
+    ensures room { deque_capacity taken.new ≡ deque_capacity taken.old }
+{
+    let number = taken.len() as u64;
+    taken.clear();
+    number
+}
+
+/// A fault where the sum is no such number.
+fn added(count: u64, number: u64) -> Result<u64, BenchFault>
+    ensures { IfOk result (λ sum. sum ≡ count + number) }
+{
+    if number > u64::MAX - count {
+        return Err(BenchFault::Refused);
+    }
+    Ok(count + number)
 }
 
 /// The writers write so many items each, in threads of their own; then the port is shut.

@@ -9,7 +9,7 @@ decreases-loop-next g l = deque_len l.taken
 
 abbrev pub invariant-loop-next : goal.invariant-loop-next
 invariant-loop-next g l = record {
-  clock : l.clock.thread ≡ l.initial.clock.thread;
+  clock : l.clock.thread ≡ l.fn.clock.thread;
   book : IsSeated l.book l.clock.thread.0 l.at_book;
-  room : deque_capacity l.taken ≡ deque_capacity l.initial.taken;
+  room : deque_capacity l.taken ≡ deque_capacity l.fn.taken;
 }

@@ -5,7 +5,7 @@ use Rattle.kit_bench.proofs.asks.ask_some.Given as goal
 
 abbrev pub invariant-loop : goal.invariant-loop
 invariant-loop g l = record {
-  clock : l.clock.thread ≡ l.initial.clock.thread;
+  clock : l.clock.thread ≡ l.fn.clock.thread;
   port : IsSeated l.port l.clock.thread.0 l.at_port;
   book : IsSeated l.book l.clock.thread.0 l.at_book;
   count : l.count ≡ l.counter;
