@@ -127,7 +127,6 @@ fn take_all<R: Wait>(
 }
 
 /// One take, and how many items it handed out. They are let go.
-#[tactic(auto, using(crate::proofs::Taking::counts_on))]
 fn take_some<R: Wait>(
     rt: &R,
     port: &Port,
