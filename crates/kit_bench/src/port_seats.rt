@@ -11,10 +11,10 @@ use ak_port::{Port, PortBook};
 use ak_turn::Seat;
 use std::alloc::Global;
 
-/// The thread that takes.
+/// The thread that takes, and that answers where one asks.
 pub const TAKER: ThreadId = ThreadId(0);
 
-/// The thread that shuts the port once all is written.
+/// The thread that shuts the port once all is written. Where one asks, it is that one.
 pub const CLOSER: ThreadId = ThreadId(1);
 
 /// The first thread that writes. Those after it have the numbers after its own.
