@@ -1,3 +1,4 @@
 pub mod Order
+pub mod Ports
 pub mod Sample
 pub mod Turns

@@ -5,6 +5,7 @@ use Rattle.kit_bench.specs.declared.Work.TheVariants as work
 use Rattle.kit_bench.specs.declared.fault.BenchFault.{BenchFault}
 use Rattle.kit_bench.specs.declared.fault.BenchFault.TheVariants as fault
 use Rattle.kit_bench.specs.declared.routes.Shape.{Shape}
+use Rattle.kit_bench.specs.Ports.{IsPortShape}
 
 pub record IsShape (s : Shape) : Type 0 where
   pub some : 1 ≤ s.handlers
@@ -16,6 +17,8 @@ IsWork (work.Flat sample) = Unit {0}
 IsWork (work.Route shape) = IsShape shape
 IsWork (work.Turns threads) = (1 ≤ threads) × (threads ≤ 8)
 IsWork work.LongTurn = Unit {0}
+IsWork (work.Port shape) = IsPortShape shape
+IsWork work.Ask = Unit {0}
 
 abbrev pub status_of : BenchFault → ℕ
 status_of fault.Refused = 5

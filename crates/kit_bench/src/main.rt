@@ -6,18 +6,26 @@
 //! `kit_bench turn THREADS N` starts so many threads, which take N turns each at one lock and make an entry in each,
 //! and prints `turn THREADS N entries E`, where E is how many entries there are at the end; in `kit_bench turn wait N`
 //! one thread has the turn for N milliseconds and makes no entry, while another waits for it. `bench/turn` times both.
+//! `kit_bench port CAPACITY WRITERS N` has so many threads write N items in all to a port that holds so many at a time,
+//! while another one takes them, and prints `port CAPACITY WRITERS N taken T`, where T is how many were taken.
+//! `kit_bench ask N` has one thread ask another N times, and prints `ask N replies R`, where R is how many replies
+//! came. `bench/ports` times both.
 //!
-//! NAME is `ask`, `reply`, `deep` or `raw`, HANDLERS is 1 to 64, FILTERS is 0 to 32, THREADS is 1 to 8, and N is 1
-//! to 10,000,000. At other words it prints how it is used, and ends with status 1. The status is 4 where the line
+//! NAME is `ask`, `reply`, `deep` or `raw`, HANDLERS is 1 to 64, FILTERS is 0 to 32, THREADS and WRITERS are 1 to 8,
+//! CAPACITY is 1 to 1,000, and N is 1 to 10,000,000. At other words it prints how it is used, and ends with status 1. The status is 4 where the line
 //! cannot be written, 5 where a message or a handler is refused, which happens to none of these, and 6 where memory
 //! runs out.
 #![tactic(auto)]
 
-ghost use Rattle.std.specs.Prelude.{◌≡◌, ◌≤◌, IfSome};
+ghost use Rattle.std.specs.Prelude.{◌≡◌, ◌≤◌, IfOk, IfSome};
 ghost use Rattle.kit_bench.specs.Order.{IsShape, IsWork, status_of};
+ghost use Rattle.kit_bench.specs.Ports.{IsPortShape};
 
+mod asks;
 mod fault;
 mod held;
+mod port_seats;
+mod ports;
 mod routes;
 mod samples;
 mod tally;
@@ -27,7 +35,10 @@ use ak_filter::FILTER_LIMIT;
 use ak_flatten::{flatten, unflatten};
 use ak_handler::HANDLER_LIMIT;
 use ak_message::Message;
+use ak_port::CAPACITY_LIMIT;
+use asks::count_replies;
 use fault::BenchFault;
+use ports::{PortShape, count_taken};
 use routes::{Shape, deliveries};
 use samples::Sample;
 use std::alloc::Global;
@@ -55,6 +66,10 @@ enum Work {
     Turns(u32),
     /// A turn of so many milliseconds as there are rounds, for which another thread waits.
     LongTurn,
+    /// Items that go through a port.
+    Port(PortShape),
+    /// Questions that are answered.
+    Ask,
 }
 
 /// What the words ask for.
@@ -82,6 +97,14 @@ fn read_shape(handlers: &str, filters: &str) -> Option<Shape>
     Some(Shape { handlers, filters })
 }
 
+fn read_port(capacity: &str, writers: &str) -> Option<PortShape>
+    ensures { IfSome result IsPortShape }
+{
+    let capacity = read_number(capacity, 1, CAPACITY_LIMIT)?;
+    let writers = read_number(writers, 1, THREAD_LIMIT)?;
+    Some(PortShape { capacity, writers })
+}
+
 fn read_turns(word: &str) -> Option<Work>
     ensures { IfSome result IsWork }
 {
@@ -102,12 +125,17 @@ fn read_work(words: &[String]) -> Option<Work>
             Some(Work::Route(read_shape(handlers.as_str(), filters.as_str())?))
         }
         [first, second] if first.as_str() == "turn" => read_turns(second.as_str()),
+        [first, capacity, writers] if first.as_str() == "port" => {
+            Some(Work::Port(read_port(capacity.as_str(), writers.as_str())?))
+        }
+        [first] if first.as_str() == "ask" => Some(Work::Ask),
         _ => None,
     }
 }
 
 fn read_order(words: &[String]) -> Option<Order>
-    ensures { IfSome result (λ order. (1 ≤ order.rounds) × (order.rounds ≤ ROUND_LIMIT)) }
+    ensures rounds { IfSome result (λ order. (1 ≤ order.rounds) × (order.rounds ≤ ROUND_LIMIT)) }
+    ensures work { IfSome result (λ order. IsWork order.work) }
 {
     let (rounds, others) = words.split_last()?;
     let rounds = read_number(rounds.as_str(), 1, ROUND_LIMIT)?;
@@ -116,7 +144,9 @@ fn read_order(words: &[String]) -> Option<Order>
 }
 
 /// The order that the command line gives. `None` at other words, and where they are no text.
-fn given_order(rt: &(impl Env + AllocGlobal)) -> Result<Option<Order>, BenchFault> {
+fn given_order(rt: &(impl Env + AllocGlobal)) -> Result<Option<Order>, BenchFault>
+    ensures { IfOk result (λ given. IfSome given (λ order. IsWork order.work)) }
+{
     let mut words = Vec::new(rt.alloc());
     match env::args(rt) {
         Ok(args) => {
@@ -155,7 +185,7 @@ fn checksum(alloc: Global, sample: Sample, rounds: u32) -> Result<u64, BenchFaul
 
 fn print_usage(rt: &impl Print) -> io::Result<()> {
     println!(rt;
-        "usage: kit_bench flat ask|reply|deep|raw N\n       kit_bench route HANDLERS FILTERS N\n       kit_bench turn THREADS|wait N"
+        "usage: kit_bench flat ask|reply|deep|raw N\n       kit_bench route HANDLERS FILTERS N\n       kit_bench turn THREADS|wait N\n       kit_bench port CAPACITY WRITERS N\n       kit_bench ask N"
     )
 }
 
@@ -218,6 +248,31 @@ fn time_wait<R: Print + AllocGlobal + Threads + Wait + Clock + Sync>(
     }
 }
 
+fn time_port<R: Print + AllocGlobal + Threads + Wait + Sync>(
+    rt: &R,
+    shape: PortShape,
+    items: u32,
+) -> u8
+    requires { IsPortShape shape }
+{
+    let capacity = shape.capacity;
+    let writers = shape.writers;
+    match count_taken(rt, rt.alloc(), shape, items) {
+        Ok(count) => {
+            let line = println!(rt; "port {capacity} {writers} {items} taken {count}");
+            written(line, 0)
+        }
+        Err(fault) => faulted(fault),
+    }
+}
+
+fn time_asks<R: Print + AllocGlobal + Threads + Wait + Sync>(rt: &R, asks: u32) -> u8 {
+    match count_replies(rt, rt.alloc(), asks) {
+        Ok(count) => written(println!(rt; "ask {asks} replies {count}"), 0),
+        Err(fault) => faulted(fault),
+    }
+}
+
 fn main(rt: HostRuntime) -> ExitCode {
     let status = match given_order(&rt) {
         Ok(Some(order)) => match order.work {
@@ -225,6 +280,8 @@ fn main(rt: HostRuntime) -> ExitCode {
             Work::Route(shape) => time_route(&rt, shape, order.rounds),
             Work::Turns(threads) => time_turns(&rt, threads, order.rounds),
             Work::LongTurn => time_wait(&rt, order.rounds),
+            Work::Port(shape) => time_port(&rt, shape, order.rounds),
+            Work::Ask => time_asks(&rt, order.rounds),
         },
         Ok(None) => written(print_usage(&rt), 1),
         Err(_) => 6,
