@@ -7,4 +7,6 @@ mod dispatches;
 mod driving;
 mod histories;
 mod making;
+mod memory;
 mod properties;
+mod shared;

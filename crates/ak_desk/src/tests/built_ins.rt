@@ -1,5 +1,7 @@
-use super::bench::{Bench, Came};
-use super::making::{LOOPER, OTHER, OWN, Of, Pair, Val, asking, message, reply, state};
+use super::bench::{Bench, Came, Part};
+use super::making::{
+    Expected, FINE, OTHER, OWN, Of, Pair, Told, Val, asking, message, replied, state,
+};
 use crate::entry::EntryRoute;
 use ak_base::Code;
 use ak_flatten::{Duty, Item};
@@ -7,110 +9,179 @@ use ak_message::{Message, Target};
 use std::alloc::Global;
 use std::test::Fail;
 
-const ERROR: &[u8] = b"error";
+// A message in plain data.
+#[derive(Clone, Copy, Debug)]
+enum Asks {
+    Get(&'static [u8]),
+    Count(&'static [u8]),
+    Bare(Code),
+}
 
-const FINE: Pair = (ERROR, Val::Long(0));
+fn asked(alloc: Global, asks: Asks) -> Result<Message, Fail> {
+    match asks {
+        Asks::Get(property) => asking(alloc, Code::GET, &[Of::Direct(property)], &[]),
+        Asks::Count(property) => asking(alloc, Code::COUNT, &[Of::Direct(property)], &[]),
+        Asks::Bare(what) => message(alloc, what, &[]),
+    }
+}
 
 // What that looper makes of the message for the handler with that token.
-fn at(alloc: Global, looper: u32, token: u64, m: &Message) -> Result<Came, Fail> {
-    let item = Item::new(alloc, Target::Token(token), 0, false, Duty::None, m)?;
+fn at(alloc: Global, looper: u32, token: u64, asks: Asks) -> Result<Came, Fail> {
+    let m = asked(alloc, asks)?;
+    let item = Item::new(alloc, Target::Token(token), 0, false, Duty::None, &m)?;
     Bench::open(alloc, state(alloc, looper, &[])?)?.carry(alloc, item, &[])
 }
 
-fn get(alloc: Global, property: &'static [u8]) -> Result<Message, Fail> {
-    asking(alloc, Code::GET, &[Of::Direct(property)], &[])
+fn differs(
+    alloc: Global,
+    looper: u32,
+    token: u64,
+    asks: Asks,
+    expected: Expected,
+) -> Result<Option<Part>, Fail> {
+    at(alloc, looper, token, asks)?.differs(alloc, &expected)
 }
 
-// Whether it was taken by the handler with that token, which did nothing, and this is the reply.
-fn is_told(alloc: Global, came: &Came, token: u64, pairs: &[Pair]) -> Result<bool, Fail> {
-    let plain = came.asked.is_empty() && came.said.is_empty() && !came.quit && !came.no_memory;
-    let taken = came.route == EntryRoute::To(token);
-    Ok(plain && taken && came.replies(alloc, &reply(alloc, pairs)?)?)
-}
+const OWN_SUITE: Pair = (b"suites", Val::Words(b"suite/vnd.demo"));
 
-fn suite(words: &'static [u8]) -> Pair {
-    (b"suites".as_slice(), Val::Words(words))
-}
+const HANDLER: Pair = (b"suites", Val::Words(b"suite/vnd.Be-handler"));
 
-fn named(words: &'static [u8]) -> Pair {
-    (b"properties".as_slice(), Val::Words(words))
-}
+const LOOPER: Pair = (b"suites", Val::Words(b"suite/vnd.Be-looper"));
 
-// Of the application's own looper, of another one, and of a handler.
+const APPLICATION: Pair = (b"suites", Val::Words(b"suite/vnd.Be-application"));
+
+const COUNT: Pair = (b"properties", Val::Words(b"Count"));
+
+const TITLE: Pair = (b"properties", Val::Words(b"Title"));
+
+// What a looper's handler is asked, and the reply.
+const TOLD: [(u32, u64, Asks, &[Pair]); 15] = [
+    // The suites of the application's own looper, of another one, and of a handler.
+    (
+        OWN,
+        0,
+        Asks::Get(b"Suites"),
+        &[OWN_SUITE, HANDLER, LOOPER, APPLICATION, COUNT, TITLE, FINE],
+    ),
+    (
+        OTHER,
+        0,
+        Asks::Get(b"Suites"),
+        &[OWN_SUITE, HANDLER, LOOPER, COUNT, TITLE, FINE],
+    ),
+    (OWN, 1, Asks::Get(b"Suites"), &[HANDLER, FINE]),
+    (
+        OWN,
+        0,
+        Asks::Bare(Code::SUITES),
+        &[OWN_SUITE, HANDLER, LOOPER, APPLICATION, COUNT, TITLE, FINE],
+    ),
+    (
+        OTHER,
+        0,
+        Asks::Bare(Code::SUITES),
+        &[OWN_SUITE, HANDLER, LOOPER, COUNT, TITLE, FINE],
+    ),
+    (OWN, 1, Asks::Bare(Code::SUITES), &[HANDLER, FINE]),
+    // The messenger and the name.
+    (
+        OWN,
+        0,
+        Asks::Get(b"Messenger"),
+        &[(b"result", Val::At(OWN, 0)), FINE],
+    ),
+    (
+        OTHER,
+        0,
+        Asks::Get(b"Messenger"),
+        &[(b"result", Val::At(OTHER, 0)), FINE],
+    ),
+    (
+        OTHER,
+        1,
+        Asks::Get(b"Messenger"),
+        &[(b"result", Val::At(OTHER, 1)), FINE],
+    ),
+    (
+        OWN,
+        0,
+        Asks::Get(b"InternalName"),
+        &[(b"result", Val::Words(b"demo")), FINE],
+    ),
+    (
+        OTHER,
+        0,
+        Asks::Get(b"InternalName"),
+        &[(b"result", Val::Words(b"work")), FINE],
+    ),
+    (
+        OTHER,
+        1,
+        Asks::Get(b"InternalName"),
+        &[(b"result", Val::Words(b"side")), FINE],
+    ),
+    // Every looper counts its handlers, and an application's own looper its loopers too.
+    (
+        OWN,
+        0,
+        Asks::Count(b"Handler"),
+        &[(b"result", Val::Long(2)), FINE],
+    ),
+    (
+        OTHER,
+        0,
+        Asks::Count(b"Handler"),
+        &[(b"result", Val::Long(2)), FINE],
+    ),
+    (
+        OWN,
+        0,
+        Asks::Count(b"Looper"),
+        &[(b"result", Val::Long(3)), FINE],
+    ),
+];
+
 #[test]
-fn suites_are_told_in_order(rt: HostRuntime) -> Result<(), Fail> {
-    let alloc = rt.alloc();
-    let own = suite(b"suite/vnd.demo");
-    let handler = suite(b"suite/vnd.Be-handler");
-    let looper = suite(b"suite/vnd.Be-looper");
-    let application = suite(b"suite/vnd.Be-application");
-    let (count, title) = (named(b"Count"), named(b"Title"));
-    for m in [get(alloc, b"Suites")?, message(alloc, Code::SUITES, &[])?] {
-        let came = at(alloc, OWN, 0, &m)?;
-        let told = [own, handler, looper, application, count, title, FINE];
-        assert!(rt; is_told(alloc, &came, 0, &told)?);
-        let came = at(alloc, OTHER, 0, &m)?;
-        let told = [own, handler, looper, count, title, FINE];
-        assert!(rt; is_told(alloc, &came, 0, &told)?);
-        let came = at(alloc, OWN, 1, &m)?;
-        assert!(rt; is_told(alloc, &came, 1, &[handler, FINE])?);
+fn what_is_built_in_is_told(rt: HostRuntime) -> Result<(), Fail> {
+    for (looper, token, asks, told) in TOLD {
+        let expected = replied(token, told);
+        assert_eq!(rt;
+            differs(rt.alloc(), looper, token, asks, expected)?,
+            None,
+            "at {asks:?}"
+        );
     }
     Ok(())
 }
 
-#[test]
-fn messengers_and_names_are_told(rt: HostRuntime) -> Result<(), Fail> {
-    let alloc = rt.alloc();
-    for (looper, token, name) in [
-        (OWN, 0, b"demo".as_slice()),
-        (OTHER, 0, b"work".as_slice()),
-        (OTHER, 1, b"side".as_slice()),
-    ] {
-        let came = at(alloc, looper, token, &get(alloc, b"Messenger")?)?;
-        let result = (b"result".as_slice(), Val::At(looper, token));
-        assert!(rt; is_told(alloc, &came, token, &[result, FINE])?);
-        let came = at(alloc, looper, token, &get(alloc, b"InternalName")?)?;
-        let result = (b"result".as_slice(), Val::Words(name));
-        assert!(rt; is_told(alloc, &came, token, &[result, FINE])?);
+// What is built in for another looper or for a looper alone.
+const ELSEWHERE: [(u32, u64, Asks); 4] = [
+    (OTHER, 0, Asks::Count(b"Looper")),
+    (OWN, 1, Asks::Count(b"Handler")),
+    (OTHER, 0, Asks::Bare(Code::ARGV_RECEIVED)),
+    (OTHER, 0, Asks::Bare(Code::READY_TO_RUN)),
+];
+
+fn nothing(route: EntryRoute, told: Told) -> Expected {
+    Expected {
+        asked: &[],
+        route,
+        said: &[],
+        told,
+        quit: false,
+        no_memory: false,
     }
-    Ok(())
 }
 
-// Every looper counts its handlers, and an application's own looper its loopers too.
 #[test]
-fn handlers_and_loopers_are_counted(rt: HostRuntime) -> Result<(), Fail> {
-    let alloc = rt.alloc();
-    let two = [(b"result".as_slice(), Val::Long(2)), FINE];
-    let three = [(b"result".as_slice(), Val::Long(3)), FINE];
-    let handlers = asking(alloc, Code::COUNT, &[Of::Direct(b"Handler")], &[])?;
-    let loopers = asking(alloc, Code::COUNT, &[Of::Direct(b"Looper")], &[])?;
-    assert!(rt; is_told(alloc, &at(alloc, OWN, 0, &handlers)?, 0, &two)?);
-    assert!(rt; is_told(alloc, &at(alloc, OTHER, 0, &handlers)?, 0, &two)?);
-    assert!(rt; is_told(alloc, &at(alloc, OWN, 0, &loopers)?, 0, &three)?);
-    assert_eq!(rt;
-        at(alloc, OTHER, 0, &loopers)?.route,
-        EntryRoute::NotUnderstood
-    );
-    assert_eq!(rt;
-        at(alloc, OWN, 1, &handlers)?.route,
-        EntryRoute::NotUnderstood
-    );
-    Ok(())
-}
-
-// A looper quits where it is asked to, unless it refuses.
-#[test]
-fn a_looper_is_asked_to_quit(rt: HostRuntime) -> Result<(), Fail> {
-    let alloc = rt.alloc();
-    let m = message(alloc, Code::QUIT_REQUESTED, &[])?;
-    for (looper, refused) in [(OWN, false), (OWN, true), (OTHER, false), (OTHER, true)] {
-        let mut state = state(alloc, looper, &[])?;
-        state.quit_refused = refused;
-        let came = Bench::open(alloc, state)?.send(alloc, &m, &[])?;
-        assert_eq!(rt; came.route, LOOPER);
-        assert_eq!(rt; came.quit, !refused);
-        let result = (b"result".as_slice(), Val::Truth(!refused));
-        assert!(rt; came.replies(alloc, &reply(alloc, &[result, FINE])?)?);
+fn what_is_built_in_elsewhere_is_not_understood(rt: HostRuntime) -> Result<(), Fail> {
+    for (looper, token, asks) in ELSEWHERE {
+        let expected = nothing(EntryRoute::NotUnderstood, Told::NotUnderstood);
+        assert_eq!(rt;
+            differs(rt.alloc(), looper, token, asks, expected)?,
+            None,
+            "at {asks:?}"
+        );
     }
     Ok(())
 }
@@ -118,15 +189,41 @@ fn a_looper_is_asked_to_quit(rt: HostRuntime) -> Result<(), Fail> {
 // Arguments and the readiness are for the application's own looper, and make no reply.
 #[test]
 fn an_application_is_told_of_its_launch(rt: HostRuntime) -> Result<(), Fail> {
-    let alloc = rt.alloc();
     for what in [Code::ARGV_RECEIVED, Code::READY_TO_RUN] {
-        let m = message(alloc, what, &[])?;
-        let came = at(alloc, OWN, 0, &m)?;
-        assert_eq!(rt; came.route, LOOPER);
-        assert_eq!(rt; came.said.len(), 0);
-        assert!(rt; came.replies(alloc, &message(alloc, Code::NO_REPLY, &[])?)?);
-        assert!(rt; !came.quit && !came.no_memory);
-        assert_eq!(rt; at(alloc, OTHER, 0, &m)?.route, EntryRoute::NotUnderstood);
+        let expected = nothing(EntryRoute::To(0), Told::Nothing);
+        let asks = Asks::Bare(what);
+        assert_eq!(rt;
+            differs(rt.alloc(), OWN, 0, asks, expected)?,
+            None,
+            "at {asks:?}"
+        );
     }
     Ok(())
 }
+
+// What comes of the asking to quit.
+fn quits(alloc: Global, looper: u32, refused: bool, ends: Expected) -> Result<Option<Part>, Fail> {
+    let m = message(alloc, Code::QUIT_REQUESTED, &[])?;
+    let mut state = state(alloc, looper, &[])?;
+    state.quit_refused = refused;
+    let mut bench = Bench::open(alloc, state)?;
+    bench.send(alloc, &m, &[])?.differs(alloc, &ends)
+}
+
+// A looper quits where it is asked to, unless it refuses.
+#[test]
+fn a_looper_is_asked_to_quit(rt: HostRuntime) -> Result<(), Fail> {
+    for (looper, refused, told) in QUITS {
+        let mut ends = replied(0, told);
+        ends.quit = !refused;
+        assert_eq!(rt; quits(rt.alloc(), looper, refused, ends)?, None);
+    }
+    Ok(())
+}
+
+const QUITS: [(u32, bool, &[Pair]); 4] = [
+    (OWN, false, &[(b"result", Val::Truth(true)), FINE]),
+    (OWN, true, &[(b"result", Val::Truth(false)), FINE]),
+    (OTHER, false, &[(b"result", Val::Truth(true)), FINE]),
+    (OTHER, true, &[(b"result", Val::Truth(false)), FINE]),
+];

@@ -1,234 +1,342 @@
-use super::bench::{Bench, Came};
+use super::bench::{Bench, Came, Part, counted};
 use super::making::{
-    Asked, Do, Hear, LOOPER, OTHER, OWN, Of, PING, Said, To, Val, asking, filter, filtering,
-    message, reply, state,
+    Asked, Do, Expected, Hear, LOOPER, OK, ONE, OTHER, OWN, Of, PING, Said, To, Told, Val, asking,
+    filter, filtering, message, state,
 };
 use crate::entry::EntryRoute;
 use ak_base::{Code, KitError};
 use ak_flatten::{Duty, Item, flat_len};
-use ak_message::{Message, Target};
+use ak_message::Target;
 use std::alloc::Global;
 use std::test::Fail;
 
-const FINE: Said = Said::Error(KitError::Ok);
-
-// What an own looper with this reaction makes of `ping`, with these answers.
-fn ping(alloc: Global, list: &[Do], heard: &[Hear]) -> Result<(Bench, Came), Fail> {
-    let mut bench = Bench::open(alloc, state(alloc, OWN, list)?)?;
-    let came = bench.send(alloc, &message(alloc, PING, &[])?, heard)?;
-    Ok((bench, came))
+// A reaction, the answers that it hears, what `ping` comes to, and the value of `Count` then, which was 3.
+#[derive(Clone, Copy, Debug)]
+struct Case {
+    list: &'static [Do],
+    heard: &'static [Hear],
+    expected: Expected,
+    count: i32,
 }
 
-// The reply with that number in the field of that name.
-fn number(alloc: Global, name: &'static [u8], n: i32) -> Result<Message, Fail> {
-    reply(alloc, &[(name, Val::Long(n))])
+// What is another than the case says.
+fn differs(alloc: Global, case: Case) -> Result<Option<Part>, Fail> {
+    let mut bench = Bench::open(alloc, state(alloc, OWN, case.list)?)?;
+    let came = bench.send(alloc, &message(alloc, PING, &[])?, case.heard)?;
+    if counted(alloc, &mut bench)? != Some(case.count) {
+        return Ok(Some(Part::Count));
+    }
+    came.differs(alloc, &case.expected)
 }
 
-// The value of `Count` of that desk, as it tells it.
-fn counts(alloc: Global, bench: &mut Bench, n: i32) -> Result<bool, Fail> {
-    let get = asking(alloc, Code::GET, &[Of::Direct(b"Count")], &[])?;
-    let expected = reply(
-        alloc,
-        &[
-            (b"result".as_slice(), Val::Long(n)),
-            (b"error".as_slice(), Val::Long(0)),
+const NO_TEAM: Said = Said::Error(KitError::NoTeam);
+
+const REACTIONS: [Case; 7] = [
+    // Three posts to itself, of which the last finds the port full, and a reply.
+    Case {
+        list: &[
+            Do::Post(To::Own),
+            Do::Post(To::Own),
+            Do::Post(To::Own),
+            Do::Reply(b"error", 0),
         ],
-    )?;
-    bench.send(alloc, &get, &[])?.replies(alloc, &expected)
-}
+        heard: &[Hear::Written, Hear::Written, Hear::Full],
+        expected: Expected {
+            asked: &[Asked::Post(OWN, None); 3],
+            route: LOOPER,
+            said: &[OK, OK, Said::Error(KitError::WouldBlock), OK],
+            told: Told::Fields(&[(b"error", Val::Long(0))]),
+            quit: false,
+            no_memory: false,
+        },
+        count: 3,
+    },
+    // Of two replies the first is made.
+    Case {
+        list: &[Do::Reply(b"n", 1), Do::Reply(b"n", 2)],
+        heard: &[],
+        expected: Expected {
+            asked: &[],
+            route: LOOPER,
+            said: &[OK, Said::Error(KitError::DuplicateReply)],
+            told: ONE,
+            quit: false,
+            no_memory: false,
+        },
+        count: 3,
+    },
+    // The result of the reply to an ask becomes the value of a property.
+    Case {
+        list: &[Do::Ask(To::Looper(b"work"))],
+        heard: &[Hear::Result(30)],
+        expected: Expected {
+            asked: &[Asked::Ask(OTHER, None)],
+            route: LOOPER,
+            said: &[Said::Reply],
+            told: Told::Nothing,
+            quit: false,
+            no_memory: false,
+        },
+        count: 30,
+    },
+    // Where there is no reply the value stays.
+    Case {
+        list: &[Do::Ask(To::Looper(b"work"))],
+        heard: &[Hear::Closed],
+        expected: Expected {
+            asked: &[Asked::Ask(OTHER, None)],
+            route: LOOPER,
+            said: &[Said::Error(KitError::BadPortId)],
+            told: Told::Nothing,
+            quit: false,
+            no_memory: false,
+        },
+        count: 3,
+    },
+    // An application is found before it is asked.
+    Case {
+        list: &[Do::Ask(To::App)],
+        heard: &[Hear::Team(6, 12), Hear::Result(30)],
+        expected: Expected {
+            asked: &[Asked::Find, Asked::Ask(12, None)],
+            route: LOOPER,
+            said: &[Said::Team(6), Said::Reply],
+            told: Told::Nothing,
+            quit: false,
+            no_memory: false,
+        },
+        count: 30,
+    },
+    // Where it is not found, nothing is asked.
+    Case {
+        list: &[Do::Ask(To::App)],
+        heard: &[Hear::NoTeam],
+        expected: Expected {
+            asked: &[Asked::Find],
+            route: LOOPER,
+            said: &[Said::NoTeam, NO_TEAM],
+            told: Told::Nothing,
+            quit: false,
+            no_memory: false,
+        },
+        count: 3,
+    },
+    // The quit mark is set and the list goes on; `drop` ends it.
+    Case {
+        list: &[Do::Quit, Do::Set(8), Do::Drop, Do::Reply(b"n", 1)],
+        heard: &[],
+        expected: Expected {
+            asked: &[],
+            route: LOOPER,
+            said: &[OK, OK, OK],
+            told: Told::Nothing,
+            quit: true,
+            no_memory: false,
+        },
+        count: 8,
+    },
+];
 
-// Three posts to itself, of which the last finds the port full, and a reply.
 #[test]
-fn a_full_port_is_told_and_the_reply_comes(rt: HostRuntime) -> Result<(), Fail> {
-    let alloc = rt.alloc();
-    let post = Do::Post(To::Own);
-    let (_, came) = ping(
-        alloc,
-        &[post, post, post, Do::Reply(b"error", 0)],
-        &[Hear::Written, Hear::Written, Hear::Full],
-    )?;
-    assert_eq!(rt;
-        came.asked.as_slice(),
-        [Asked::Post(OWN, None); 3].as_slice()
-    );
-    assert_eq!(rt; came.route, LOOPER);
-    let full = Said::Error(KitError::WouldBlock);
-    assert_eq!(rt; came.said.as_slice(), [FINE, FINE, full, FINE].as_slice());
-    assert!(rt; came.replies(alloc, &number(alloc, b"error", 0)?)?);
-    assert!(rt; !came.quit && !came.no_memory);
-    Ok(())
-}
-
-#[test]
-fn the_first_of_two_replies_is_made(rt: HostRuntime) -> Result<(), Fail> {
-    let alloc = rt.alloc();
-    let (_, came) = ping(alloc, &[Do::Reply(b"n", 1), Do::Reply(b"n", 2)], &[])?;
-    assert_eq!(rt; came.asked.len(), 0);
-    assert_eq!(rt; came.route, LOOPER);
-    let second = Said::Error(KitError::DuplicateReply);
-    assert_eq!(rt; came.said.as_slice(), [FINE, second].as_slice());
-    assert!(rt; came.replies(alloc, &number(alloc, b"n", 1)?)?);
-    Ok(())
-}
-
-// The result of the reply to an ask becomes the value of a property.
-#[test]
-fn a_property_takes_the_result_of_an_ask(rt: HostRuntime) -> Result<(), Fail> {
-    let alloc = rt.alloc();
-    for (hear, said, n) in [
-        (Hear::Result(30), Said::Reply, 30),
-        (Hear::Closed, Said::Error(KitError::BadPortId), 3),
-    ] {
-        let (mut bench, came) = ping(alloc, &[Do::Ask(To::Looper(b"work"))], &[hear])?;
-        assert_eq!(rt; came.asked.as_slice(), [Asked::Ask(OTHER, None)].as_slice());
-        assert_eq!(rt; came.said.as_slice(), [said].as_slice());
-        assert!(rt; came.replies(alloc, &message(alloc, Code::NO_REPLY, &[])?)?);
-        assert!(rt; counts(alloc, &mut bench, n)?);
+fn reactions_come_as_told(rt: HostRuntime) -> Result<(), Fail> {
+    for case in REACTIONS {
+        assert_eq!(rt; differs(rt.alloc(), case)?, None, "of {case:?}");
     }
     Ok(())
 }
 
-// An application is found before it is asked.
-#[test]
-fn an_application_is_found_and_asked(rt: HostRuntime) -> Result<(), Fail> {
-    let alloc = rt.alloc();
-    let (mut bench, came) = ping(
-        alloc,
-        &[Do::Ask(To::App)],
-        &[Hear::Team(6, 12), Hear::Result(30)],
-    )?;
-    assert_eq!(rt;
-        came.asked.as_slice(),
-        [Asked::Find, Asked::Ask(12, None)].as_slice()
-    );
-    assert_eq!(rt;
-        came.said.as_slice(),
-        [Said::Team(6), Said::Reply].as_slice()
-    );
-    assert!(rt; counts(alloc, &mut bench, 30)?);
-    let (_, came) = ping(alloc, &[Do::Ask(To::App)], &[Hear::NoTeam])?;
-    assert_eq!(rt; came.asked.as_slice(), [Asked::Find].as_slice());
-    let none = Said::Error(KitError::NoTeam);
-    assert_eq!(rt; came.said.as_slice(), [Said::NoTeam, none].as_slice());
-    Ok(())
+const NO_MEMORY: Said = Said::Error(KitError::NoMemory);
+
+// A send after a reply and before quitting, the answers, of which the last tells want of memory, what is
+// wanted, and the words.
+const STARVED: [(Do, &[Hear], &[Asked], &[Said]); 5] = [
+    (
+        Do::Post(To::Own),
+        &[Hear::NoMemory],
+        &[Asked::Post(OWN, None)],
+        &[OK, NO_MEMORY],
+    ),
+    (
+        Do::Post(To::App),
+        &[Hear::NoMemory],
+        &[Asked::Find],
+        &[OK, NO_MEMORY],
+    ),
+    (
+        Do::Ask(To::Looper(b"work")),
+        &[Hear::NoMemory],
+        &[Asked::Ask(OTHER, None)],
+        &[OK, NO_MEMORY],
+    ),
+    (
+        Do::Ask(To::App),
+        &[Hear::NoMemory],
+        &[Asked::Find],
+        &[OK, NO_MEMORY],
+    ),
+    (
+        Do::Ask(To::App),
+        &[Hear::Team(6, 12), Hear::NoMemory],
+        &[Asked::Find, Asked::Ask(12, None)],
+        &[OK, Said::Team(6), NO_MEMORY],
+    ),
+];
+
+fn starved(alloc: Global, send: Do, heard: &[Hear], ends: Expected) -> Result<Option<Part>, Fail> {
+    let list = [Do::Reply(b"n", 1), send, Do::Quit];
+    let mut bench = Bench::open(alloc, state(alloc, OWN, &list)?)?;
+    let came = bench.send(alloc, &message(alloc, PING, &[])?, heard)?;
+    came.differs(alloc, &ends)
 }
 
-// The quit mark is set and the list goes on; `drop` ends it.
-#[test]
-fn quit_goes_on_and_drop_ends(rt: HostRuntime) -> Result<(), Fail> {
-    let alloc = rt.alloc();
-    let list = [Do::Quit, Do::Set(8), Do::Drop, Do::Reply(b"n", 1)];
-    let (mut bench, came) = ping(alloc, &list, &[])?;
-    assert!(rt; came.quit);
-    assert_eq!(rt; came.said.as_slice(), [FINE; 3].as_slice());
-    assert!(rt; came.replies(alloc, &message(alloc, Code::NO_REPLY, &[])?)?);
-    assert!(rt; counts(alloc, &mut bench, 8)?);
-    Ok(())
-}
-
-// Want of memory outside ends the list, and what was done before stays.
+// Want of memory outside ends the list, and the reply that was made before is kept.
 #[test]
 fn want_of_memory_ends_a_reaction(rt: HostRuntime) -> Result<(), Fail> {
-    let alloc = rt.alloc();
-    let list = [Do::Reply(b"n", 1), Do::Post(To::Own), Do::Quit];
-    let (_, came) = ping(alloc, &list, &[Hear::NoMemory])?;
-    let none = Said::Error(KitError::NoMemory);
-    assert_eq!(rt; came.said.as_slice(), [FINE, none].as_slice());
-    assert!(rt; came.no_memory && !came.quit);
-    assert!(rt; came.replies(alloc, &number(alloc, b"n", 1)?)?);
+    for (send, heard, asked, said) in STARVED {
+        let ends = Expected {
+            asked,
+            route: LOOPER,
+            said,
+            told: ONE,
+            quit: false,
+            no_memory: true,
+        };
+        assert_eq!(rt;
+            starved(rt.alloc(), send, heard, ends)?,
+            None,
+            "of {send:?}"
+        );
+    }
     Ok(())
 }
 
 // ---- a message that is sent on
-fn sent_on(alloc: Global, hear: Hear) -> Result<Came, Fail> {
+// An answer, its word, the reply, and whether memory ran out.
+const SENT_ON: [(Hear, &[Said], Told, bool); 4] = [
+    (Hear::Written, &[OK], Told::SentOn, false),
+    (
+        Hear::Closed,
+        &[Said::Error(KitError::BadPortId)],
+        Told::Fields(&[(b"error", Val::Long(-5))]),
+        false,
+    ),
+    (
+        Hear::Spent,
+        &[Said::Error(KitError::Spent)],
+        Told::Fields(&[(b"error", Val::Long(-14))]),
+        false,
+    ),
+    (Hear::NoMemory, &[NO_MEMORY], Told::Nothing, true),
+];
+
+// What a message for the second looper comes to.
+fn sent_on(alloc: Global, hear: Hear, ends: Expected) -> Result<Option<Part>, Fail> {
     let of = [Of::Direct(b"Title"), Of::Index(b"Looper", 1)];
     let m = asking(alloc, Code::GET, &of, &[])?;
-    Bench::open(alloc, state(alloc, OWN, &[])?)?.send(alloc, &m, &[hear])
+    let mut bench = Bench::open(alloc, state(alloc, OWN, &[])?)?;
+    let came = bench.send(alloc, &m, &[hear])?;
+    came.differs(alloc, &ends)
 }
 
 #[test]
-fn a_message_is_sent_on_without_a_reply(rt: HostRuntime) -> Result<(), Fail> {
-    let alloc = rt.alloc();
-    let came = sent_on(alloc, Hear::Written)?;
-    assert_eq!(rt;
-        came.asked.as_slice(),
-        [Asked::Forward(OTHER, 1)].as_slice()
-    );
-    assert_eq!(rt; came.route, EntryRoute::Forward(OTHER));
-    assert_eq!(rt; came.said.as_slice(), [FINE].as_slice());
-    assert!(rt; came.forwarded && came.reply.is_none());
-    assert!(rt; !came.quit && !came.no_memory);
-    Ok(())
-}
-
-#[test]
-fn a_refused_sending_on_is_replied(rt: HostRuntime) -> Result<(), Fail> {
-    let alloc = rt.alloc();
-    for (hear, error, n) in [
-        (Hear::Closed, KitError::BadPortId, -5),
-        (Hear::Spent, KitError::Spent, -14),
-    ] {
-        let came = sent_on(alloc, hear)?;
-        assert_eq!(rt; came.route, EntryRoute::Forward(OTHER));
-        assert_eq!(rt; came.said.as_slice(), [Said::Error(error)].as_slice());
-        assert!(rt; came.replies(alloc, &number(alloc, b"error", n)?)?);
-        assert!(rt; !came.quit && !came.no_memory);
+fn a_message_is_sent_on(rt: HostRuntime) -> Result<(), Fail> {
+    for (hear, said, told, no_memory) in SENT_ON {
+        let ends = Expected {
+            asked: &[Asked::Forward(OTHER, 1)],
+            route: EntryRoute::Forward(OTHER),
+            said,
+            told,
+            quit: false,
+            no_memory,
+        };
+        assert_eq!(rt; sent_on(rt.alloc(), hear, ends)?, None, "of {hear:?}");
     }
-    let came = sent_on(alloc, Hear::NoMemory)?;
-    let none = Said::Error(KitError::NoMemory);
-    assert_eq!(rt; came.said.as_slice(), [none].as_slice());
-    assert!(rt; came.no_memory && !came.quit);
-    assert!(rt; came.replies(alloc, &message(alloc, Code::NO_REPLY, &[])?)?);
     Ok(())
 }
 
 // ---- a message that nobody carries out
-#[test]
-fn what_is_not_understood_is_replied(rt: HostRuntime) -> Result<(), Fail> {
-    let alloc = rt.alloc();
-    let mut bench = Bench::open(alloc, state(alloc, OWN, &[])?)?;
-    let came = bench.send(alloc, &message(alloc, Code(7), &[])?, &[])?;
-    assert_eq!(rt; came.route, EntryRoute::NotUnderstood);
-    assert_eq!(rt; came.said.len(), 0);
-    assert!(rt; came.replies(alloc, &message(alloc, Code::NOT_UNDERSTOOD, &[])?)?);
-    Ok(())
+fn nothing(route: EntryRoute, told: Told) -> Expected {
+    Expected {
+        asked: &[],
+        route,
+        said: &[],
+        told,
+        quit: false,
+        no_memory: false,
+    }
 }
 
-#[test]
-fn what_is_skipped_or_dropped_makes_no_reply(rt: HostRuntime) -> Result<(), Fail> {
-    let alloc = rt.alloc();
-    let none = message(alloc, Code::NO_REPLY, &[])?;
-    let m = message(alloc, PING, &[])?;
+fn not_understood(alloc: Global) -> Result<Option<Part>, Fail> {
+    let mut bench = Bench::open(alloc, state(alloc, OWN, &[])?)?;
+    let came = bench.send(alloc, &message(alloc, Code(7), &[])?, &[])?;
+    came.differs(
+        alloc,
+        &nothing(EntryRoute::NotUnderstood, Told::NotUnderstood),
+    )
+}
+
+fn skipped(alloc: Global) -> Result<Option<Part>, Fail> {
     let filters = filter(alloc, PING, None)?;
     let list = [Do::Reply(b"n", 1)];
     let mut bench = Bench::open(alloc, filtering(alloc, OWN, filters, &list)?)?;
-    let came = bench.send(alloc, &m, &[])?;
-    assert_eq!(rt; came.route, EntryRoute::Skipped);
-    assert_eq!(rt; came.said.len(), 0);
-    assert!(rt; came.replies(alloc, &none)?);
+    let came = bench.send(alloc, &message(alloc, PING, &[])?, &[])?;
+    came.differs(alloc, &nothing(EntryRoute::Skipped, Told::Nothing))
+}
+
+// It is for a handler that never was.
+fn dropped(alloc: Global) -> Result<Option<Part>, Fail> {
+    let m = message(alloc, PING, &[])?;
     let gone = Item::new(alloc, Target::Token(9), 0, false, Duty::None, &m)?;
+    let mut bench = Bench::open(alloc, state(alloc, OWN, &[Do::Reply(b"n", 1)])?)?;
     let came = bench.carry(alloc, gone, &[])?;
-    assert_eq!(rt; came.route, EntryRoute::Dropped);
-    assert_eq!(rt; came.said.len(), 0);
-    assert!(rt; came.replies(alloc, &none)?);
+    came.differs(alloc, &nothing(EntryRoute::Dropped, Told::Nothing))
+}
+
+#[test]
+fn what_nobody_carries_out_is_replied(rt: HostRuntime) -> Result<(), Fail> {
+    let alloc = rt.alloc();
+    assert_eq!(rt; not_understood(alloc)?, None);
+    assert_eq!(rt; skipped(alloc)?, None);
+    assert_eq!(rt; dropped(alloc)?, None);
     Ok(())
 }
 
+// ---- a reply that may be too long
+// What comes of a reply with a field of so many bytes in all.
+fn replied_long(alloc: Global, len: usize) -> Result<Came, Fail> {
+    let mut bench = Bench::open(alloc, state(alloc, OWN, &[Do::Long(len)])?)?;
+    bench.send(alloc, &message(alloc, PING, &[])?, &[])
+}
+
+fn reply_len(alloc: Global, len: usize) -> Result<Option<u64>, Fail> {
+    let came = replied_long(alloc, len)?;
+    match &came.reply {
+        Some(reply) => Ok(Some(flat_len(reply))),
+        None => Ok(None),
+    }
+}
+
+fn too_long(alloc: Global, ends: Expected) -> Result<Option<Part>, Fail> {
+    replied_long(alloc, 4070)?.differs(alloc, &ends)
+}
+
+const TOO_LONG: Expected = Expected {
+    asked: &[],
+    route: LOOPER,
+    said: &[OK],
+    told: Told::Fields(&[(b"error", Val::Long(-15))]),
+    quit: false,
+    no_memory: false,
+};
+
 // A reply of 4,096 bytes is sent, and one of 4,097 is not. Beside its values it has 12 bytes before the
-// field, 7 for the field's code, name and count, and 2 before each of four values.
+// field, 7 for the field's code, name and count, and 2 before each of four values. The one in its place
+// has 12 bytes, 11 for the field's code, name and count, 2 before the value, and its 4.
 #[test]
 fn a_reply_that_is_too_long_is_replaced(rt: HostRuntime) -> Result<(), Fail> {
     let alloc = rt.alloc();
-    let (_, came) = ping(alloc, &[Do::Long(4069)], &[])?;
-    assert_eq!(rt; came.said.as_slice(), [FINE].as_slice());
-    assert!(rt;
-        came.reply
-            .as_ref()
-            .is_some_and(|reply| flat_len(reply) == 4096)
-    );
-    let (_, came) = ping(alloc, &[Do::Long(4070)], &[])?;
-    assert_eq!(rt; came.said.as_slice(), [FINE].as_slice());
-    assert!(rt; came.replies(alloc, &number(alloc, b"error", -15)?)?);
-    assert!(rt; !came.forwarded && !came.quit && !came.no_memory);
+    assert_eq!(rt; reply_len(alloc, 4069)?, Some(4096));
+    assert_eq!(rt; reply_len(alloc, 4070)?, Some(29));
+    assert_eq!(rt; too_long(alloc, TOO_LONG)?, None);
     Ok(())
 }

@@ -73,6 +73,21 @@ fn come_to_end(desk: &mut Desk) -> Result<(), Fail>
     }
 }
 
+// Nothing is wanted, or there is no memory to go on.
+pub(super) fn come_to_an_end(desk: &mut Desk) -> Result<(), Fail>
+    requires { DeskMayWant desk.old }
+    ensures done { OnOk result (DeskIsDone desk.new) }
+    ensures opening { desk.new.opening ≡ desk.old.opening }
+{
+    let Ok(want) = desk.want() else {
+        return Ok(());
+    };
+    match want {
+        Want::Done => Ok(()),
+        _ => Err(Fail::new("an answer is missing")),
+    }
+}
+
 // What is wanted, one after the other, with these answers, to the end.
 pub(super) fn answer_all(
     alloc: Global,

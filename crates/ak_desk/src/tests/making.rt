@@ -1,3 +1,5 @@
+ghost use Rattle.std.specs.Prelude.{◌≤◌, length, IfOk};
+
 use crate::entry::EntryRoute;
 use ak_action::{
     Action, ActionList, AnswerWord, DeskRow, DeskState, Dest, ElementsList, Given, Reaction,
@@ -40,7 +42,9 @@ pub(super) enum Do {
     Long(usize),
     Post(To),
     Ask(To),
+    // Of `Count` and of `Title`.
     Set(i32),
+    Say(&'static [u8]),
     Drop,
     Quit,
 }
@@ -99,8 +103,58 @@ pub(super) enum Of {
 // A field in plain data.
 pub(super) type Pair = (&'static [u8], Val);
 
+// A reply in plain data.
+#[derive(Clone, Copy, Debug)]
+pub(super) enum Told {
+    // None, since the message was sent on.
+    SentOn,
+    // That nothing was replied.
+    Nothing,
+    NotUnderstood,
+    Fields(&'static [Pair]),
+}
+
+// What a message comes to, in plain data.
+#[derive(Clone, Copy, Debug)]
+pub(super) struct Expected {
+    pub asked: &'static [Asked],
+    pub route: EntryRoute,
+    pub said: &'static [Said],
+    pub told: Told,
+    pub quit: bool,
+    pub no_memory: bool,
+}
+
+// A message that the handler with that token takes, and does nothing but to reply.
+pub(super) fn replied(token: u64, fields: &'static [Pair]) -> Expected {
+    Expected {
+        asked: &[],
+        route: EntryRoute::To(token),
+        said: &[],
+        told: Told::Fields(fields),
+        quit: false,
+        no_memory: false,
+    }
+}
+
+// That all is well, as a field and as a word.
+pub(super) const FINE: Pair = (b"error", Val::Long(0));
+
+// The reply that `Do::Reply` makes of `n` and 1.
+pub(super) const ONE: Told = Told::Fields(&[(b"n", Val::Long(1))]);
+
+pub(super) const OK: Said = Said::Error(KitError::Ok);
+
 pub(super) fn text(alloc: Global, bytes: &[u8]) -> Result<Text, Fail> {
     Ok(Text::from_bytes(alloc, bytes)?)
+}
+
+fn texts(alloc: Global, words: &[&[u8]]) -> Result<Items<Text>, Fail> {
+    let mut texts = Vec::new(alloc);
+    for bytes in words {
+        texts.push(text(alloc, bytes)?)?;
+    }
+    Ok(Items::from_vec(texts))
 }
 
 // ---- messages
@@ -127,6 +181,16 @@ pub(super) fn message(alloc: Global, what: Code, pairs: &[Pair]) -> Result<Messa
 
 pub(super) fn reply(alloc: Global, pairs: &[Pair]) -> Result<Message, Fail> {
     message(alloc, Code::REPLY, pairs)
+}
+
+// The reply, if there is one.
+pub(super) fn reply_told(alloc: Global, told: Told) -> Result<Option<Message>, Fail> {
+    match told {
+        Told::SentOn => Ok(None),
+        Told::Nothing => Ok(Some(Message::new(alloc, Code::NO_REPLY))),
+        Told::NotUnderstood => Ok(Some(Message::new(alloc, Code::NOT_UNDERSTOOD))),
+        Told::Fields(pairs) => Ok(Some(reply(alloc, pairs)?)),
+    }
 }
 
 fn specifier(alloc: Global, of: Of) -> Result<Specifier, Fail> {
@@ -194,10 +258,18 @@ fn raw(alloc: Global, len: usize) -> Result<Value, Fail> {
 
 fn long_values(alloc: Global, len: usize) -> Result<Values, Fail> {
     let mut values = Values::one(alloc, raw(alloc, 1024)?)?;
-    values.push(raw(alloc, 1024)?)?;
-    values.push(raw(alloc, 1024)?)?;
-    values.push(raw(alloc, len.saturating_sub(3 * 1024))?)?;
+    for piece in [1024, 1024, len.saturating_sub(3 * 1024)] {
+        values.push(raw(alloc, piece)?)?;
+    }
     Ok(values)
+}
+
+fn long(alloc: Global, n: i32) -> Result<Values, Fail> {
+    Ok(Values::one(alloc, Value::Int32(n))?)
+}
+
+fn words(alloc: Global, bytes: &[u8]) -> Result<Values, Fail> {
+    Ok(Values::one(alloc, Value::Text(text(alloc, bytes)?))?)
 }
 
 fn template(alloc: Global, name: &[u8], values: Values) -> Result<Template, Fail> {
@@ -224,47 +296,73 @@ fn dest(alloc: Global, to: To) -> Result<Dest, Fail> {
     })
 }
 
-fn action(alloc: Global, what: Do) -> Result<Action, Fail> {
-    Ok(match what {
-        Do::Reply(name, n) => Action::Reply {
-            message: template(alloc, name, Values::one(alloc, Value::Int32(n))?)?,
-        },
-        Do::Long(len) => Action::Reply {
-            message: template(alloc, b"r", long_values(alloc, len)?)?,
-        },
-        Do::Post(to) => Action::Post {
-            to: dest(alloc, to)?,
-            message: bare(alloc),
-            back: false,
-        },
-        Do::Ask(to) => Action::Ask {
-            to: dest(alloc, to)?,
-            message: bare(alloc),
-            into: Some(text(alloc, b"Count")?),
-        },
-        Do::Set(n) => Action::Set {
-            property: text(alloc, b"Count")?,
-            value: Given::Values(Values::one(alloc, Value::Int32(n))?),
-        },
-        Do::Drop => Action::Stop,
-        Do::Quit => Action::Quit,
+fn replying(alloc: Global, name: &[u8], values: Values) -> Result<Action, Fail> {
+    Ok(Action::Reply {
+        message: template(alloc, name, values)?,
     })
 }
 
-fn reactions(alloc: Global, list: &[Do]) -> Result<ReactionList, Fail> {
+fn posting(alloc: Global, to: To) -> Result<Action, Fail> {
+    Ok(Action::Post {
+        to: dest(alloc, to)?,
+        message: bare(alloc),
+        back: false,
+    })
+}
+
+// The result becomes the value of `Count`.
+fn counting(alloc: Global, to: To) -> Result<Action, Fail> {
+    Ok(Action::Ask {
+        to: dest(alloc, to)?,
+        message: bare(alloc),
+        into: Some(text(alloc, b"Count")?),
+    })
+}
+
+fn setting(alloc: Global, property: &[u8], values: Values) -> Result<Action, Fail> {
+    Ok(Action::Set {
+        property: text(alloc, property)?,
+        value: Given::Values(values),
+    })
+}
+
+fn action(alloc: Global, what: Do) -> Result<Action, Fail> {
+    match what {
+        Do::Reply(name, n) => replying(alloc, name, long(alloc, n)?),
+        Do::Long(len) => replying(alloc, b"r", long_values(alloc, len)?),
+        Do::Post(to) => posting(alloc, to),
+        Do::Ask(to) => counting(alloc, to),
+        Do::Set(n) => setting(alloc, b"Count", long(alloc, n)?),
+        Do::Say(said) => setting(alloc, b"Title", words(alloc, said)?),
+        Do::Drop => Ok(Action::Stop),
+        Do::Quit => Ok(Action::Quit),
+    }
+}
+
+fn actions(alloc: Global, list: &[Do]) -> Result<ActionList, Fail> {
     let mut actions = ActionList::new(alloc);
     for what in list {
         actions.push(action(alloc, *what)?)?;
     }
+    Ok(actions)
+}
+
+fn reactions(alloc: Global, list: &[Do]) -> Result<ReactionList, Fail> {
     let mut reactions = ReactionList::new(alloc);
     reactions.push(Reaction {
         what: PING,
-        actions,
+        actions: actions(alloc, list)?,
     })?;
     Ok(reactions)
 }
 
 // ---- the state
+const PROPERTIES: [(&[u8], Kind); 2] = [(b"Count", Kind::Int32), (b"Title", Kind::Text)];
+
+const SUITES: [&[u8]; 1] = [b"suite/vnd.demo"];
+
+const LOOPERS: [&[u8]; 3] = [b"demo", b"work", b"rest"];
+
 fn property(alloc: Global, name: &[u8], kind: Kind) -> Result<PropertyRow, Fail> {
     Ok(PropertyRow {
         name: text(alloc, name)?,
@@ -288,20 +386,27 @@ fn titles(alloc: Global) -> Result<Elements, Fail> {
     Ok(Elements::new(alloc, Kind::Text, list)?)
 }
 
-// Holds `Count` with 3, and `Title` with "A" of the name `one` and "B" of the name `two`.
-fn holding(alloc: Global, filters: FilterList, list: &[Do]) -> Result<DeskRow, Fail> {
+fn table(alloc: Global) -> Result<PropertyTable, Fail> {
     let mut table = PropertyTable::new(alloc);
-    table.add_row(property(alloc, b"Count", Kind::Int32)?)?;
-    table.add_row(property(alloc, b"Title", Kind::Text)?)?;
+    for (name, kind) in PROPERTIES {
+        table.add_row(property(alloc, name, kind)?)?;
+    }
+    Ok(table)
+}
+
+fn elements(alloc: Global) -> Result<ElementsList, Fail> {
     let mut elements = Vec::new(alloc);
     elements.push(count(alloc)?)?;
     elements.push(titles(alloc)?)?;
-    let mut suites = Vec::new(alloc);
-    suites.push(text(alloc, b"suite/vnd.demo")?)?;
+    Ok(ElementsList::from_vec(elements))
+}
+
+// Holds `Count` with 3, and `Title` with "A" of the name `one` and "B" of the name `two`.
+fn holding(alloc: Global, filters: FilterList, list: &[Do]) -> Result<DeskRow, Fail> {
     Ok(DeskRow {
-        suites: Items::from_vec(suites),
-        table,
-        elements: ElementsList::from_vec(elements),
+        suites: texts(alloc, &SUITES)?,
+        table: table(alloc)?,
+        elements: elements(alloc)?,
         filters,
         reactions: reactions(alloc, list)?,
     })
@@ -321,6 +426,27 @@ pub(super) fn filter(alloc: Global, what: Code, to: Option<Code>) -> Result<Filt
     Ok(filters)
 }
 
+// Of an application there are at most 8 loopers.
+fn names(alloc: Global) -> Result<Items<Text>, Fail>
+    ensures { IfOk result (λ names. length names ≤ 8) }
+{
+    let names = texts(alloc, &LOOPERS)?;
+    if names.as_slice().len() > 8 {
+        return Err(Fail::new("there are too many loopers"));
+    }
+    Ok(names)
+}
+
+fn name_of(looper: u32) -> &'static [u8] {
+    if looper == OWN { b"demo" } else { b"work" }
+}
+
+fn handlers(alloc: Global, name: &[u8], row: DeskRow) -> Result<HandlerSet<DeskRow>, Fail> {
+    let mut handlers = HandlerSet::new(alloc, text(alloc, name)?, row)?;
+    handlers.add(text(alloc, b"side")?, DeskRow::empty(alloc))?;
+    Ok(handlers)
+}
+
 // The looper `demo`, or the second looper `work` of its application, which has three. That is its reaction
 // on `ping`, and these are its filters; it has a handler `side`, which holds nothing, with token 1.
 pub(super) fn filtering(
@@ -329,21 +455,13 @@ pub(super) fn filtering(
     filters: FilterList,
     list: &[Do],
 ) -> Result<DeskState, Fail> {
-    let name: &[u8] = if looper == OWN { b"demo" } else { b"work" };
-    let row = holding(alloc, filters, list)?;
-    let mut handlers = HandlerSet::new(alloc, text(alloc, name)?, row)?;
-    handlers.add(text(alloc, b"side")?, DeskRow::empty(alloc))?;
-    let mut names = Vec::new(alloc);
-    names.push(text(alloc, b"demo")?)?;
-    names.push(text(alloc, b"work")?)?;
-    names.push(text(alloc, b"rest")?)?;
     Ok(DeskState {
         looper,
         team: TEAM,
         first: OWN,
-        names: Items::from_vec(names),
+        names: names(alloc)?,
         quit_refused: false,
-        handlers,
+        handlers: handlers(alloc, name_of(looper), holding(alloc, filters, list)?)?,
         common: FilterList::new(alloc),
     })
 }
