@@ -55,7 +55,7 @@ const COUNT: Pair = (b"properties", Val::Words(b"Count"));
 const TITLE: Pair = (b"properties", Val::Words(b"Title"));
 
 // What a looper's handler is asked, and the reply.
-const TOLD: [(u32, u64, Asks, &[Pair]); 15] = [
+static TOLD: [(u32, u64, Asks, &[Pair]); 15] = [
     // The suites of the application's own looper, of another one, and of a handler.
     (
         OWN,
@@ -143,7 +143,7 @@ const TOLD: [(u32, u64, Asks, &[Pair]); 15] = [
 
 #[test]
 fn what_is_built_in_is_told(rt: HostRuntime) -> Result<(), Fail> {
-    for (looper, token, asks, told) in TOLD {
+    for &(looper, token, asks, told) in &TOLD {
         let expected = replied(token, told);
         assert_eq!(rt;
             differs(rt.alloc(), looper, token, asks, expected)?,
@@ -155,7 +155,7 @@ fn what_is_built_in_is_told(rt: HostRuntime) -> Result<(), Fail> {
 }
 
 // What is built in for another looper or for a looper alone.
-const ELSEWHERE: [(u32, u64, Asks); 4] = [
+static ELSEWHERE: [(u32, u64, Asks); 4] = [
     (OTHER, 0, Asks::Count(b"Looper")),
     (OWN, 1, Asks::Count(b"Handler")),
     (OTHER, 0, Asks::Bare(Code::ARGV_RECEIVED)),
@@ -175,7 +175,7 @@ fn nothing(route: EntryRoute, told: Told) -> Expected {
 
 #[test]
 fn what_is_built_in_elsewhere_is_not_understood(rt: HostRuntime) -> Result<(), Fail> {
-    for (looper, token, asks) in ELSEWHERE {
+    for &(looper, token, asks) in &ELSEWHERE {
         let expected = nothing(EntryRoute::NotUnderstood, Told::NotUnderstood);
         assert_eq!(rt;
             differs(rt.alloc(), looper, token, asks, expected)?,
@@ -213,7 +213,7 @@ fn quits(alloc: Global, looper: u32, refused: bool, ends: Expected) -> Result<Op
 // A looper quits where it is asked to, unless it refuses.
 #[test]
 fn a_looper_is_asked_to_quit(rt: HostRuntime) -> Result<(), Fail> {
-    for (looper, refused, told) in QUITS {
+    for &(looper, refused, told) in &QUITS {
         let mut ends = replied(0, told);
         ends.quit = !refused;
         assert_eq!(rt; quits(rt.alloc(), looper, refused, ends)?, None);
@@ -221,7 +221,7 @@ fn a_looper_is_asked_to_quit(rt: HostRuntime) -> Result<(), Fail> {
     Ok(())
 }
 
-const QUITS: [(u32, bool, &[Pair]); 4] = [
+static QUITS: [(u32, bool, &[Pair]); 4] = [
     (OWN, false, &[(b"result", Val::Truth(true)), FINE]),
     (OWN, true, &[(b"result", Val::Truth(false)), FINE]),
     (OTHER, false, &[(b"result", Val::Truth(true)), FINE]),

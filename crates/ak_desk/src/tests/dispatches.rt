@@ -31,7 +31,7 @@ fn differs(alloc: Global, case: Case) -> Result<Option<Part>, Fail> {
 
 const NO_TEAM: Said = Said::Error(KitError::NoTeam);
 
-const REACTIONS: [Case; 7] = [
+static REACTIONS: [Case; 7] = [
     // Three posts to itself, of which the last finds the port full, and a reply.
     Case {
         list: &[
@@ -139,8 +139,8 @@ const REACTIONS: [Case; 7] = [
 
 #[test]
 fn reactions_come_as_told(rt: HostRuntime) -> Result<(), Fail> {
-    for case in REACTIONS {
-        assert_eq!(rt; differs(rt.alloc(), case)?, None, "of {case:?}");
+    for case in &REACTIONS {
+        assert_eq!(rt; differs(rt.alloc(), *case)?, None, "of {case:?}");
     }
     Ok(())
 }
@@ -149,7 +149,7 @@ const NO_MEMORY: Said = Said::Error(KitError::NoMemory);
 
 // A send after a reply and before quitting, the answers, of which the last tells want of memory, what is
 // wanted, and the words.
-const STARVED: [(Do, &[Hear], &[Asked], &[Said]); 5] = [
+static STARVED: [(Do, &[Hear], &[Asked], &[Said]); 5] = [
     (
         Do::Post(To::Own),
         &[Hear::NoMemory],
@@ -192,7 +192,7 @@ fn starved(alloc: Global, send: Do, heard: &[Hear], ends: Expected) -> Result<Op
 // Want of memory outside ends the list, and the reply that was made before is kept.
 #[test]
 fn want_of_memory_ends_a_reaction(rt: HostRuntime) -> Result<(), Fail> {
-    for (send, heard, asked, said) in STARVED {
+    for &(send, heard, asked, said) in &STARVED {
         let ends = Expected {
             asked,
             route: LOOPER,
@@ -212,7 +212,7 @@ fn want_of_memory_ends_a_reaction(rt: HostRuntime) -> Result<(), Fail> {
 
 // ---- a message that is sent on
 // An answer, its word, the reply, and whether memory ran out.
-const SENT_ON: [(Hear, &[Said], Told, bool); 4] = [
+static SENT_ON: [(Hear, &[Said], Told, bool); 4] = [
     (Hear::Written, &[OK], Told::SentOn, false),
     (
         Hear::Closed,
@@ -240,7 +240,7 @@ fn sent_on(alloc: Global, hear: Hear, ends: Expected) -> Result<Option<Part>, Fa
 
 #[test]
 fn a_message_is_sent_on(rt: HostRuntime) -> Result<(), Fail> {
-    for (hear, said, told, no_memory) in SENT_ON {
+    for &(hear, said, told, no_memory) in &SENT_ON {
         let ends = Expected {
             asked: &[Asked::Forward(OTHER, 1)],
             route: EntryRoute::Forward(OTHER),
@@ -320,7 +320,7 @@ fn too_long(alloc: Global, ends: Expected) -> Result<Option<Part>, Fail> {
     replied_long(alloc, 4070)?.differs(alloc, &ends)
 }
 
-const TOO_LONG: Expected = Expected {
+static TOO_LONG: Expected = Expected {
     asked: &[],
     route: LOOPER,
     said: &[OK],

@@ -23,7 +23,7 @@ enum Change {
 struct Set(u32, Option<u64>, Option<u64>);
 
 // Edits one after another, each with its answer and the handlers then.
-const EDITS: [(Change, EditAnswer, Set); 13] = [
+static EDITS: [(Change, EditAnswer, Set); 13] = [
     (Change::Add(b"b"), Token(2), Set(3, Some(0), None)),
     (Change::Next(1, Some(2)), Done, Set(3, Some(2), None)),
     (
@@ -110,7 +110,7 @@ fn edited(alloc: Global, bench: &mut Bench, change: Change) -> Result<EditAnswer
 fn edits_are_answered_and_told(rt: HostRuntime) -> Result<(), Fail> {
     let alloc = rt.alloc();
     let mut bench = unused(alloc)?;
-    for (change, answer, set) in EDITS {
+    for &(change, answer, set) in &EDITS {
         assert_eq!(rt; edited(alloc, &mut bench, change)?, answer);
         assert_eq!(rt; set_of(&bench), set);
     }
@@ -178,7 +178,7 @@ fn a_removed_handler_gets_nothing(rt: HostRuntime) -> Result<(), Fail> {
     Ok(())
 }
 
-const GIVEN_UP: Expected = Expected {
+static GIVEN_UP: Expected = Expected {
     asked: &[],
     route: EntryRoute::NoMemory,
     said: &[],

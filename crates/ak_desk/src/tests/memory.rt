@@ -15,7 +15,7 @@ const NONE: Said = Said::Error(KitError::NoMemory);
 struct Way(&'static [Said], EntryRoute, bool, i32);
 
 // A reply is to be made, then a title to be set, and then the count to 8; it was 3.
-const WAYS: [Way; 4] = [
+static WAYS: [Way; 4] = [
     Way(&[], EntryRoute::NoMemory, false, 3),
     Way(&[NONE], LOOPER, false, 3),
     Way(&[OK, NONE], LOOPER, true, 3),
@@ -48,8 +48,8 @@ fn a_message_comes_as_far_as_memory_goes(rt: HostRuntime) -> Result<(), Fail> {
     let alloc = rt.alloc();
     let (mut bench, came) = carried(alloc)?;
     let mut goes_one = false;
-    for way in WAYS {
-        if goes(alloc, &mut bench, &came, way)? {
+    for way in &WAYS {
+        if goes(alloc, &mut bench, &came, *way)? {
             goes_one = true;
         }
     }

@@ -23,7 +23,7 @@ const SYNTAX: Pair = (b"error", Val::Long(-11));
 type Row = (Code, &'static [Of], &'static [Pair], &'static [Pair]);
 
 // One after the other: what each one left is seen by the next one.
-const COMMANDS: [Row; 15] = [
+static COMMANDS: [Row; 15] = [
     (Code::GET, &[COUNT], &[], &[THREE, FINE]),
     (Code::SET, &[COUNT], &[EIGHT], &[FINE]),
     (Code::GET, &[COUNT], &[], &[(b"result", Val::Long(8)), FINE]),
@@ -87,14 +87,14 @@ fn differs(alloc: Global, bench: &mut Bench, row: Row) -> Result<Option<Part>, F
 fn commands_are_replied_with_their_result(rt: HostRuntime) -> Result<(), Fail> {
     let alloc = rt.alloc();
     let mut bench = Bench::open(alloc, state(alloc, OWN, &[])?)?;
-    for row in COMMANDS {
-        assert_eq!(rt; differs(alloc, &mut bench, row)?, None, "of {row:?}");
+    for row in &COMMANDS {
+        assert_eq!(rt; differs(alloc, &mut bench, *row)?, None, "of {row:?}");
     }
     Ok(())
 }
 
 // With more than one specifier left it is refused, and nothing changes.
-const TWO_LEFT: [Row; 4] = [
+static TWO_LEFT: [Row; 4] = [
     (Code::GET, &[TITLES, COUNT], &[EIGHT], &[SYNTAX]),
     (Code::SET, &[TITLES, COUNT], &[EIGHT], &[SYNTAX]),
     (Code::DELETE, &[TITLES, COUNT], &[EIGHT], &[SYNTAX]),
@@ -105,13 +105,13 @@ const TWO_LEFT: [Row; 4] = [
 fn more_than_one_specifier_is_refused(rt: HostRuntime) -> Result<(), Fail> {
     let alloc = rt.alloc();
     let mut bench = Bench::open(alloc, state(alloc, OWN, &[])?)?;
-    for row in TWO_LEFT {
-        assert_eq!(rt; differs(alloc, &mut bench, row)?, None, "of {row:?}");
+    for row in &TWO_LEFT {
+        assert_eq!(rt; differs(alloc, &mut bench, *row)?, None, "of {row:?}");
     }
     Ok(())
 }
 
-const REACTION: Expected = Expected {
+static REACTION: Expected = Expected {
     asked: &[],
     route: LOOPER,
     said: &[OK],
@@ -120,7 +120,7 @@ const REACTION: Expected = Expected {
     no_memory: false,
 };
 
-const COUNTED: Expected = Expected {
+static COUNTED: Expected = Expected {
     asked: &[],
     route: LOOPER,
     said: &[],

@@ -89,7 +89,7 @@ fn line_at(desk: &Desk, place: u64) -> Result<Line, Fail> {
     }
 }
 
-const LINES: [Line; 5] = [
+static LINES: [Line; 5] = [
     Line(0, 1, Token(2)),
     Line(1, 7, Done),
     Line(0, 8, Refused(HandlerFault::BadHandler)),
