@@ -18,6 +18,8 @@ mod replies;
 mod reserved;
 mod shared;
 mod task;
+#[cfg(test)]
+mod tests;
 
 pub use desk::Desk;
 pub use entry::{DeskEntry, DeskEvent, DeskLine, Edit, EditAnswer, EntryRoute};
