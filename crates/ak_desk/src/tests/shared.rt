@@ -1,6 +1,5 @@
 //! Edits of a desk that two threads share.
 ghost use Rattle.std.specs.Prelude.{◌≡◌, false};
-ghost use Rattle.std.specs.Arc.{arc_value};
 
 use super::making::{OWN, state, text};
 use crate::desk::Desk;
@@ -11,9 +10,8 @@ use ak_base::ThreadId;
 use ak_handler::HandlerFault;
 use ak_turn::{Book, Clock, Seat, TurnLock};
 use std::alloc::Global;
-use std::sync::{Arc, Wait};
+use std::sync::Wait;
 use std::test::Fail;
-use std::thread;
 
 // Edits at that seat, which stays one of the lock and of its thread.
 fn edit_at<R: Wait>(
@@ -110,63 +108,5 @@ fn two_threads_edit_one_desk(rt: HostRuntime) -> Result<(), Fail> {
     }
     assert_eq!(rt; desk.state.handlers.len(), 2);
     assert_eq!(rt; desk.state.handlers.next_of(1), Some(0));
-    Ok(())
-}
-
-// How many edits each of two threads makes at once.
-const EDITS: u64 = 20;
-
-// Edits that leave the handlers as they are.
-fn edit_on<R: Wait>(rt: &R, lock: &TurnLock<Desk>, mut seat: Seat<Desk>, thread: ThreadId)
-    requires of { seat.lock ≡ lock.now }
-    requires idle { seat.turn ≡ false }
-    requires thread { seat.thread ≡ thread.0 }
-{
-    let mut clock = Clock { thread, time: 0 };
-    for _ in 0..EDITS {
-        edit_at(rt, lock, &mut seat, &mut clock, Edit::Prefer(None));
-    }
-}
-
-// How many entries that thread made, where all stamps rise.
-fn count_by(desk: &Desk, thread: u32) -> Result<u64, Fail> {
-    let mut count = 0_u64;
-    let mut last = 0;
-    for place in 0..desk.len() {
-        let line = line_at(desk, place)?;
-        if line.1 <= last || line.2 != Done {
-            return Err(Fail::new("a stamp or an answer is another"));
-        }
-        last = line.1;
-        if line.0 == thread {
-            count = count.saturating_add(1);
-        }
-    }
-    Ok(count)
-}
-
-// The one list has all edits of both.
-#[test]
-fn edits_at_once_are_in_one_list(rt: HostRuntime) -> Result<(), Fail> {
-    let alloc = rt.alloc();
-    let desk = Desk::open(alloc, state(alloc, OWN, &[])?)?;
-    let (lock, mut main) = TurnLock::new(alloc, desk, ThreadId(0))?;
-    let first = lock.split(&mut main, ThreadId(1));
-    let second = lock.split(&mut main, ThreadId(2));
-    let theirs = Arc::try_clone(&lock)?;
-    let started = thread::spawn(
-        &rt,
-        move ||
-            requires { (first.lock ≡ arc_value theirs) × (first.turn ≡ false) × (first.thread ≡ 1) }
-        { edit_on(&rt, &theirs, first, ThreadId(1)) },
-    );
-    if let Ok(child) = started {
-        edit_on(&rt, &lock, second, ThreadId(2));
-        child.join(&rt);
-        let desk = lock.lock(&rt, &mut main).keep();
-        assert_eq!(rt; desk.len(), 2 * EDITS);
-        assert_eq!(rt; count_by(&desk, 1)?, EDITS);
-        assert_eq!(rt; count_by(&desk, 2)?, EDITS);
-    }
     Ok(())
 }
