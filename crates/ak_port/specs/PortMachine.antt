@@ -92,6 +92,14 @@ AreSteps taker s (entry ∷ entries) = PortStep taker s entry × AreSteps taker 
 abbrev pub state_of : List PortEntry → PortState
 state_of entries = replayed unmade entries
 
+-- a write to it has to wait: it is full, and nothing else refuses
+abbrev pub LacksRoom : List PortEntry → Type 0
+LacksRoom entries = refusal_of (state_of entries) ≡ Some refusal.Full
+
+-- a take from it has to wait: nothing is pending, and it may still be written to
+abbrev pub LacksItems : List PortEntry → Type 0
+LacksItems entries = ((state_of entries).shut ≡ false) × (pending_count (state_of entries) ≡ 0)
+
 -- the history of a port with that taker
 pub record IsPort (taker : ℕ) (entries : List PortEntry) : Type 0 where
   pub steps : AreSteps taker unmade entries

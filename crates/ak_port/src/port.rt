@@ -3,7 +3,7 @@ ghost use Rattle.std.specs.Prelude.{◌≡◌, ℕ, ◌+◌, ◌-◌, ◌∷◌,
 ghost use Rattle.std.specs.Arc.{arc_value};
 ghost use Rattle.std.specs.VecDeque.{deque_len, deque_capacity};
 ghost use Rattle.ak_turn.specs.Seats.{first_seat};
-ghost use Rattle.ak_port.specs.PortMachine.{last_taken, pending_count, state_of};
+ghost use Rattle.ak_port.specs.PortMachine.{last_taken, pending_count, state_of, LacksItems, LacksRoom};
 ghost use Rattle.ak_port.specs.PortCalls.{clock_after, close_entry, making, take_count, take_event, write_entry, CanTake, GivesBack, HasAnswered, HasEntered, HasLooked, IfTook, IsAtPort, IsFull};
 ghost use Rattle.ak_port.specs.SeatKept.{KeepsSeat};
 ghost use Rattle.ak_base.specs.declared.thread.ThreadId.{ThreadId};
@@ -69,6 +69,7 @@ fn try_write<R: Wait>(
     ensures full { IfOk result (λ answer. IsFull answer ≡ true → how ≡ How.NoWait) }
     ensures looked { OnErr result (HasLooked clock.old clock.new seat.old seat.new) }
     ensures item { IfErr result (λ back. back ≡ item) }
+    ensures waits { OnErr result ((how ≡ How.Wait) × LacksRoom seat.new.front) }
     ensures port { IsAtPort seat.new }
 {
     let mut turn = port.lock(rt, seat);
@@ -131,6 +132,7 @@ fn try_take<R: Wait>(
     ensures room { deque_capacity out.new ≡ deque_capacity out.old }
     ensures looked { IfNone result (HasLooked clock.old clock.new seat.old seat.new) }
     ensures nothing { IfNone result (out.new ≡ out.old) }
+    ensures empty { IfNone result (LacksItems seat.new.front) }
     ensures port { IsAtPort seat.new }
 {
     let mut turn = port.lock(rt, seat);

@@ -2,7 +2,7 @@ ghost use Rattle.std.specs.Prelude.{◌≡◌, ◌+◌, ◌∷◌, ◌++◌, [],
 ghost use Rattle.std.specs.VecDeque.{deque_len, deque_capacity};
 ghost use Rattle.ak_turn.specs.Lines.{last_stamp_of};
 ghost use Rattle.ak_port.specs.PortInside.{one_unless};
-ghost use Rattle.ak_port.specs.PortMachine.{numbered, last_taken, pending_count, refusal_of, refused_event, state_of};
+ghost use Rattle.ak_port.specs.PortMachine.{numbered, last_taken, pending_count, refusal_of, refused_event, state_of, LacksItems, LacksRoom};
 ghost use Rattle.ak_port.specs.PortCalls.{clock_after, entry_now, making, stamp_number, GivesBack, HasAdded, IfTook, IsFull, IsPortBook, refused_answer, take_count, take_event, write_entry};
 
 use crate::port_entry::{How, PortEntry, PortEvent, Refusal, TakeAnswer, WriteAnswer};
@@ -308,6 +308,7 @@ impl PortBook {
         ensures full { IfOk result (λ answer. IsFull answer ≡ true → how ≡ How.NoWait) }
         ensures same { OnErr result (HasAdded None clock.old clock.new self.old self.new) }
         ensures item { IfErr result (λ back. back ≡ item) }
+        ensures waits { OnErr result ((how ≡ How.Wait) × LacksRoom self.old.entries) }
         ensures port { IsPortBook self.new }
     {
         // Reading the taker shows that the list is a port's.
@@ -384,6 +385,7 @@ impl PortBook {
         ensures room { deque_capacity out.new ≡ deque_capacity out.old }
         ensures none { IfNone result (HasAdded None clock.old clock.new self.old self.new) }
         ensures nothing { IfNone result (out.new ≡ out.old) }
+        ensures empty { IfNone result (LacksItems self.old.entries) }
         ensures port { IsPortBook self.new }
     {
         if self.shut {

@@ -1,7 +1,7 @@
 ghost use Rattle.std.specs.Prelude.{◌≡◌, ◌+◌, ◌*◌, ◌-◌, ◌<◌, ◌≤◌, ◌^◌, ◌↔◌, [], ◌∷◌, ◌++◌, length, IsNone, None, Some, IfOk, IfErr, IfNone, IfSome, IsSome, IsTrue, OnOk, OnErr, option_map, slice_get, unwrap_or, vec_len, vec_capacity, max};
 ghost use Rattle.ak_turn.specs.Lines.{last_stamp_of};
 ghost use Rattle.ak_port.specs.ReplyKept.{entry_seen, IsMoved, IsWithin};
-ghost use Rattle.ak_port.specs.Reply.{IsFlatText, IsLegal, FillsWith, IsFilled, IsSettled, none_text, slots_after};
+ghost use Rattle.ak_port.specs.Reply.{IsFlatText, IsLegal, FillsWith, IsFilled, IsSettled, none_text, open_stage, slots_after};
 
 use crate::reply_entry::{CancelAnswer, FillAnswer, ReplyEntry, ReplyEvent};
 use crate::reply_kept::{Kept, KeptEvent, Range};
@@ -264,6 +264,7 @@ impl ReplyBook {
         ensures duplicate { result ≡ Ok FillAnswer.Duplicate → self.new ≡ self.old }
         ensures duplicate_clock { result ≡ Ok FillAnswer.Duplicate → clock.new ≡ clock.old }
         ensures unopened { IfErr result (λ text. text ≡ flat) }
+        ensures early { OnErr result (length (slots_after self.old) ≤ n) }
         ensures err { OnErr result (self.new ≡ self.old) }
         ensures err_clock { OnErr result (clock.new ≡ clock.old) }
     {
@@ -314,6 +315,7 @@ impl ReplyBook {
         ensures clock { IsSome result → clock.new ≡ stamped clock.old self.old }
         ensures filled { IfSome result (λ flat. FillsWith n flat self.new) }
         ensures text { IfSome result IsFlatText }
+        ensures open { IfNone result (IsItsSlot clock.old.thread.0 n open_stage self.old) }
         ensures waits { IfNone result (self.new ≡ self.old) }
         ensures waits_clock { IfNone result (clock.new ≡ clock.old) }
     {

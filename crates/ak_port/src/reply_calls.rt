@@ -1,7 +1,7 @@
 //! The calls on a shared reply book. Each may wait for its turn, and makes at most one entry.
-ghost use Rattle.std.specs.Prelude.{◌≡◌, false, None, Some, IfOk, IfErr, IfNone, IfSome, OnErr, IsSome, unwrap_or};
-ghost use Rattle.ak_port.specs.Reply.{IsFlatText, FillsWith, none_text};
-ghost use Rattle.ak_port.specs.ReplySeats.{HasEnteredBook, HasLookedAtBook, HasFoundSettled, HasFoundFilled, MayCancel, MayTake};
+ghost use Rattle.std.specs.Prelude.{◌≡◌, ◌≤◌, false, length, None, Some, IfOk, IfErr, IfNone, IfSome, OnErr, IsSome, unwrap_or};
+ghost use Rattle.ak_port.specs.Reply.{IsFlatText, FillsWith, none_text, open_stage, slots_after};
+ghost use Rattle.ak_port.specs.ReplySeats.{HasEnteredBook, HasLookedAtBook, HasFoundSettled, HasFoundFilled, IsItsSlot, MayCancel, MayTake};
 ghost use Rattle.ak_port.specs.SeatKept.{KeepsSeat};
 
 use crate::reply_book::ReplyBook;
@@ -53,6 +53,7 @@ fn try_fill<R: Wait>(
     ensures filled { result ≡ Ok FillAnswer.Filled → HasEnteredBook clock.old clock.new (ReplyEvent.Filled n (unwrap_or flat none_text)) seat.old seat.new }
     ensures duplicate { result ≡ Ok FillAnswer.Duplicate → HasFoundSettled n clock.old clock.new seat.old seat.new }
     ensures unopened { IfErr result (λ text. text ≡ flat) }
+    ensures early { OnErr result (length (slots_after seat.new.front) ≤ n) }
     ensures err { OnErr result (HasLookedAtBook clock.old clock.new seat.old seat.new) }
 {
     let mut turn = book.lock(rt, seat);
@@ -174,6 +175,7 @@ fn try_take<R: Wait>(
     ensures filled { IfSome result (λ flat. FillsWith n flat seat.new.front) }
     ensures text { IfSome result IsFlatText }
     ensures waits { IfNone result (HasLookedAtBook clock.old clock.new seat.old seat.new) }
+    ensures open { IfNone result (IsItsSlot seat.new.thread n open_stage seat.new.front) }
     ensures still { IfNone result (MayTake seat.new.thread n seat.new.front) }
 {
     let mut turn = book.lock(rt, seat);
