@@ -30,43 +30,41 @@ impl AppWord {
 #[cfg(test)]
 mod tests {
     use super::*;
+    use crate::text::TextFault;
+    use std::alloc::Global;
     use std::test::Fail;
 
-    // The letter of its form, and its text.
-    fn told(word: &AppWord) -> (u8, &[u8]) {
+    // The letter of its form, its text, and its team.
+    fn told(word: &AppWord) -> (u8, &[u8], u32) {
         match word {
-            AppWord::Path(text) => (b'p', text.as_bytes()),
-            AppWord::Signature(text) => (b's', text.as_bytes()),
-            AppWord::Name(text) => (b'n', text.as_bytes()),
-            AppWord::Team(_) => (b't', b""),
+            AppWord::Path(text) => (b'p', text.as_bytes(), 0),
+            AppWord::Signature(text) => (b's', text.as_bytes(), 0),
+            AppWord::Name(text) => (b'n', text.as_bytes(), 0),
+            AppWord::Team(team) => (b't', b"", *team),
+        }
+    }
+
+    // A word of that form.
+    fn word(alloc: Global, form: u8, text: &[u8], team: u32) -> Result<AppWord, TextFault> {
+        match form {
+            b'p' => Ok(AppWord::Path(Text::from_bytes(alloc, text)?)),
+            b's' => Ok(AppWord::Signature(Text::from_bytes(alloc, text)?)),
+            b'n' => Ok(AppWord::Name(Text::from_bytes(alloc, text)?)),
+            _ => Ok(AppWord::Team(team)),
         }
     }
 
     #[test]
     fn words_are_copied(rt: HostRuntime) -> Result<(), Fail> {
-        let alloc = rt.alloc();
-        let rows = [
-            (
-                AppWord::Path(Text::from_bytes(alloc, b"/boot/demo")?),
-                (b'p', b"/boot/demo".as_slice()),
-            ),
-            (
-                AppWord::Signature(Text::from_bytes(alloc, b"application/x-vnd.demo")?),
-                (b's', b"application/x-vnd.demo".as_slice()),
-            ),
-            (
-                AppWord::Name(Text::from_bytes(alloc, b"demo")?),
-                (b'n', b"demo".as_slice()),
-            ),
-            (AppWord::Team(7), (b't', b"".as_slice())),
+        let rows: [(u8, &[u8], u32); 4] = [
+            (b'p', b"/boot/demo", 0),
+            (b's', b"application/x-vnd.demo", 0),
+            (b'n', b"demo", 0),
+            (b't', b"", 7),
         ];
-        for (word, expected) in &rows {
-            let copy = word.try_clone()?;
-            assert_eq!(rt; told(&copy), *expected);
-        }
-        match AppWord::Team(7).try_clone()? {
-            AppWord::Team(team) => assert_eq!(rt; team, 7),
-            _ => assert!(rt; false),
+        for (form, text, team) in rows {
+            let copy = word(rt.alloc(), form, text, team)?.try_clone()?;
+            assert_eq!(rt; told(&copy), (form, text, team));
         }
         Ok(())
     }

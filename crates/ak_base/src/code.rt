@@ -203,6 +203,11 @@ mod tests {
             assert_eq!(rt; out.as_slice(), text);
             assert_eq!(rt; Code::read(text), Some(Code(code)));
         }
+        Ok(())
+    }
+
+    #[test]
+    fn other_forms_of_a_code_are_refused(rt: HostRuntime) {
         assert_eq!(rt; Code::read(b"0x50474554"), Some(Code(0x5047_4554)));
         let refused: [&[u8]; 10] = [
             b"0X50474554",
@@ -219,7 +224,6 @@ mod tests {
         for text in refused {
             assert_eq!(rt; Code::read(text), None, "at {text:?}");
         }
-        Ok(())
     }
 
     #[test]

@@ -118,8 +118,7 @@ mod tests {
             (KitError::NoTeam, -19, "K_NO_TEAM"),
         ];
         for (error, number, name) in rows {
-            assert_eq!(rt; error.number(), number);
-            assert_eq!(rt; error.name(), name);
+            assert_eq!(rt; (error.number(), error.name()), (number, name));
         }
     }
 }

@@ -136,10 +136,20 @@ mod tests {
             assert_eq!(rt; out.as_slice(), text);
             assert_eq!(rt; read_int(text), Some(n as i128));
         }
+        Ok(())
+    }
+
+    #[test]
+    fn prints_and_reads_the_greatest_number(rt: HostRuntime) -> Result<(), Fail> {
         let mut out = Bytes::new(rt.alloc());
         print_uint(u64::MAX, &mut out)?;
         assert_eq!(rt; out.as_slice(), b"18446744073709551615".as_slice());
         assert_eq!(rt; read_int(out.as_slice()), Some(18_446_744_073_709_551_615));
+        Ok(())
+    }
+
+    #[test]
+    fn other_forms_of_a_number_are_refused(rt: HostRuntime) {
         assert_eq!(rt;
             read_int(b"99999999999999999999"),
             Some(99_999_999_999_999_999_999)
@@ -159,6 +169,5 @@ mod tests {
         for text in refused {
             assert_eq!(rt; read_int(text), None, "at {text:?}");
         }
-        Ok(())
     }
 }

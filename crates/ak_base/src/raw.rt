@@ -88,10 +88,12 @@ mod tests {
         let raw = Raw::from_bytes(rt.alloc(), &long[..1024])?;
         assert_eq!(rt; raw.as_bytes(), &long[..1024]);
         assert_eq!(rt; raw.try_clone()?.as_bytes(), raw.as_bytes());
-        assert_eq!(rt;
-            Raw::from_bytes(rt.alloc(), &long).err(),
-            Some(RawFault::TooLong)
-        );
         Ok(())
+    }
+
+    #[test]
+    fn a_raw_value_of_1025_bytes_is_refused(rt: HostRuntime) {
+        let fault = Raw::from_bytes(rt.alloc(), &[0xff; 1025]).err();
+        assert_eq!(rt; fault, Some(RawFault::TooLong));
     }
 }

@@ -1,5 +1,8 @@
 //! Messages carried out, and edits, on whole desks; expected values come from the rules.
 
+use std::fmt::Debug;
+use std::process::Abort;
+
 mod bench;
 mod built_ins;
 mod conditions;
@@ -10,3 +13,8 @@ mod making;
 mod memory;
 mod properties;
 mod shared;
+
+// The two are the same. The label tells of which comparison.
+fn same<T: PartialEq + Debug + Copy>(rt: &impl Abort, label: &str, got: T, told: T) {
+    assert_eq!(rt; got, told, "at {label}");
+}

@@ -103,6 +103,7 @@ fn fits_delivery(delivery: DeliveryIs, dropped: bool) -> bool
 #[cfg(test)]
 mod tests {
     use super::*;
+    use std::alloc::Global;
     use std::test::Fail;
 
     const SOURCES: [SourceIs; 3] = [SourceIs::Any, SourceIs::Local, SourceIs::Remote];
@@ -160,32 +161,61 @@ mod tests {
                 local,
                 dropped,
             };
-            assert_eq!(rt; admitting(None, &head), expected);
-            assert_eq!(rt; admitting(Some(Code::GET), &head), expected);
+            for what in [None, Some(Code::GET)] {
+                assert_eq!(rt; admitting(what, &head), expected, "at {what:?}");
+            }
             assert_eq!(rt; admitting(Some(Code::SET), &head), [false; 9]);
+        }
+    }
+
+    // A filter that has each part.
+    fn whole(alloc: Global) -> Result<Filter, Fail> {
+        Ok(Filter {
+            what: Some(Code::GET),
+            source: SourceIs::Remote,
+            delivery: DeliveryIs::Dropped,
+            skip: true,
+            to: Some(Text::from_bytes(alloc, b"other")?),
+            set_what: Some(Code::SET),
+        })
+    }
+
+    // The parts beside the name.
+    fn told(filter: &Filter) -> (Option<Code>, SourceIs, DeliveryIs, bool, Option<Code>) {
+        (
+            filter.what,
+            filter.source,
+            filter.delivery,
+            filter.skip,
+            filter.set_what,
+        )
+    }
+
+    fn name_of(filter: &Filter) -> Option<&[u8]> {
+        match &filter.to {
+            Some(name) => Some(name.as_bytes()),
+            None => None,
         }
     }
 
     #[test]
     fn a_copy_has_each_part(rt: HostRuntime) -> Result<(), Fail> {
-        let mut filter = Filter {
-            what: Some(Code::GET),
-            source: SourceIs::Remote,
-            delivery: DeliveryIs::Dropped,
-            skip: true,
-            to: Some(Text::from_bytes(rt.alloc(), b"other")?),
-            set_what: Some(Code::SET),
-        };
-        let copy = filter.try_clone()?;
-        assert_eq!(rt; copy.what, Some(Code::GET));
-        assert_eq!(rt; copy.source, SourceIs::Remote);
-        assert_eq!(rt; copy.delivery, DeliveryIs::Dropped);
-        assert!(rt; copy.skip);
-        assert!(rt;
-            copy.to
-                .is_some_and(|name| name.as_bytes() == b"other".as_slice())
+        let copy = whole(rt.alloc())?.try_clone()?;
+        let parts = (
+            Some(Code::GET),
+            SourceIs::Remote,
+            DeliveryIs::Dropped,
+            true,
+            Some(Code::SET),
         );
-        assert_eq!(rt; copy.set_what, Some(Code::SET));
+        assert_eq!(rt; told(&copy), parts);
+        assert_eq!(rt; name_of(&copy), Some(b"other".as_slice()));
+        Ok(())
+    }
+
+    #[test]
+    fn a_copy_of_a_filter_without_a_name_has_none(rt: HostRuntime) -> Result<(), Fail> {
+        let mut filter = whole(rt.alloc())?;
         filter.to = None;
         assert!(rt; filter.try_clone()?.to.is_none());
         Ok(())

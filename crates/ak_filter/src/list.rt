@@ -102,6 +102,7 @@ mod tests {
     use super::*;
     use crate::filter::{DeliveryIs, SourceIs};
     use ak_base::Code;
+    use std::process::Abort;
     use std::test::Fail;
 
     fn skips(what: u32) -> Filter {
@@ -115,31 +116,57 @@ mod tests {
         }
     }
 
-    #[test]
-    fn a_list_takes_32_filters(rt: HostRuntime) -> Result<(), Fail> {
-        let mut list = FilterList::new(rt.alloc());
-        assert_eq!(rt; list.as_slice().len(), 0);
+    // Adds filters until there are 32.
+    fn fill(rt: &impl Abort, list: &mut FilterList) {
         for what in 0..32 {
-            assert_eq!(rt; list.push(skips(what)), Ok(()));
+            assert_eq!(rt; list.push(skips(what)), Ok(()), "at {what}");
         }
-        assert_eq!(rt; list.push(skips(32)), Err(FilterFault::FilterLimit));
-        assert_eq!(rt; list.as_slice().len(), 32);
-        for (i, filter) in list.as_slice().iter().enumerate() {
-            assert_eq!(rt; filter.what, Some(Code(i as u32)));
+    }
+
+    // The code of the filter at that place.
+    fn code_at(list: &FilterList, place: usize) -> Option<Code> {
+        list.as_slice().get(place).and_then(|filter| filter.what)
+    }
+
+    // The 32 filters have the codes from 0 on.
+    fn are_numbered(rt: &impl Abort, list: &FilterList) {
+        for code in 0..32u32 {
+            let told = code_at(list, code as usize);
+            assert_eq!(rt; told, Some(Code(code)), "at {code}");
         }
-        Ok(())
     }
 
     #[test]
-    fn a_copy_has_the_same_filters(rt: HostRuntime) -> Result<(), Fail> {
+    fn a_new_list_is_empty(rt: HostRuntime) {
+        let list = FilterList::new(rt.alloc());
+        assert_eq!(rt; list.as_slice().len(), 0);
+    }
+
+    #[test]
+    fn a_list_takes_32_filters(rt: HostRuntime) {
         let mut list = FilterList::new(rt.alloc());
+        fill(&rt, &mut list);
+        assert_eq!(rt; list.push(skips(32)), Err(FilterFault::FilterLimit));
+        assert_eq!(rt; list.as_slice().len(), 32);
+        are_numbered(&rt, &list);
+    }
+
+    // A copy of a list with the codes 1 and 2, made before a third filter is added to the list.
+    fn copied_before_more(alloc: Global) -> Result<FilterList, Fail> {
+        let mut list = FilterList::new(alloc);
         list.push(skips(1))?;
         list.push(skips(2))?;
         let copy = list.try_clone()?;
         list.push(skips(3))?;
+        Ok(copy)
+    }
+
+    #[test]
+    fn a_copy_has_the_same_filters(rt: HostRuntime) -> Result<(), Fail> {
+        let copy = copied_before_more(rt.alloc())?;
         assert_eq!(rt; copy.as_slice().len(), 2);
-        assert_eq!(rt; copy.as_slice()[0].what, Some(Code(1)));
-        assert_eq!(rt; copy.as_slice()[1].what, Some(Code(2)));
+        let codes = (code_at(&copy, 0), code_at(&copy, 1));
+        assert_eq!(rt; codes, (Some(Code(1)), Some(Code(2))));
         Ok(())
     }
 }

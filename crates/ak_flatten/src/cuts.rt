@@ -1,9 +1,11 @@
 // Flat texts that are cut, and flat texts at the limit.
 
 use super::*;
+use crate::tests::{again, lengths, same, same_bytes};
 use ak_base::{Bytes, Code, Text};
 use ak_message::{Message, Value};
 use std::alloc::Global;
+use std::process::Abort;
 use std::test::Fail;
 
 // A message of several kinds and depths: a Bool, two Int32, a Text, a message with a Text and a message, a
@@ -67,27 +69,59 @@ fn cut_at(alloc: Global, bytes: &[u8]) -> Option<u32> {
     }
 }
 
-#[test]
-fn a_cut_text_is_truncated_at_the_part_that_is_cut(rt: HostRuntime) -> Result<(), Fail> {
-    let alloc = rt.alloc();
-    let read = unflatten(alloc, &WHOLE)?;
-    assert_eq!(rt; flatten(alloc, &read)?.as_slice(), WHOLE.as_slice());
+fn the_whole_is_cut(rt: &impl Abort, alloc: Global) {
     for n in 0..141u32 {
         let cut = &WHOLE[..n as usize];
-        assert_eq!(rt; cut_at(alloc, cut), last_before(&PLACES, n));
+        let want = last_before(&PLACES, n);
+        same(rt, ("whole", n), cut_at(alloc, cut), want);
     }
+}
+
+fn the_inner_is_cut(rt: &impl Abort, alloc: Global) -> Result<(), Fail> {
     let inner = &WHOLE[61..108];
     for n in 0..47u16 {
         let cut = around(alloc, n, &inner[..n as usize])?;
         let want = last_before(&INNER_PLACES, 21 + u32::from(n));
-        assert_eq!(rt; cut_at(alloc, cut.as_slice()), want);
+        same(rt, ("inner", n), cut_at(alloc, cut.as_slice()), want);
     }
-    let innermost = &inner[35..];
+    Ok(())
+}
+
+fn the_innermost_is_cut(rt: &impl Abort, alloc: Global) -> Result<(), Fail> {
+    let innermost = &WHOLE[96..108];
     for n in 0..12u16 {
         let cut = around(alloc, n, &innermost[..n as usize])?;
         let cut = around(alloc, 21 + n, cut.as_slice())?;
         let want = last_before(&INNERMOST_PLACES, 42 + u32::from(n));
-        assert_eq!(rt; cut_at(alloc, cut.as_slice()), want);
+        same(rt, ("innermost", n), cut_at(alloc, cut.as_slice()), want);
+    }
+    Ok(())
+}
+
+#[test]
+fn a_cut_text_is_truncated_at_the_part_that_is_cut(rt: HostRuntime) -> Result<(), Fail> {
+    let alloc = rt.alloc();
+    let again = again(alloc, &WHOLE)?;
+    same_bytes(&rt, "again", again.as_slice(), &WHOLE);
+    the_whole_is_cut(&rt, alloc);
+    the_inner_is_cut(&rt, alloc)?;
+    the_innermost_is_cut(&rt, alloc)
+}
+
+// A message with three texts of 1,024 bytes in the field `t`.
+fn three_texts(alloc: Global, long: &[u8]) -> Result<Message, Fail> {
+    let mut message = Message::new(alloc, Code::GET);
+    for _ in 0..3 {
+        message.add(b"t", Value::Text(Text::from_bytes(alloc, long)?))?;
+    }
+    Ok(message)
+}
+
+// What is written of it, if it is not too long, is read back.
+fn is_read_back(rt: &impl Abort, alloc: Global, message: &Message) -> Result<(), Fail> {
+    if let Ok(bytes) = flatten(alloc, message) {
+        let again = again(alloc, bytes.as_slice())?;
+        same_bytes(rt, "again", again.as_slice(), bytes.as_slice());
     }
     Ok(())
 }
@@ -96,32 +130,17 @@ fn a_cut_text_is_truncated_at_the_part_that_is_cut(rt: HostRuntime) -> Result<()
 fn a_flat_text_has_at_most_4096_bytes(rt: HostRuntime) -> Result<(), Fail> {
     let alloc = rt.alloc();
     let long = [b'x'; 1024];
-    let text = Text::from_bytes(alloc, &long)?;
-    let mut message = Message::new(alloc, Code::GET);
-    message.add(b"t", Value::Text(text.try_clone()?))?;
-    message.add(b"t", Value::Text(text.try_clone()?))?;
-    message.add(b"t", Value::Text(text))?;
-    assert_eq!(rt; flat_len(&message), 3097);
-    assert_eq!(rt; flatten(alloc, &message)?.as_slice().len(), 3097);
-    for (n, len, fits) in [
-        (997u32, 4096, true),
-        (998, 4097, false),
-        (1024, 4123, false),
+    let mut message = three_texts(alloc, &long)?;
+    same(&rt, "three", lengths(alloc, &message), (3097, Ok(3097)));
+    for (n, told) in [
+        (997u32, (4096, Ok(4096))),
+        (998, (4097, Err(FlattenFault::TooLong))),
+        (1024, (4123, Err(FlattenFault::TooLong))),
     ] {
         let text = Text::from_bytes(alloc, &long[..n as usize])?;
         message.add(b"t", Value::Text(text))?;
-        assert_eq!(rt; flat_len(&message), len);
-        match flatten(alloc, &message) {
-            Ok(bytes) => {
-                assert!(rt; fits);
-                let read = unflatten(alloc, bytes.as_slice())?;
-                assert_eq!(rt; flatten(alloc, &read)?.as_slice(), bytes.as_slice());
-            }
-            Err(fault) => {
-                assert!(rt; !fits);
-                assert_eq!(rt; fault, FlattenFault::TooLong);
-            }
-        }
+        same(&rt, n, lengths(alloc, &message), told);
+        is_read_back(&rt, alloc, &message)?;
         message.remove_data(b"t", 3)?;
     }
     Ok(())

@@ -2,7 +2,23 @@ use super::*;
 use ak_base::{Bytes, Code, NoMemory, Raw, Text};
 use ak_message::{AddFault, Address, Kind, Message, Target, Value};
 use std::alloc::Global;
+use std::fmt::Debug;
+use std::process::Abort;
 use std::test::Fail;
+
+// The two are the same.
+pub(crate) fn same<T: PartialEq + Debug + Copy>(
+    rt: &impl Abort,
+    label: impl Debug + Copy,
+    got: T,
+    told: T,
+) {
+    assert_eq!(rt; got, told, "at {label:?}");
+}
+
+pub(crate) fn same_bytes(rt: &impl Abort, label: &str, got: &[u8], told: &[u8]) {
+    assert_eq!(rt; got, told, "at {label}");
+}
 
 // PGET without fields.
 const QUESTION: [u8; 12] = *b"AKM1PGET\0\0\0\0";
@@ -27,90 +43,145 @@ fn long(alloc: Global, times: u32) -> Result<Message, Fail> {
     Ok(message)
 }
 
+// The flat text of the message that the bytes are a flat text of.
+pub(crate) fn again(alloc: Global, bytes: &[u8]) -> Result<Bytes, Fail> {
+    let read = unflatten(alloc, bytes)?;
+    Ok(flatten(alloc, &read)?)
+}
+
+// How long the flat text is told to be, and how long it is.
+pub(crate) fn lengths(alloc: Global, message: &Message) -> (u64, Result<usize, FlattenFault>) {
+    let written = match flatten(alloc, message) {
+        Ok(bytes) => Ok(bytes.as_slice().len()),
+        Err(fault) => Err(fault),
+    };
+    (flat_len(message), written)
+}
+
+// That is the flat text of the message, and so long.
+fn is_written(
+    rt: &impl Abort,
+    alloc: Global,
+    message: &Message,
+    told: &[u8],
+    len: u64,
+) -> Result<(), Fail> {
+    let bytes = flatten(alloc, message)?;
+    same_bytes(rt, "flatten", bytes.as_slice(), told);
+    same(rt, ("flat_len", len), flat_len(message), len);
+    Ok(())
+}
+
 #[test]
 fn messages_are_flattened(rt: HostRuntime) -> Result<(), Fail> {
     let alloc = rt.alloc();
     let question = Message::new(alloc, Code::GET);
-    assert_eq!(rt; flatten(alloc, &question)?.as_slice(), QUESTION.as_slice());
-    assert_eq!(rt; flat_len(&question), 12);
+    is_written(&rt, alloc, &question, &QUESTION, 12)?;
     let reply = reply(alloc)?;
-    assert_eq!(rt; flatten(alloc, &reply)?.as_slice(), REPLY.as_slice());
-    assert_eq!(rt; flat_len(&reply), 47);
-    Ok(())
+    is_written(&rt, alloc, &reply, &REPLY, 47)
 }
 
 #[test]
 fn long_messages_are_refused(rt: HostRuntime) -> Result<(), Fail> {
     let alloc = rt.alloc();
-    let three = long(alloc, 3)?;
-    assert_eq!(rt; flat_len(&three), 3097);
-    assert_eq!(rt; flatten(alloc, &three)?.as_slice().len(), 3097);
-    let four = long(alloc, 4)?;
-    assert_eq!(rt; flat_len(&four), 4123);
-    assert_eq!(rt; flatten(alloc, &four).err(), Some(FlattenFault::TooLong));
+    let three = lengths(alloc, &long(alloc, 3)?);
+    same(&rt, "three", three, (3097, Ok(3097)));
+    let four = lengths(alloc, &long(alloc, 4)?);
+    same(&rt, "four", four, (4123, Err(FlattenFault::TooLong)));
     Ok(())
 }
 
+// A value in plain data.
+#[derive(Clone, Copy)]
+enum Plain {
+    Bool(bool),
+    Int8(i8),
+    Int16(i16),
+    Int32(i32),
+    Int64(i64),
+    UInt8(u8),
+    UInt16(u16),
+    UInt32(u32),
+    UInt64(u64),
+    Words(&'static [u8]),
+    // A PGET without fields.
+    Question,
+    // The messenger of looper 1 for that target.
+    For(Target),
+    Raw(&'static [u8]),
+}
+
+fn value(alloc: Global, plain: Plain) -> Result<Value, Fail> {
+    Ok(match plain {
+        Plain::Bool(b) => Value::Bool(b),
+        Plain::Int8(n) => Value::Int8(n),
+        Plain::Int16(n) => Value::Int16(n),
+        Plain::Int32(n) => Value::Int32(n),
+        Plain::Int64(n) => Value::Int64(n),
+        Plain::UInt8(n) => Value::UInt8(n),
+        Plain::UInt16(n) => Value::UInt16(n),
+        Plain::UInt32(n) => Value::UInt32(n),
+        Plain::UInt64(n) => Value::UInt64(n),
+        Plain::Words(words) => Value::Text(Text::from_bytes(alloc, words)?),
+        Plain::Question => Value::from_message(alloc, Message::new(alloc, Code::GET))?,
+        Plain::For(target) => Value::Messenger(Address { looper: 1, target }),
+        Plain::Raw(bytes) => Value::Raw(Raw::from_bytes(alloc, bytes)?),
+    })
+}
+
 // One value of each kind, and what is written of it behind its type code, the name `v` and a 1.
+static VALUES: [(Plain, &[u8]); 15] = [
+    (Plain::Bool(true), b"BOOL\x01v\x01\0\x01\x01"),
+    (Plain::Bool(false), b"BOOL\x01v\x01\0\x01\0"),
+    (Plain::Int8(-1), b"BYTE\x01v\x01\0\x01\xff"),
+    (Plain::Int16(-2), b"SHRT\x01v\x01\0\x02\xff\xfe"),
+    (Plain::Int32(-3), b"LONG\x01v\x01\0\x04\xff\xff\xff\xfd"),
+    (
+        Plain::Int64(-4),
+        b"LLNG\x01v\x01\0\x08\xff\xff\xff\xff\xff\xff\xff\xfc",
+    ),
+    (Plain::UInt8(0xfe), b"UBYT\x01v\x01\0\x01\xfe"),
+    (Plain::UInt16(0x102), b"USHT\x01v\x01\0\x02\x01\x02"),
+    (
+        Plain::UInt32(0x1020304),
+        b"ULNG\x01v\x01\0\x04\x01\x02\x03\x04",
+    ),
+    (Plain::UInt64(5), b"ULLG\x01v\x01\0\x08\0\0\0\0\0\0\0\x05"),
+    (Plain::Words(b"hi"), b"CSTR\x01v\x01\0\x02hi"),
+    (Plain::Question, b"MSGG\x01v\x01\0\x0cAKM1PGET\0\0\0\0"),
+    (
+        Plain::For(Target::Token(2)),
+        b"MSNG\x01v\x01\0\x0d\0\0\0\x01\x01\0\0\0\0\0\0\0\x02",
+    ),
+    (
+        Plain::For(Target::Preferred),
+        b"MSNG\x01v\x01\0\x0d\0\0\0\x01\0\0\0\0\0\0\0\0\0",
+    ),
+    (Plain::Raw(b"\0"), b"RAWT\x01v\x01\0\x01\0"),
+];
+
+// The flat text of a message with that value alone.
+fn alone(alloc: Global, plain: Plain) -> Result<Bytes, Fail> {
+    let mut message = Message::new(alloc, Code(7));
+    message.add(b"v", value(alloc, plain)?)?;
+    Ok(flatten(alloc, &message)?)
+}
+
+// The flat text has one field, which is written so.
+fn has_field(rt: &impl Abort, flat: &[u8], written: &[u8]) {
+    assert_eq!(rt; flat.len(), 12 + written.len());
+    same_bytes(rt, "head", &flat[..12], b"AKM1\0\0\0\x07\0\0\0\x01");
+    same_bytes(rt, "field", &flat[12..], written);
+}
+
 #[test]
 fn values_are_written(rt: HostRuntime) -> Result<(), Fail> {
     let alloc = rt.alloc();
-    let messenger = Value::Messenger(Address {
-        looper: 1,
-        target: Target::Token(2),
-    });
-    let preferred = Value::Messenger(Address {
-        looper: 1,
-        target: Target::Preferred,
-    });
-    let inner = Value::from_message(alloc, Message::new(alloc, Code::GET))?;
-    let rows: [(Value, &[u8]); 15] = [
-        (Value::Bool(true), b"BOOL\x01v\x01\0\x01\x01"),
-        (Value::Bool(false), b"BOOL\x01v\x01\0\x01\0"),
-        (Value::Int8(-1), b"BYTE\x01v\x01\0\x01\xff"),
-        (Value::Int16(-2), b"SHRT\x01v\x01\0\x02\xff\xfe"),
-        (Value::Int32(-3), b"LONG\x01v\x01\0\x04\xff\xff\xff\xfd"),
-        (
-            Value::Int64(-4),
-            b"LLNG\x01v\x01\0\x08\xff\xff\xff\xff\xff\xff\xff\xfc",
-        ),
-        (Value::UInt8(0xfe), b"UBYT\x01v\x01\0\x01\xfe"),
-        (Value::UInt16(0x102), b"USHT\x01v\x01\0\x02\x01\x02"),
-        (
-            Value::UInt32(0x1020304),
-            b"ULNG\x01v\x01\0\x04\x01\x02\x03\x04",
-        ),
-        (Value::UInt64(5), b"ULLG\x01v\x01\0\x08\0\0\0\0\0\0\0\x05"),
-        (
-            Value::Text(Text::from_bytes(alloc, b"hi")?),
-            b"CSTR\x01v\x01\0\x02hi",
-        ),
-        (inner, b"MSGG\x01v\x01\0\x0cAKM1PGET\0\0\0\0"),
-        (
-            messenger,
-            b"MSNG\x01v\x01\0\x0d\0\0\0\x01\x01\0\0\0\0\0\0\0\x02",
-        ),
-        (
-            preferred,
-            b"MSNG\x01v\x01\0\x0d\0\0\0\x01\0\0\0\0\0\0\0\0\0",
-        ),
-        (
-            Value::Raw(Raw::from_bytes(alloc, b"\0")?),
-            b"RAWT\x01v\x01\0\x01\0",
-        ),
-    ];
-    for (value, written) in rows {
-        let mut message = Message::new(alloc, Code(7));
-        message.add(b"v", value)?;
-        let bytes = flatten(alloc, &message)?;
-        assert_eq!(rt; bytes.as_slice().len(), 12 + written.len());
-        assert_eq!(rt;
-            &bytes.as_slice()[..12],
-            b"AKM1\0\0\0\x07\0\0\0\x01".as_slice()
-        );
-        assert_eq!(rt; &bytes.as_slice()[12..], written);
-        let read = unflatten(alloc, bytes.as_slice())?;
-        assert_eq!(rt; flatten(alloc, &read)?.as_slice(), bytes.as_slice());
+    for &(plain, written) in &VALUES {
+        let bytes = alone(alloc, plain)?;
+        has_field(&rt, bytes.as_slice(), written);
+        let again = again(alloc, bytes.as_slice())?;
+        same_bytes(&rt, "again", again.as_slice(), bytes.as_slice());
     }
     Ok(())
 }
@@ -122,36 +193,54 @@ fn number(message: &Message, name: &[u8]) -> Option<i32> {
     }
 }
 
-#[test]
-fn flat_texts_are_read(rt: HostRuntime) -> Result<(), Fail> {
-    let alloc = rt.alloc();
-    let question = unflatten(alloc, &QUESTION)?;
-    assert_eq!(rt; question.what(), Code::GET);
-    assert_eq!(rt; question.count_names(), 0);
-    let reply = unflatten(alloc, &REPLY)?;
-    assert_eq!(rt; reply.what(), Code::REPLY);
-    assert_eq!(rt; reply.count_names(), 2);
-    assert_eq!(rt; number(&reply, b"result"), Some(3));
-    assert_eq!(rt; number(&reply, b"error"), Some(0));
-    Ok(())
+// A message's code, how many names it has, and its numbers `result` and `error`.
+type Outline = (Code, u32, Option<i32>, Option<i32>);
+
+fn outline_of(alloc: Global, bytes: &[u8]) -> Result<Outline, Fail> {
+    let message = unflatten(alloc, bytes)?;
+    Ok((
+        message.what(),
+        message.count_names(),
+        number(&message, b"result"),
+        number(&message, b"error"),
+    ))
 }
 
 #[test]
-fn what_is_popped_is_not_written(rt: HostRuntime) -> Result<(), Fail> {
-    let alloc = rt.alloc();
+fn flat_texts_are_read(rt: HostRuntime) -> Result<(), Fail> {
+    let question = outline_of(rt.alloc(), &QUESTION)?;
+    same(&rt, "question", question, (Code::GET, 0, None, None));
+    let reply = outline_of(rt.alloc(), &REPLY)?;
+    same(&rt, "reply", reply, (Code::REPLY, 2, Some(3), Some(0)));
+    Ok(())
+}
+
+fn with_one_specifier(alloc: Global) -> Result<Message, Fail> {
     let mut message = Message::new(alloc, Code::GET);
     message.add(
         b"specifiers",
         Value::from_message(alloc, Message::new(alloc, Code(1)))?,
     )?;
+    Ok(message)
+}
+
+// How many specifiers of the message are popped that the bytes are a flat text of.
+fn popped_in(alloc: Global, bytes: &[u8]) -> Result<u32, Fail> {
+    Ok(unflatten(alloc, bytes)?.popped())
+}
+
+#[test]
+fn what_is_popped_is_not_written(rt: HostRuntime) -> Result<(), Fail> {
+    let alloc = rt.alloc();
+    let mut message = with_one_specifier(alloc)?;
     let bytes = flatten(alloc, &message)?;
     if message.specifiers() >= 1 {
         message.set_popped(1);
     }
-    assert_eq!(rt; message.popped(), 1);
+    same(&rt, "popped", message.popped(), 1);
     let popped = flatten(alloc, &message)?;
-    assert_eq!(rt; popped.as_slice(), bytes.as_slice());
-    assert_eq!(rt; unflatten(alloc, bytes.as_slice())?.popped(), 0);
+    same_bytes(&rt, "flatten", popped.as_slice(), bytes.as_slice());
+    same(&rt, "unflatten", popped_in(alloc, bytes.as_slice())?, 0);
     Ok(())
 }
 
@@ -180,113 +269,124 @@ fn fault_of(alloc: Global, bytes: &[u8]) -> Option<FlatFault> {
 fn messages_stand_16_deep(rt: HostRuntime) -> Result<(), Fail> {
     let alloc = rt.alloc();
     let deepest = nested(alloc, 16)?;
-    let read = unflatten(alloc, deepest.as_slice())?;
-    assert_eq!(rt; flatten(alloc, &read)?.as_slice(), deepest.as_slice());
+    let again = again(alloc, deepest.as_slice())?;
+    same_bytes(&rt, "deepest", again.as_slice(), deepest.as_slice());
     let deeper = nested(alloc, 17)?;
     let fault = FlatFault {
         place: 336,
         kind: FlatKind::TooDeep,
     };
-    assert_eq!(rt; fault_of(alloc, deeper.as_slice()), Some(fault));
+    same(
+        &rt,
+        "deeper",
+        fault_of(alloc, deeper.as_slice()),
+        Some(fault),
+    );
     Ok(())
+}
+
+// Bytes that are no flat text, and the place and kind of their first fault.
+type Faulty<'a> = (&'a [u8], u32, FlatKind);
+
+static FAULTY: [Faulty<'static>; 26] = [
+    (b"", 0, FlatKind::Truncated),
+    (b"AKM", 0, FlatKind::Truncated),
+    (b"AKM2PGET\0\0\0\0", 0, FlatKind::Magic),
+    (b"AKM1PGE", 4, FlatKind::Truncated),
+    (b"AKM1PGET\0\0\0", 8, FlatKind::Truncated),
+    (b"AKM1PGET\0\0\0\0\0", 12, FlatKind::Trailing),
+    (b"AKM1PGET\0\0\0\x41", 8, FlatKind::FieldCount),
+    (b"AKM1PGET\0\0\0\x01LON", 12, FlatKind::Truncated),
+    (
+        b"AKM1PGET\0\0\0\x01LONE\x01a\x01\0\x04\0\0\0\0",
+        12,
+        FlatKind::BadType,
+    ),
+    (b"AKM1PGET\0\0\0\x01LONG", 16, FlatKind::Truncated),
+    (
+        b"AKM1PGET\0\0\0\x01LONG\0\x01\0\x04\0\0\0\0",
+        16,
+        FlatKind::BadName,
+    ),
+    (b"AKM1PGET\0\0\0\x01LONG\x41", 16, FlatKind::BadName),
+    (b"AKM1PGET\0\0\0\x01LONG\x02a", 17, FlatKind::Truncated),
+    (
+        b"AKM1PGET\0\0\0\x01LONG\x01 \x01\0\x04\0\0\0\0",
+        17,
+        FlatKind::BadName,
+    ),
+    (b"AKM1PGET\0\0\0\x01LONG\x01a\0", 18, FlatKind::NoValues),
+    (
+        b"AKM1PGET\0\0\0\x01LONG\x01a\x01\0\x03\0\0\0",
+        19,
+        FlatKind::BadLength,
+    ),
+    (
+        b"AKM1PGET\0\0\0\x01CSTR\x01a\x01\x04\x01",
+        19,
+        FlatKind::BadLength,
+    ),
+    (
+        b"AKM1PGET\0\0\0\x01LONG\x01a\x01\0\x04\0\0\0",
+        21,
+        FlatKind::Truncated,
+    ),
+    (
+        b"AKM1PGET\0\0\0\x01BOOL\x01a\x01\0\x01\x02",
+        21,
+        FlatKind::BadValue,
+    ),
+    (
+        b"AKM1PGET\0\0\0\x01CSTR\x01a\x01\0\x01\0",
+        21,
+        FlatKind::BadValue,
+    ),
+    (
+        b"AKM1PGET\0\0\0\x01CSTR\x01a\x01\0\x01\xff",
+        21,
+        FlatKind::BadValue,
+    ),
+    (
+        b"AKM1PGET\0\0\0\x01MSNG\x01a\x01\0\x0d\0\0\0\x01\x02\0\0\0\0\0\0\0\0",
+        21,
+        FlatKind::BadValue,
+    ),
+    (
+        b"AKM1PGET\0\0\0\x01MSNG\x01a\x01\0\x0d\0\0\0\x01\0\0\0\0\0\0\0\0\x01",
+        21,
+        FlatKind::BadValue,
+    ),
+    (
+        b"AKM1PGET\0\0\0\x01MSGG\x01a\x01\0\x0dAKM1PGET\0\0\0\0\0",
+        33,
+        FlatKind::Trailing,
+    ),
+    (
+        b"AKM1PGET\0\0\0\x01MSGG\x01a\x01\0\x0bAKM1PGET\0\0\0\0",
+        29,
+        FlatKind::Truncated,
+    ),
+    (
+        b"AKM1PGET\0\0\0\x02LONG\x01a\x01\0\x04\0\0\0\0LONG\x01a\x01\0\x04\0\0\0\0",
+        30,
+        FlatKind::RepeatedName,
+    ),
+];
+
+fn first_faults_are_told(rt: &impl Abort, alloc: Global, rows: &[Faulty<'_>]) {
+    for &(bytes, place, kind) in rows {
+        let fault = FlatFault { place, kind };
+        same(rt, bytes, fault_of(alloc, bytes), Some(fault));
+    }
 }
 
 #[test]
 fn the_first_fault_is_told(rt: HostRuntime) -> Result<(), Fail> {
     let alloc = rt.alloc();
     let long = vec![in alloc; 0u8; 4097]?;
-    let rows: [(&[u8], u32, FlatKind); 28] = [
-        (&long, 4096, FlatKind::TooLong),
-        (&long[..4096], 0, FlatKind::Magic),
-        (b"", 0, FlatKind::Truncated),
-        (b"AKM", 0, FlatKind::Truncated),
-        (b"AKM2PGET\0\0\0\0", 0, FlatKind::Magic),
-        (b"AKM1PGE", 4, FlatKind::Truncated),
-        (&QUESTION[..11], 8, FlatKind::Truncated),
-        (b"AKM1PGET\0\0\0\0\0", 12, FlatKind::Trailing),
-        (b"AKM1PGET\0\0\0\x41", 8, FlatKind::FieldCount),
-        (b"AKM1PGET\0\0\0\x01LON", 12, FlatKind::Truncated),
-        (
-            b"AKM1PGET\0\0\0\x01LONE\x01a\x01\0\x04\0\0\0\0",
-            12,
-            FlatKind::BadType,
-        ),
-        (b"AKM1PGET\0\0\0\x01LONG", 16, FlatKind::Truncated),
-        (
-            b"AKM1PGET\0\0\0\x01LONG\0\x01\0\x04\0\0\0\0",
-            16,
-            FlatKind::BadName,
-        ),
-        (b"AKM1PGET\0\0\0\x01LONG\x41", 16, FlatKind::BadName),
-        (b"AKM1PGET\0\0\0\x01LONG\x02a", 17, FlatKind::Truncated),
-        (
-            b"AKM1PGET\0\0\0\x01LONG\x01 \x01\0\x04\0\0\0\0",
-            17,
-            FlatKind::BadName,
-        ),
-        (b"AKM1PGET\0\0\0\x01LONG\x01a\0", 18, FlatKind::NoValues),
-        (
-            b"AKM1PGET\0\0\0\x01LONG\x01a\x01\0\x03\0\0\0",
-            19,
-            FlatKind::BadLength,
-        ),
-        (
-            b"AKM1PGET\0\0\0\x01CSTR\x01a\x01\x04\x01",
-            19,
-            FlatKind::BadLength,
-        ),
-        (
-            b"AKM1PGET\0\0\0\x01LONG\x01a\x01\0\x04\0\0\0",
-            21,
-            FlatKind::Truncated,
-        ),
-        (
-            b"AKM1PGET\0\0\0\x01BOOL\x01a\x01\0\x01\x02",
-            21,
-            FlatKind::BadValue,
-        ),
-        (
-            b"AKM1PGET\0\0\0\x01CSTR\x01a\x01\0\x01\0",
-            21,
-            FlatKind::BadValue,
-        ),
-        (
-            b"AKM1PGET\0\0\0\x01CSTR\x01a\x01\0\x01\xff",
-            21,
-            FlatKind::BadValue,
-        ),
-        (
-            b"AKM1PGET\0\0\0\x01MSNG\x01a\x01\0\x0d\0\0\0\x01\x02\0\0\0\0\0\0\0\0",
-            21,
-            FlatKind::BadValue,
-        ),
-        (
-            b"AKM1PGET\0\0\0\x01MSNG\x01a\x01\0\x0d\0\0\0\x01\0\0\0\0\0\0\0\0\x01",
-            21,
-            FlatKind::BadValue,
-        ),
-        (
-            b"AKM1PGET\0\0\0\x01MSGG\x01a\x01\0\x0dAKM1PGET\0\0\0\0\0",
-            33,
-            FlatKind::Trailing,
-        ),
-        (
-            b"AKM1PGET\0\0\0\x01MSGG\x01a\x01\0\x0bAKM1PGET\0\0\0\0",
-            29,
-            FlatKind::Truncated,
-        ),
-        (
-            b"AKM1PGET\0\0\0\x02LONG\x01a\x01\0\x04\0\0\0\0LONG\x01a\x01\0\x04\0\0\0\0",
-            30,
-            FlatKind::RepeatedName,
-        ),
-    ];
-    for (bytes, place, kind) in rows {
-        assert_eq!(rt;
-            fault_of(alloc, bytes),
-            Some(FlatFault { place, kind }),
-            "at {bytes:?}"
-        );
-    }
+    let too_long = (long.as_slice(), 4096, FlatKind::TooLong);
+    let not_longer = (&long[..4096], 0, FlatKind::Magic);
+    first_faults_are_told(&rt, alloc, &[too_long, not_longer]);
+    first_faults_are_told(&rt, alloc, &FAULTY);
     Ok(())
 }

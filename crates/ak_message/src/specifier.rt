@@ -136,7 +136,14 @@ impl Specifier {
 #[cfg(test)]
 mod tests {
     use super::*;
+    use std::alloc::Global;
     use std::test::Fail;
+
+    // The numbers of the form, of what is borrowed, and of a copy.
+    fn forms_of(at: &At) -> Result<[u32; 3], Fail> {
+        let copy = at.try_clone()?;
+        Ok([at.form(), at.as_ref().form(), copy.form()])
+    }
 
     #[test]
     fn forms_have_numbers(rt: HostRuntime) -> Result<(), Fail> {
@@ -151,26 +158,33 @@ mod tests {
             (At::Id(3), 7),
         ];
         for (at, form) in rows {
-            assert_eq!(rt; at.form(), form);
-            assert_eq!(rt; at.as_ref().form(), form);
-            assert_eq!(rt; at.try_clone()?.form(), form);
+            assert_eq!(rt; forms_of(&at)?, [form; 3], "at {form}");
         }
         Ok(())
     }
 
+    // The name that an element is meant by, if it is one.
+    fn name_of<'a>(at: AtRef<'a>) -> Option<&'a str> {
+        match at {
+            AtRef::Name(name) => Some(name.as_str()),
+            _ => None,
+        }
+    }
+
+    // `Title` of the element with the name `n`.
+    fn title_of_n(alloc: Global) -> Result<Specifier, Fail> {
+        Ok(Specifier {
+            property: Text::from_bytes(alloc, b"Title")?,
+            at: At::Name(Text::from_bytes(alloc, b"n")?),
+        })
+    }
+
     #[test]
     fn a_specifier_is_borrowed(rt: HostRuntime) -> Result<(), Fail> {
-        let specifier = Specifier {
-            property: Text::from_bytes(rt.alloc(), b"Title")?,
-            at: At::Name(Text::from_bytes(rt.alloc(), b"n")?),
-        };
-        let copy = specifier.try_clone()?;
+        let copy = title_of_n(rt.alloc())?.try_clone()?;
         let borrowed = copy.as_ref();
         assert_eq!(rt; borrowed.property.as_str(), "Title");
-        match borrowed.at {
-            AtRef::Name(name) => assert_eq!(rt; name.as_str(), "n"),
-            _ => assert!(rt; false),
-        }
+        assert_eq!(rt; name_of(borrowed.at), Some("n"));
         Ok(())
     }
 }

@@ -15,6 +15,8 @@ use ak_port::{FillAnswer, How, Port, PortBook, ReplyBook, ReplyEvent, close, fil
 use ak_turn::{Book, Clock, Seat, TurnLock};
 use std::alloc::Global;
 use std::collections::VecDeque;
+use std::fmt::Debug;
+use std::process::Abort;
 use std::sync::{Arc, Wait};
 use std::test::Fail;
 use std::thread::{Threads, join};
@@ -22,6 +24,22 @@ use std::thread::{Threads, join};
 const MAIN: ThreadId = ThreadId(0);
 
 const LOOPER: ThreadId = ThreadId(10_000);
+
+// The two are the same.
+fn same<T: PartialEq + Debug + Copy>(rt: &impl Abort, got: T, told: T, label: &str) {
+    assert_eq!(rt; got, told, "at {label}");
+}
+
+// What an item tells beside its message.
+fn told_by(item: &Item) -> (Target, u32, bool, u32, Duty) {
+    (
+        item.target(),
+        item.team(),
+        item.dropped(),
+        item.popped(),
+        item.duty(),
+    )
+}
 
 fn clock_of(thread: ThreadId) -> Clock
     ensures { result ≡ record { thread = thread; time = 0 } }
@@ -153,21 +171,21 @@ fn take_one<R: Wait>(
     Ok(out.pop_front().map(|taken| taken.item))
 }
 
-/// What posts answer.
-#[derive(Drop)]
+/// What posts answer, and how many entries there are then.
+#[derive(Clone, Copy, Debug, PartialEq, Eq)]
 struct Posts {
     first: Result<u64, SendFault>,
     full: Result<u64, SendFault>,
     long: Result<u64, SendFault>,
-    item: Option<Item>,
     second: Result<u64, SendFault>,
     spent: Result<u64, SendFault>,
     shut: Result<u64, SendFault>,
     entries: u64,
 }
 
-// Posts to a port that has room, is full, has room again, has accepted all that it does, and is shut.
-fn post_in_turn<R: Wait>(rt: &R, alloc: Global) -> Result<Posts, Fail> {
+// Posts to a port that has room, is full, has room again, has accepted all that it does, and is shut. Answers the
+// item of the first post too.
+fn post_in_turn<R: Wait>(rt: &R, alloc: Global) -> Result<(Posts, Option<Item>), Fail> {
     let Scene {
         mut hands,
         port,
@@ -184,39 +202,40 @@ fn post_in_turn<R: Wait>(rt: &R, alloc: Global) -> Result<Posts, Fail> {
     let spent = post_one(rt, alloc, &mut hands, &port, &mut seat, &m);
     close(&port, rt, &mut seat, &mut hands.clock);
     let shut = post_one(rt, alloc, &mut hands, &port, &mut seat, &m);
-    Ok(Posts {
+    let posts = Posts {
         first,
         full,
         long,
-        item,
         second,
         spent,
         shut,
         entries: seat.seen(),
-    })
+    };
+    Ok((posts, item))
 }
+
+// What the posts have to answer.
+const ANSWERS: Posts = Posts {
+    first: Ok(0),
+    full: Err(SendFault::WouldBlock),
+    long: Err(SendFault::TooLong),
+    second: Ok(1),
+    spent: Err(SendFault::Spent),
+    shut: Err(SendFault::BadPort),
+    // The making, four writes or refusals, the take, the closing, and a refusal.
+    entries: 8,
+};
 
 #[test]
 fn posts_answer_by_their_causes(rt: HostRuntime) -> Result<(), Fail> {
-    let posts = post_in_turn(&rt, rt.alloc())?;
-    assert_eq!(rt; posts.first, Ok(0));
-    assert_eq!(rt; posts.full, Err(SendFault::WouldBlock));
-    assert_eq!(rt; posts.long, Err(SendFault::TooLong));
-    assert_eq!(rt; posts.second, Ok(1));
-    assert_eq!(rt; posts.spent, Err(SendFault::Spent));
-    assert_eq!(rt; posts.shut, Err(SendFault::BadPort));
-    // The making, four writes or refusals, the take, the closing, and a refusal.
-    assert_eq!(rt; posts.entries, 8);
-    let item = posts.item.ok_or("an item")?;
-    assert_eq!(rt; item.target(), Target::Token(3));
-    assert_eq!(rt; item.team(), 7);
-    assert!(rt; item.dropped());
-    assert_eq!(rt; item.popped(), 1);
-    let back = Address {
+    let (posts, item) = post_in_turn(&rt, rt.alloc())?;
+    assert_eq!(rt; posts, ANSWERS);
+    let item = item.ok_or("an item")?;
+    let back = Duty::Back(Address {
         looper: 2,
         target: Target::Preferred,
-    };
-    assert_eq!(rt; item.duty(), Duty::Back(back));
+    });
+    assert_eq!(rt; told_by(&item), (Target::Token(3), 7, true, 1, back));
     Ok(())
 }
 
@@ -279,17 +298,29 @@ fn ask_in_vain<R: Wait>(rt: &R, alloc: Global) -> Result<Asks, Fail> {
     })
 }
 
+// Which slot was cancelled by the entry at that place, if one was.
+fn cancelled_at(book: &ReplyBook, place: u64) -> Result<Option<u64>, Fail> {
+    let entry = book.entry(place)?.ok_or("an entry")?;
+    match &entry.event {
+        ReplyEvent::Cancelled(slot) => Ok(Some(*slot)),
+        _ => Ok(None),
+    }
+}
+
 #[test]
 fn asks_in_vain_cancel_their_slots(rt: HostRuntime) -> Result<(), Fail> {
     let asks = ask_in_vain(&rt, rt.alloc())?;
-    assert_eq!(rt; asks.long, Some(SendFault::TooLong));
-    assert_eq!(rt; asks.spent, Some(SendFault::Spent));
-    assert_eq!(rt; asks.shut, Some(SendFault::BadPort));
-    assert_eq!(rt; asks.book.len(), 4);
-    let first = asks.book.entry(1)?.ok_or("an entry")?;
-    assert!(rt; matches!(first.event, ReplyEvent::Cancelled(0)));
-    let second = asks.book.entry(3)?.ok_or("an entry")?;
-    assert!(rt; matches!(second.event, ReplyEvent::Cancelled(1)));
+    same(&rt, asks.long, Some(SendFault::TooLong), "too long");
+    same(&rt, asks.spent, Some(SendFault::Spent), "a spent port");
+    same(&rt, asks.shut, Some(SendFault::BadPort), "a shut port");
+    same(&rt, asks.book.len(), 4, "the book");
+    same(&rt, cancelled_at(&asks.book, 1)?, Some(0), "the first slot");
+    same(
+        &rt,
+        cancelled_at(&asks.book, 3)?,
+        Some(1),
+        "the second slot",
+    );
     Ok(())
 }
 
@@ -372,14 +403,11 @@ fn an_ask_gets_the_reply_of_another_thread(rt: HostRuntime) -> Result<(), Fail> 
     let alloc: Global = rt.alloc();
     let wanted = reply_text(alloc)?;
     let (reply, item) = ask_beside(&rt, alloc, reply_text(alloc)?)?;
-    assert_eq!(rt; reply.slot, 0);
-    assert_eq!(rt; reply.flat.as_slice(), wanted.as_slice());
-    assert_eq!(rt; reply.message.what(), Code::REPLY);
     let item = item.ok_or("an item")?;
-    assert_eq!(rt; item.duty(), Duty::Slot(0));
-    assert_eq!(rt; item.target(), Target::Token(3));
-    assert_eq!(rt; item.team(), 7);
-    assert!(rt; item.dropped());
-    assert_eq!(rt; item.popped(), 1);
+    same(&rt, reply.slot, 0, "the slot");
+    same(&rt, reply.flat.as_slice(), wanted.as_slice(), "the text");
+    same(&rt, reply.message.what(), Code::REPLY, "the message");
+    let told = (Target::Token(3), 7, true, 1, Duty::Slot(0));
+    same(&rt, told_by(&item), told, "the item");
     Ok(())
 }

@@ -88,8 +88,8 @@ mod tests {
             (b"efg", SinkWrite::Wrote(3), b"abefg"),
         ];
         for (piece, want, kept) in rows {
-            assert_eq!(rt; sink.write(piece), want);
-            assert_eq!(rt; sink.written(), kept);
+            let wrote = sink.write(piece);
+            assert_eq!(rt; (wrote, sink.written()), (want, kept), "at {piece:?}");
         }
         Ok(())
     }

@@ -109,6 +109,24 @@ mod tests {
         Ok(bytes)
     }
 
+    // The length that is read of a text of that length, if it can be read, and whether the text begins so.
+    fn length_read(
+        alloc: Global,
+        length: u32,
+        limit: u32,
+        refused: u64,
+    ) -> Result<Result<(usize, bool), ReadFault>, Fail> {
+        let whole = text(alloc, length)?;
+        let mut source = TextSource::new(text(alloc, length)?, vec![in alloc; refused]?);
+        match read_all(alloc, &mut source, limit) {
+            Ok(bytes) => {
+                let begins = whole.as_slice().starts_with(bytes.as_slice());
+                Ok(Ok((bytes.as_slice().len(), begins)))
+            }
+            Err(fault) => Ok(Err(fault)),
+        }
+    }
+
     #[test]
     fn reads_to_the_end_or_past_the_limit(rt: HostRuntime) -> Result<(), Fail> {
         // the text's length, the limit, the call that is refused, or 0, and the length that is read
@@ -131,23 +149,11 @@ mod tests {
             (10_000, 9_999, 4, Some(10_000)),
         ];
         for (length, limit, refused, want) in rows {
-            let whole = text(rt.alloc(), length)?;
-            let fails = vec![in rt.alloc(); refused]?;
-            let mut source = TextSource::new(text(rt.alloc(), length)?, fails);
-            match read_all(rt.alloc(), &mut source, limit) {
-                Ok(bytes) => {
-                    assert_eq!(rt;
-                        Some(bytes.as_slice().len()),
-                        want,
-                        "{length} {limit} {refused}"
-                    );
-                    assert!(rt; whole.as_slice().starts_with(bytes.as_slice()));
-                }
-                Err(fault) => {
-                    assert_eq!(rt; fault, ReadFault::Failed);
-                    assert_eq!(rt; want, None, "{length} {limit} {refused}");
-                }
-            }
+            assert_eq!(rt;
+                length_read(rt.alloc(), length, limit, refused)?,
+                want.map(|n: usize| (n, true)).ok_or(ReadFault::Failed),
+                "{length} {limit} {refused}"
+            );
         }
         Ok(())
     }

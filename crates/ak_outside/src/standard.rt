@@ -109,7 +109,6 @@ mod tests {
     use super::*;
     use std::io;
     use std::io::ErrorKind;
-    use std::test::Fail;
 
     // Fails at each call.
     #[derive(Drop)]
@@ -148,37 +147,45 @@ mod tests {
     #[test]
     fn reads_from_the_system(rt: HostRuntime) {
         let mut buf = [0u8; 2];
-
         let mut source = StdSource::new(b"abc".as_slice());
-        assert_eq!(rt; source.read(&mut buf), SourceRead::Read(2));
-        assert_eq!(rt; buf, *b"ab");
-        assert_eq!(rt; source.read(&mut buf), SourceRead::Read(1));
-        assert_eq!(rt; buf, *b"cb");
-        assert_eq!(rt; source.read(&mut buf), SourceRead::Read(0));
-        assert_eq!(rt; source.failed, 0);
+        for (want, kept) in [(SourceRead::Read(2), *b"ab"), (SourceRead::Read(1), *b"cb")] {
+            let read = source.read(&mut buf);
+            assert_eq!(rt; (read, buf), (want, kept));
+        }
+        let end = source.read(&mut buf);
+        assert_eq!(rt; (end, source.failed), (SourceRead::Read(0), 0));
+    }
 
+    #[test]
+    fn reads_fail_with_the_system(rt: HostRuntime) {
+        let mut buf = [0u8; 2];
         let mut source = StdSource::new(Broken);
-        assert_eq!(rt; source.read(&mut buf), SourceRead::Failed);
-        assert_eq!(rt; source.read(&mut buf), SourceRead::Failed);
+        for _ in 0..2 {
+            assert_eq!(rt; source.read(&mut buf), SourceRead::Failed);
+        }
         assert_eq!(rt; source.failed, 2);
     }
 
     #[test]
-    fn writes_to_the_system(rt: HostRuntime) -> Result<(), Fail> {
+    fn writes_to_the_system(rt: HostRuntime) {
         let mut kept = Vec::new(rt.alloc());
         let mut sink = StdSink::new(&mut kept);
-        assert_eq!(rt; sink.write(b"ab"), SinkWrite::Wrote(2));
-        assert_eq!(rt; sink.write(b"c"), SinkWrite::Wrote(1));
-        assert_eq!(rt; sink.failed, 0);
+        let (first, second) = (sink.write(b"ab"), sink.write(b"c"));
+        let told = (SinkWrite::Wrote(2), SinkWrite::Wrote(1), 0);
+        assert_eq!(rt; (first, second, sink.failed), told);
         assert_eq!(rt; kept.as_slice(), b"abc".as_slice());
+    }
 
-        let mut sink = StdSink::new(Broken);
-        assert_eq!(rt; sink.write(b"ab"), SinkWrite::Failed);
-        assert_eq!(rt; sink.failed, 1);
+    // What the first write to the system answers, and how many have failed then.
+    fn write_once<W: Write + Drop>(system: W) -> (SinkWrite, u64) {
+        let mut sink = StdSink::new(system);
+        let answer = sink.write(b"ab");
+        (answer, sink.failed)
+    }
 
-        let mut sink = StdSink::new(Full);
-        assert_eq!(rt; sink.write(b"ab"), SinkWrite::Failed);
-        assert_eq!(rt; sink.failed, 1);
-        Ok(())
+    #[test]
+    fn writes_fail_with_the_system(rt: HostRuntime) {
+        assert_eq!(rt; write_once(Broken), (SinkWrite::Failed, 1));
+        assert_eq!(rt; write_once(Full), (SinkWrite::Failed, 1));
     }
 }

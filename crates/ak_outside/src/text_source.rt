@@ -88,8 +88,8 @@ mod tests {
         ];
         let mut buf = *b"..";
         for (want, kept) in rows {
-            assert_eq!(rt; source.read(&mut buf), want);
-            assert_eq!(rt; buf.as_slice(), kept);
+            let read = source.read(&mut buf);
+            assert_eq!(rt; (read, buf.as_slice()), (want, kept));
         }
         Ok(())
     }

@@ -66,17 +66,31 @@ mod tests {
     #[test]
     fn writes_the_whole_piece(rt: HostRuntime) -> Result<(), Fail> {
         let mut sink = ListSink::new(rt.alloc(), vec![in rt.alloc(); 2]?);
-        assert_eq!(rt; write_all(&mut sink, b"ab"), Ok(()));
-        assert_eq!(rt; write_all(&mut sink, b""), Ok(()));
-        assert_eq!(rt; write_all(&mut sink, b"cd"), Err(WriteFailed));
-        assert_eq!(rt; write_all(&mut sink, b"ef"), Ok(()));
+        let rows: [(&[u8], Result<(), WriteFailed>); 4] = [
+            (b"ab", Ok(())),
+            (b"", Ok(())),
+            (b"cd", Err(WriteFailed)),
+            (b"ef", Ok(())),
+        ];
+        for (piece, want) in rows {
+            assert_eq!(rt; write_all(&mut sink, piece), want, "at {piece:?}");
+        }
         assert_eq!(rt; sink.written(), b"abef".as_slice());
+        Ok(())
+    }
 
+    #[test]
+    fn writes_the_whole_piece_by_many_calls(rt: HostRuntime) -> Result<(), Fail> {
         let list = ListSink::new(rt.alloc(), vec![in rt.alloc(); 6]?);
         let mut sink = Narrow { list };
-        assert_eq!(rt; write_all(&mut sink, b"abc"), Ok(()));
-        assert_eq!(rt; write_all(&mut sink, b""), Ok(()));
-        assert_eq!(rt; write_all(&mut sink, b"defg"), Err(WriteFailed));
+        let rows: [(&[u8], Result<(), WriteFailed>); 3] = [
+            (b"abc", Ok(())),
+            (b"", Ok(())),
+            (b"defg", Err(WriteFailed)),
+        ];
+        for (piece, want) in rows {
+            assert_eq!(rt; write_all(&mut sink, piece), want, "at {piece:?}");
+        }
         assert_eq!(rt; sink.list.written(), b"abcde".as_slice());
         Ok(())
     }

@@ -20,9 +20,15 @@ use ak_message::{Message, Target};
 use ak_turn::{Book, Clock, Seat};
 use std::alloc::Global;
 use std::collections::VecDeque;
+use std::fmt::Debug;
 use std::process::Abort;
 use std::sync::Wait;
 use std::test::Fail;
+
+// The two are the same.
+pub(crate) fn same<T: PartialEq + Debug + Copy>(rt: &impl Abort, got: T, told: T, label: &str) {
+    assert_eq!(rt; got, told, "at {label}");
+}
 
 // An item whose message has that code.
 fn item(alloc: Global, code: u32) -> Result<Item, FlattenFault> {
@@ -144,11 +150,10 @@ fn a_port_of_capacity_2_and_life_2(rt: HostRuntime) -> Result<(), Fail> {
     };
     let (port, mut seat) = make(alloc, 2, 2, ThreadId(0), &mut clock)?;
     let first = put(&rt, alloc, &port, &mut seat, &mut clock, 1)?;
-    assert_eq!(rt; first, Said::Wrote(0));
     let second = put(&rt, alloc, &port, &mut seat, &mut clock, 2)?;
-    assert_eq!(rt; second, Said::Wrote(1));
     let third = put(&rt, alloc, &port, &mut seat, &mut clock, 3)?;
-    assert_eq!(rt; third, Said::Spent);
+    let told = [Said::Wrote(0), Said::Wrote(1), Said::Spent];
+    assert_eq!(rt; [first, second, third], told);
     Ok(())
 }
 
@@ -161,14 +166,37 @@ fn a_port_of_capacity_1_and_life_3(rt: HostRuntime) -> Result<(), Fail> {
     };
     let (port, mut seat) = make(alloc, 1, 3, ThreadId(10_000), &mut clock)?;
     let first = put(&rt, alloc, &port, &mut seat, &mut clock, 1)?;
-    assert_eq!(rt; first, Said::Wrote(0));
+    same(&rt, first, Said::Wrote(0), "the first write");
     let second = put(&rt, alloc, &port, &mut seat, &mut clock, 2)?;
-    assert_eq!(rt; second, Said::Full);
     let taken = take_first(&rt, alloc, &port, &mut seat, &mut clock)?;
-    assert_eq!(rt; taken, (1, 0, 1));
     let third = put(&rt, alloc, &port, &mut seat, &mut clock, 3)?;
-    assert_eq!(rt; third, Said::Wrote(1));
-    shut_and_empty(&rt, alloc, &port, seat, clock)
+    let end = shut_and_empty(&rt, alloc, &port, seat, clock)?;
+    let told = [Said::Full, Said::Wrote(1)];
+    same(&rt, [second, third], told, "the later writes");
+    same(&rt, taken, (1, 0, 1), "the take");
+    end.compare(&rt);
+    Ok(())
+}
+
+// What is answered after a port is shut, and its book then.
+#[derive(Clone, Copy)]
+struct End {
+    fourth: Said,
+    again: CloseAnswer,
+    left: (TakeAnswer, u64, u32),
+    taker: ThreadId,
+    entries: u64,
+}
+
+impl End {
+    // Compares it with what it has to be where the second item of a port of life 3 was pending.
+    fn compare(self, rt: &impl Abort) {
+        same(rt, self.fourth, Said::Closed, "a write then");
+        same(rt, self.again, CloseAnswer::AlreadyShut, "a closing again");
+        same(rt, self.left, (TakeAnswer::Rest(1), 1, 3), "the rest");
+        same(rt, self.taker, ThreadId(10_000), "the taker");
+        same(rt, self.entries, 8, "the entries");
+    }
 }
 
 // The end of a port that has one item pending, at position 1 and with the code 3.
@@ -178,7 +206,7 @@ fn shut_and_empty<R: Wait + Abort>(
     port: &Port,
     mut seat: Seat<PortBook>,
     mut clock: Clock,
-) -> Result<(), Fail>
+) -> Result<End, Fail>
     requires of { seat.lock ≡ port.now }
     requires idle { seat.turn ≡ false }
     requires thread { seat.thread ≡ clock.thread.0 }
@@ -192,51 +220,93 @@ fn shut_and_empty<R: Wait + Abort>(
     };
     assert_eq!(rt; close(port, rt, &mut seat, &mut clock), CloseAnswer::Shut);
     let fourth = put(rt, alloc, port, &mut seat, &mut clock, 4)?;
-    assert_eq!(rt; fourth, Said::Closed);
     let again = close(port, rt, &mut guest, &mut other);
-    assert_eq!(rt; again, CloseAnswer::AlreadyShut);
     let left = take_one(rt, alloc, port, &mut seat, &mut clock)?;
-    assert_eq!(rt; left, (TakeAnswer::Rest(1), 1, 3));
     let book = port.lock(rt, &mut seat).keep();
-    assert_eq!(rt; book.taker(), ThreadId(10_000));
-    assert_eq!(rt; book.len(), 8);
-    Ok(())
+    Ok(End {
+        fourth,
+        again,
+        left,
+        taker: book.taker(),
+        entries: book.len(),
+    })
 }
 
-#[test]
-fn a_book_copies_its_entries(rt: HostRuntime) -> Result<(), Fail> {
-    let alloc = rt.alloc();
+/// What an entry tells, in plain data.
+#[derive(Clone, Copy, Debug, PartialEq, Eq)]
+enum Entered {
+    Made { capacity: u32, life: u32 },
+    Written { position: u64, code: Code },
+    Full,
+    Other,
+}
+
+fn entered_by(alloc: Global, event: &PortEvent) -> Result<Entered, NoMemory> {
+    match event {
+        PortEvent::Made { capacity, life } => Ok(Entered::Made {
+            capacity: *capacity,
+            life: *life,
+        }),
+        PortEvent::Written { position, item } => Ok(Entered::Written {
+            position: *position,
+            code: item.message(alloc)?.what(),
+        }),
+        PortEvent::Full => Ok(Entered::Full),
+        _ => Ok(Entered::Other),
+    }
+}
+
+// What the entry at that place tells, if it is there.
+fn entered_at(alloc: Global, book: &PortBook, place: u64) -> Result<Option<Entered>, NoMemory> {
+    match book.entry(place)? {
+        Some(entry) => Ok(Some(entered_by(alloc, &entry.event)?)),
+        None => Ok(None),
+    }
+}
+
+// When the entry at that place was made, and by whom.
+fn stamp_at(book: &PortBook, place: u64) -> Result<(u64, ThreadId), Fail> {
+    let entry = book.entry(place)?.ok_or("an entry")?;
+    Ok((entry.stamp, entry.by))
+}
+
+// The book of a port of capacity 1 and life 3 to which two items with the code 9 were to be written.
+fn book_of_two_writes<R: Wait>(rt: &R, alloc: Global) -> Result<PortBook, Fail> {
     let mut clock = Clock {
         thread: ThreadId(7),
         time: 4,
     };
     let (port, mut seat) = make(alloc, 1, 3, ThreadId(10_000), &mut clock)?;
-    put(&rt, alloc, &port, &mut seat, &mut clock, 9)?;
-    put(&rt, alloc, &port, &mut seat, &mut clock, 9)?;
-    let book = port.lock(&rt, &mut seat).keep();
-    assert_eq!(rt; book.last_stamp(), 7);
-    let made = book.entry(0)?.ok_or("an entry")?;
-    assert_eq!(rt; made.stamp, 5);
-    assert_eq!(rt; made.by, ThreadId(7));
-    assert!(rt;
-        matches!(
-            made.event,
-            PortEvent::Made {
-                capacity: 1,
-                life: 3
-            }
-        )
-    );
-    let written = book.entry(1)?.ok_or("an entry")?;
-    if let PortEvent::Written { position, item } = written.event {
-        assert_eq!(rt; position, 0);
-        assert_eq!(rt; item.message(alloc)?.what(), Code(9));
-    } else {
-        return Err(Fail::from("it was written"));
+    put(rt, alloc, &port, &mut seat, &mut clock, 9)?;
+    put(rt, alloc, &port, &mut seat, &mut clock, 9)?;
+    Ok(port.lock(rt, &mut seat).keep())
+}
+
+#[test]
+fn a_book_copies_its_entries(rt: HostRuntime) -> Result<(), Fail> {
+    let alloc = rt.alloc();
+    let book = book_of_two_writes(&rt, alloc)?;
+    same(&rt, book.last_stamp(), 7, "the last stamp");
+    same(&rt, stamp_at(&book, 0)?, (5, ThreadId(7)), "the making");
+    let entries = [
+        Some(Entered::Made {
+            capacity: 1,
+            life: 3,
+        }),
+        Some(Entered::Written {
+            position: 0,
+            code: Code(9),
+        }),
+        Some(Entered::Full),
+        None,
+    ];
+    for (place, entered) in entries.into_iter().enumerate() {
+        assert_eq!(rt;
+            entered_at(alloc, &book, place as u64)?,
+            entered,
+            "entry {place}"
+        );
     }
-    let full = book.entry(2)?.ok_or("an entry")?;
-    assert!(rt; matches!(full.event, PortEvent::Full));
-    assert!(rt; book.entry(3)?.is_none());
     Ok(())
 }
 

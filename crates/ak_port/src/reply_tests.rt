@@ -3,6 +3,7 @@ ghost use Rattle.std.specs.Prelude.{◌≡◌, false, IfOk};
 ghost use Rattle.std.specs.Arc.{arc_value};
 ghost use Rattle.ak_port.specs.Reply.{IsFlatText};
 
+use crate::port_tests::same;
 use crate::{
     CancelAnswer, FillAnswer, ReplyBook, ReplyEvent, cancel, fill, fill_none, open_ask, wait_for,
 };
@@ -75,31 +76,38 @@ fn fill_then_wait<R: Wait>(
     Ok((first, second, reply, book.lock(rt, &mut seat).keep()))
 }
 
-#[test]
-fn a_slot_is_filled_before_the_wait(rt: HostRuntime) -> Result<(), Fail> {
-    let alloc: Global = rt.alloc();
-    let text = reply_text(alloc)?;
-    let wanted = reply_text(alloc)?;
-    let (first, second, reply, book) = fill_then_wait(&rt, alloc, text)?;
-    assert_eq!(rt; first, FillAnswer::Filled);
-    assert_eq!(rt; second, FillAnswer::Duplicate);
-    assert_eq!(rt; reply.as_slice(), wanted.as_slice());
-    assert_eq!(rt; book.len(), 3);
-    assert_eq!(rt; book.last_stamp(), 3);
-    assert!(rt; book.entry(3)?.is_none());
-    let filled = book.entry(1)?.ok_or("an entry")?;
-    assert_eq!(rt; filled.stamp, 2);
-    assert_eq!(rt; filled.by, OTHER);
-    assert!(rt; is_filled_with(&filled.event, wanted.as_slice()));
-    Ok(())
-}
-
 // Whether slot 0 is filled with those bytes.
 fn is_filled_with(event: &ReplyEvent, text: &[u8]) -> bool {
     match event {
         ReplyEvent::Filled(n, flat) => *n == 0 && flat.as_slice() == text,
         _ => false,
     }
+}
+
+// When the entry at that place was made, by whom, and whether slot 0 is filled with those bytes.
+fn filled_at(book: &ReplyBook, place: u64, text: &[u8]) -> Result<(u64, ThreadId, bool), Fail> {
+    let entry = book.entry(place)?.ok_or("an entry")?;
+    Ok((entry.stamp, entry.by, is_filled_with(&entry.event, text)))
+}
+
+fn has_entry(book: &ReplyBook, place: u64) -> Result<bool, NoMemory> {
+    Ok(book.entry(place)?.is_some())
+}
+
+#[test]
+fn a_slot_is_filled_before_the_wait(rt: HostRuntime) -> Result<(), Fail> {
+    let alloc: Global = rt.alloc();
+    let text = reply_text(alloc)?;
+    let wanted = reply_text(alloc)?;
+    let (first, second, reply, book) = fill_then_wait(&rt, alloc, text)?;
+    same(&rt, first, FillAnswer::Filled, "the first fill");
+    same(&rt, second, FillAnswer::Duplicate, "the second fill");
+    same(&rt, reply.as_slice(), wanted.as_slice(), "the reply");
+    same(&rt, (book.len(), book.last_stamp()), (3, 3), "the book");
+    same(&rt, has_entry(&book, 3)?, false, "its end");
+    let filled = filled_at(&book, 1, wanted.as_slice())?;
+    same(&rt, filled, (2, OTHER, true), "the entry of the fill");
+    Ok(())
 }
 
 // What came of cancelling, of two fills after it, and how many entries there are.
@@ -129,9 +137,8 @@ fn a_cancelled_slot_is_never_filled(rt: HostRuntime) -> Result<(), Fail> {
     let text = reply_text(alloc)?;
     let (cancelled, first, second, entries) = cancel_then_fill(&rt, alloc, text)?;
     assert_eq!(rt; cancelled, CancelAnswer::Cancelled);
-    assert_eq!(rt; first, FillAnswer::Duplicate);
-    assert_eq!(rt; second, FillAnswer::Duplicate);
-    assert_eq!(rt; entries, 2);
+    let told = (FillAnswer::Duplicate, FillAnswer::Duplicate, 2);
+    assert_eq!(rt; (first, second, entries), told);
     Ok(())
 }
 
@@ -154,10 +161,8 @@ fn fill_then_cancel<R: Wait>(
 
 #[test]
 fn a_filled_slot_is_not_cancelled(rt: HostRuntime) -> Result<(), Fail> {
-    let (filled, cancelled, entries) = fill_then_cancel(&rt, rt.alloc())?;
-    assert_eq!(rt; filled, FillAnswer::Filled);
-    assert_eq!(rt; cancelled, CancelAnswer::Duplicate);
-    assert_eq!(rt; entries, 2);
+    let told = fill_then_cancel(&rt, rt.alloc())?;
+    assert_eq!(rt; told, (FillAnswer::Filled, CancelAnswer::Duplicate, 2));
     Ok(())
 }
 

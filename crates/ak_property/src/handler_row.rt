@@ -27,6 +27,7 @@ pub trait HandlerRow {
 #[cfg(test)]
 mod tests {
     use super::*;
+    use crate::tests::same;
     use std::alloc::Global;
 
     // One reaction.
@@ -72,9 +73,9 @@ mod tests {
     #[test]
     fn a_handler_tells_its_parts(rt: HostRuntime) {
         let row = sample(rt.alloc());
-        assert_eq!(rt; row.table().as_slice().len(), 0);
-        assert_eq!(rt; row.filters().as_slice().len(), 0);
-        assert_eq!(rt; row.reaction_on(Code::GET), Some(0));
-        assert_eq!(rt; row.reaction_on(Code::SET), None);
+        same(&rt, "table", row.table().as_slice().len(), 0);
+        same(&rt, "filters", row.filters().as_slice().len(), 0);
+        same(&rt, "GET", row.reaction_on(Code::GET), Some(0));
+        same(&rt, "SET", row.reaction_on(Code::SET), None);
     }
 }

@@ -54,8 +54,10 @@ fn add_names(reply: &mut Message, rows: &[PropertyRow]) -> Result<(), NoMemory>
 #[cfg(test)]
 mod tests {
     use super::*;
+    use crate::tests::same;
     use ak_base::Items;
     use ak_message::Kind;
+    use std::process::Abort;
     use std::test::Fail;
 
     // A name of two letters, another one for each number below 64.
@@ -111,25 +113,51 @@ mod tests {
         }
     }
 
+    // The field at that place has that name and kind, and so many values.
+    fn has_field(
+        rt: &impl Abort,
+        reply: &Message,
+        place: u32,
+        name: &[u8],
+        kind: Kind,
+        count: usize,
+    ) {
+        same(rt, place, told(reply, place), Some((name, kind, count)));
+    }
+
+    // It is a reply without an error, with so many fields.
+    fn is_reply(rt: &impl Abort, reply: &Message, fields: u32) {
+        same(rt, "what", reply.what(), Code(0x5250_4C59));
+        same(rt, "count_names", reply.count_names(), fields);
+        same(rt, "error", error_of(reply), Some(0));
+    }
+
+    // So many texts in that field are the names of two letters in order.
+    fn are_letters(rt: &impl Abort, reply: &Message, name: &str, count: u8)
+        requires { count ≤ 64 }
+    {
+        for i in 0..count {
+            let text = text_at(reply, name.as_bytes(), i);
+            same(rt, (name, i), text, letters(i).as_slice());
+        }
+    }
+
     #[test]
     fn without_rows_no_properties_are_told(rt: HostRuntime) -> Result<(), Fail> {
         let alloc = rt.alloc();
         let suites = suites(alloc, 1)?;
         assert_eq!(rt; suites.len(), 1);
         let reply = suite_message(alloc, suites.as_slice(), &PropertyTable::new(alloc))?;
-        assert_eq!(rt; reply.what(), Code(0x5250_4C59));
-        assert_eq!(rt; reply.popped(), 0);
-        assert_eq!(rt; reply.count_names(), 2);
-        assert_eq!(rt;
-            told(&reply, 0),
-            Some((b"suites".as_slice(), Kind::Text, 1))
+        is_reply(&rt, &reply, 2);
+        same(&rt, "popped", reply.popped(), 0);
+        has_field(&rt, &reply, 0, b"suites", Kind::Text, 1);
+        same(
+            &rt,
+            "suites",
+            text_at(&reply, b"suites", 0),
+            b"aa".as_slice(),
         );
-        assert_eq!(rt; text_at(&reply, b"suites", 0), b"aa".as_slice());
-        assert_eq!(rt;
-            told(&reply, 1),
-            Some((b"error".as_slice(), Kind::Int32, 1))
-        );
-        assert_eq!(rt; error_of(&reply), Some(0));
+        has_field(&rt, &reply, 1, b"error", Kind::Int32, 1);
         Ok(())
     }
 
@@ -139,27 +167,12 @@ mod tests {
         let suites = suites(alloc, 19)?;
         assert_eq!(rt; suites.len(), 19);
         let reply = suite_message(alloc, suites.as_slice(), &table(alloc, 64)?)?;
-        assert_eq!(rt; reply.what(), Code(0x5250_4C59));
-        assert_eq!(rt; reply.count_names(), 3);
-        assert_eq!(rt;
-            told(&reply, 0),
-            Some((b"suites".as_slice(), Kind::Text, 19))
-        );
-        assert_eq!(rt;
-            told(&reply, 1),
-            Some((b"properties".as_slice(), Kind::Text, 64))
-        );
-        assert_eq!(rt;
-            told(&reply, 2),
-            Some((b"error".as_slice(), Kind::Int32, 1))
-        );
-        for i in 0..19 {
-            assert_eq!(rt; text_at(&reply, b"suites", i), letters(i).as_slice());
-        }
-        for i in 0..64 {
-            assert_eq!(rt; text_at(&reply, b"properties", i), letters(i).as_slice());
-        }
-        assert_eq!(rt; error_of(&reply), Some(0));
+        is_reply(&rt, &reply, 3);
+        has_field(&rt, &reply, 0, b"suites", Kind::Text, 19);
+        has_field(&rt, &reply, 1, b"properties", Kind::Text, 64);
+        has_field(&rt, &reply, 2, b"error", Kind::Int32, 1);
+        are_letters(&rt, &reply, "suites", 19);
+        are_letters(&rt, &reply, "properties", 64);
         Ok(())
     }
 }

@@ -160,6 +160,8 @@ fn allows_command(commands: &[Code], what: Code) -> bool
 #[cfg(test)]
 mod tests {
     use super::*;
+    use crate::tests::same;
+    use std::process::Abort;
     use std::test::Fail;
 
     fn row(
@@ -177,14 +179,38 @@ mod tests {
         })
     }
 
+    // What is looked for, by code, index and form, and the place of the first row that fits.
+    type Case = (Code, u32, u32, Option<usize>);
+
+    fn are_found(rt: &impl Abort, table: &PropertyTable, name: &Text, cases: &[Case]) {
+        for &(what, index, form, place) in cases {
+            let found = table.find_match(what, index, form, name);
+            same(rt, (what, index, form), found, place);
+        }
+    }
+
+    // The place of the first row of that name that takes GET without an index, in form 1.
+    fn place_of(alloc: Global, table: &PropertyTable, name: &[u8]) -> Result<Option<usize>, Fail> {
+        Ok(table.find_match(Code::GET, 0, 1, &Text::from_bytes(alloc, name)?))
+    }
+
+    // No row has a name that is nearly `Count`.
+    fn are_not_found(rt: &impl Abort, alloc: Global, table: &PropertyTable) -> Result<(), Fail> {
+        let names: [&[u8]; 4] = [b"Coun", b"Counts", b"count", b""];
+        for name in names {
+            same(rt, name, place_of(alloc, table, name)?, None);
+        }
+        Ok(())
+    }
+
     #[test]
     fn one_row_fits_by_name_form_and_command(rt: HostRuntime) -> Result<(), Fail> {
         let alloc = rt.alloc();
         let mut table = PropertyTable::new(alloc);
         let count = Text::from_bytes(alloc, b"Count")?;
-        assert_eq!(rt; table.find_match(Code::GET, 0, 1, &count), None);
+        are_found(&rt, &table, &count, &[(Code::GET, 0, 1, None)]);
         table.add_row(row(alloc, b"Count", &[Code::GET], &[1])?)?;
-        let cases: [(Code, u32, u32, Option<usize>); 6] = [
+        let cases = [
             (Code::GET, 0, 1, Some(0)),
             (Code::SET, 0, 1, None),
             (Code::SET, 1, 1, Some(0)),
@@ -192,37 +218,35 @@ mod tests {
             (Code::SET, 1, 2, None),
             (Code::GET, u32::MAX, 1, Some(0)),
         ];
-        for (what, index, form, place) in cases {
-            assert_eq!(rt;
-                table.find_match(what, index, form, &count),
-                place,
-                "at {index} {form}"
-            );
+        are_found(&rt, &table, &count, &cases);
+        are_not_found(&rt, alloc, &table)
+    }
+
+    // A row in plain data: its name, commands and forms.
+    type Plain = (&'static [u8], &'static [Code], &'static [u32]);
+
+    static ROWS: [Plain; 6] = [
+        (b"Count", &[Code::GET], &[1]),
+        (b"Count", &[Code::SET], &[1, 2]),
+        (b"Other", &[], &[]),
+        (b"Count", &[], &[2, 6]),
+        (b"Count", &[Code::GET, Code::DELETE], &[]),
+        (b"Count", &[Code::GET], &[1]),
+    ];
+
+    fn table_of(alloc: Global, rows: &[Plain]) -> Result<PropertyTable, Fail> {
+        let mut table = PropertyTable::new(alloc);
+        for &(name, commands, forms) in rows {
+            table.add_row(row(alloc, name, commands, forms)?)?;
         }
-        let names: [&[u8]; 4] = [b"Coun", b"Counts", b"count", b""];
-        for name in names {
-            let name = Text::from_bytes(alloc, name)?;
-            assert_eq!(rt; table.find_match(Code::GET, 0, 1, &name), None);
-        }
-        Ok(())
+        Ok(table)
     }
 
     #[test]
     fn the_first_row_that_fits_is_found(rt: HostRuntime) -> Result<(), Fail> {
         let alloc = rt.alloc();
-        let mut table = PropertyTable::new(alloc);
-        let rows: [(&[u8], &[Code], &[u32]); 6] = [
-            (b"Count", &[Code::GET], &[1]),
-            (b"Count", &[Code::SET], &[1, 2]),
-            (b"Other", &[], &[]),
-            (b"Count", &[], &[2, 6]),
-            (b"Count", &[Code::GET, Code::DELETE], &[]),
-            (b"Count", &[Code::GET], &[1]),
-        ];
-        for (name, commands, forms) in rows {
-            table.add_row(row(alloc, name, commands, forms)?)?;
-        }
-        let cases: [(Code, u32, u32, Option<usize>); 12] = [
+        let table = table_of(alloc, &ROWS)?;
+        let cases = [
             (Code::GET, 0, 1, Some(0)),
             (Code::SET, 0, 1, Some(1)),
             (Code::SET, 0, 2, Some(1)),
@@ -237,57 +261,74 @@ mod tests {
             (Code::EXECUTE, 1, 3, Some(4)),
         ];
         let count = Text::from_bytes(alloc, b"Count")?;
-        for (what, index, form, place) in cases {
-            assert_eq!(rt;
-                table.find_match(what, index, form, &count),
-                place,
-                "at {index} {form}"
-            );
-        }
+        are_found(&rt, &table, &count, &cases);
         let other = Text::from_bytes(alloc, b"Other")?;
-        assert_eq!(rt; table.find_match(Code::EXECUTE, 0, 9, &other), Some(2));
+        are_found(&rt, &table, &other, &[(Code::EXECUTE, 0, 9, Some(2))]);
+        Ok(())
+    }
+
+    // A table of 64 rows, each with another name of two letters.
+    fn full(alloc: Global) -> Result<PropertyTable, Fail> {
+        let mut table = PropertyTable::new(alloc);
+        for i in 0..64 {
+            table.add_row(row(alloc, &[b'a' + i / 8, b'a' + i % 8], &[], &[])?)?;
+        }
+        Ok(table)
+    }
+
+    // Each of those rows is found at its place.
+    fn all_are_found(rt: &impl Abort, alloc: Global, table: &PropertyTable) -> Result<(), Fail> {
+        for i in 0..64 {
+            let place = place_of(alloc, table, &[b'a' + i / 8, b'a' + i % 8])?;
+            same(rt, i, place, Some(usize::from(i)));
+        }
         Ok(())
     }
 
     #[test]
     fn a_table_takes_64_rows(rt: HostRuntime) -> Result<(), Fail> {
         let alloc = rt.alloc();
-        let mut table = PropertyTable::new(alloc);
-        for i in 0..64 {
-            table.add_row(row(alloc, &[b'a' + i / 8, b'a' + i % 8], &[], &[])?)?;
-        }
+        let mut table = full(alloc)?;
         let extra = row(alloc, b"extra", &[], &[])?;
-        assert_eq!(rt; table.add_row(extra), Err(RowFault::RowLimit));
-        assert_eq!(rt; table.as_slice().len(), 64);
-        for i in 0..64 {
-            let name = Text::from_bytes(alloc, &[b'a' + i / 8, b'a' + i % 8])?;
-            let place = Some(usize::from(i));
-            assert_eq!(rt; table.find_match(Code::GET, 0, 1, &name), place);
-        }
-        let extra = Text::from_bytes(alloc, b"extra")?;
-        assert_eq!(rt; table.find_match(Code::GET, 0, 1, &extra), None);
+        same(
+            &rt,
+            "add_row",
+            table.add_row(extra),
+            Err(RowFault::RowLimit),
+        );
+        same(&rt, "len", table.as_slice().len(), 64);
+        all_are_found(&rt, alloc, &table)?;
+        same(&rt, "extra", place_of(alloc, &table, b"extra")?, None);
         Ok(())
     }
 
-    #[test]
-    fn a_copy_has_the_same_rows(rt: HostRuntime) -> Result<(), Fail> {
-        let alloc = rt.alloc();
+    // A copy of a table with `Count` and `Other`, made before that table takes another row.
+    fn copied(alloc: Global) -> Result<PropertyTable, Fail> {
         let mut table = PropertyTable::new(alloc);
         table.add_row(row(alloc, b"Count", &[Code::GET, Code::SET], &[1, 6])?)?;
         table.add_row(row(alloc, b"Other", &[], &[])?)?;
         let copy = table.try_clone()?;
         table.add_row(row(alloc, b"More", &[], &[])?)?;
+        Ok(copy)
+    }
+
+    fn is_count(rt: &impl Abort, row: &PropertyRow) {
+        same(rt, "name", row.name.as_str(), "Count");
+        same(rt, "kind", row.kind, Kind::Int32);
+        let commands = [Code::GET, Code::SET];
+        same(rt, "commands", row.commands.as_slice(), commands.as_slice());
+        same(rt, "forms", row.forms.as_slice(), [1, 6].as_slice());
+        same(rt, "usage", row.usage.as_str(), "as told");
+    }
+
+    #[test]
+    fn a_copy_has_the_same_rows(rt: HostRuntime) -> Result<(), Fail> {
+        let alloc = rt.alloc();
+        let copy = copied(alloc)?;
         assert_eq!(rt; copy.as_slice().len(), 2);
         let first = copy.as_slice()[0].try_clone(alloc)?;
-        assert_eq!(rt; first.name.as_str(), "Count");
-        assert_eq!(rt; first.kind, Kind::Int32);
-        assert_eq!(rt;
-            first.commands.as_slice(),
-            [Code::GET, Code::SET].as_slice()
-        );
-        assert_eq!(rt; first.forms.as_slice(), [1, 6].as_slice());
-        assert_eq!(rt; first.usage.as_str(), "as told");
-        assert_eq!(rt; copy.as_slice()[1].name.as_str(), "Other");
+        is_count(&rt, &first);
+        same(&rt, "second", copy.as_slice()[1].name.as_str(), "Other");
         Ok(())
     }
 }

@@ -10,6 +10,8 @@ use ak_message::{At, Kind, Message, Specifier, Target, Value};
 use ak_property::{HandlerRow, PropertyRow, PropertyTable};
 use ak_specifier::add_specifier;
 use std::alloc::Global;
+use std::fmt::Debug;
+use std::process::Abort;
 use std::test::Fail;
 
 mod settling;
@@ -90,6 +92,22 @@ fn holding(alloc: Global, property: &[u8], reaction: Code) -> Result<Held, Fail>
     })
 }
 
+// The looper `demo` with `Count` and that reaction.
+fn looper(alloc: Global, reaction: Code) -> Result<HandlerSet<Held>, Fail> {
+    Ok(HandlerSet::new(
+        alloc,
+        text(alloc, b"demo")?,
+        holding(alloc, b"Count", reaction)?,
+    )?)
+}
+
+// A handler with `Title` and that filter of its own.
+fn filtering(alloc: Global, reaction: Code, filter: Filter) -> Result<Held, Fail> {
+    let mut held = holding(alloc, b"Title", reaction)?;
+    held.filters.push(filter)?;
+    Ok(held)
+}
+
 // A filter on a code, or on all: it skips, or passes to that name, and sets the code.
 fn filter(what: Option<Code>, skip: bool, to: Option<Text>, set_what: Option<Code>) -> Filter {
     Filter {
@@ -153,14 +171,15 @@ fn add_bad(alloc: Global, message: &mut Message, form: u32) -> Result<(), Fail> 
 
 // The looper `demo` with `Count`, and the handlers `a` (1) and `b` (2) with `Title`.
 fn demo(alloc: Global) -> Result<HandlerSet<Held>, Fail> {
-    let mut set = HandlerSet::new(
-        alloc,
-        text(alloc, b"demo")?,
-        holding(alloc, b"Count", Code(0))?,
-    )?;
+    let mut set = looper(alloc, Code(0))?;
     set.add(text(alloc, b"a")?, holding(alloc, b"Title", Code(0))?)?;
     set.add(text(alloc, b"b")?, holding(alloc, b"Title", PING)?)?;
     Ok(set)
+}
+
+// The two are the same.
+fn same<T: PartialEq + Debug + Copy>(rt: &impl Abort, got: T, told: T, label: &str) {
+    assert_eq!(rt; got, told, "at {label}");
 }
 
 // The route of a message that a program of the looper's team sent, how many specifiers are popped then, and
@@ -197,137 +216,156 @@ fn routed_from(
     Ok((route, message.popped(), message.what()))
 }
 
+// As routed, of a message with that code and these specifiers.
+fn sent(
+    alloc: Global,
+    set: &HandlerSet<Held>,
+    common: &FilterList,
+    own: bool,
+    first: Target,
+    what: Code,
+    specifiers: &[u8],
+) -> Result<(Route, u32, Code), Fail> {
+    let message = message(alloc, what, specifiers)?;
+    routed(alloc, set, common, own, first, message)
+}
+
 fn deliver(token: u64, taker: Taker) -> Route {
     Route::Deliver { token, taker }
 }
+
+const PREFERRED: Target = Target::Preferred;
+
+const LOST: Route = Route::NotUnderstood;
+
+// What the first property of the looper, of `a` or of `b` takes.
+const AT_LOOPER: Route = Route::Deliver {
+    token: 0,
+    taker: Taker::Property(0),
+};
+
+const AT_A: Route = Route::Deliver {
+    token: 1,
+    taker: Taker::Property(0),
+};
+
+const AT_B: Route = Route::Deliver {
+    token: 2,
+    taker: Taker::Property(0),
+};
+
+// What is built into the looper.
+const BUILT_IN: Route = Route::Deliver {
+    token: 0,
+    taker: Taker::BuiltIn,
+};
+
+// Whether it is the application's own looper, where the message is for, its code and specifiers; its route, and how
+// many specifiers are popped then.
+static ROUTES: [(bool, Target, Code, &[u8], Route, u32); 42] = [
+    (false, PREFERRED, Code::GET, b"T.Hb", AT_B, 1),
+    (false, PREFERRED, Code::GET, b"T.H3", LOST, 0),
+    (false, PREFERRED, Code::GET, b"T.H1", AT_A, 1),
+    (false, PREFERRED, Code::GET, b"T.H0", LOST, 1),
+    (false, PREFERRED, Code::GET, b"T.Ha", LOST, 0),
+    (false, PREFERRED, Code::GET, b"T.Hd", LOST, 1),
+    (false, PREFERRED, Code::GET, b"T.He", LOST, 0),
+    (false, PREFERRED, Code::GET, b"T.Hw", LOST, 0),
+    (false, PREFERRED, Code::GET, b"C.", AT_LOOPER, 0),
+    (false, PREFERRED, Code::GET, b"N.", LOST, 0),
+    (false, PREFERRED, Code::GET, b"C.C.", AT_LOOPER, 0),
+    (false, PREFERRED, Code::COUNT, b"H.", BUILT_IN, 0),
+    (false, PREFERRED, Code::COUNT, b"C.H.", LOST, 0),
+    (false, PREFERRED, Code::COUNT, b"L.", LOST, 0),
+    (true, PREFERRED, Code::COUNT, b"L.", BUILT_IN, 0),
+    (
+        true,
+        PREFERRED,
+        Code::GET,
+        b"N.L1",
+        Route::Forward { looper: 1 },
+        1,
+    ),
+    (false, PREFERRED, Code::GET, b"N.L1", LOST, 0),
+    (true, PREFERRED, Code::GET, b"C.L0", AT_LOOPER, 1),
+    (
+        true,
+        PREFERRED,
+        Code::GET,
+        b"N.Lw",
+        Route::Forward { looper: 1 },
+        1,
+    ),
+    (true, PREFERRED, Code::GET, b"N.Lx", LOST, 0),
+    (true, PREFERRED, Code::GET, b"N.L2", LOST, 0),
+    (true, PREFERRED, Code::GET, b"N.Lb", LOST, 0),
+    (false, PREFERRED, Code::GET, b"N.Lw", LOST, 0),
+    (false, PREFERRED, Code::GET, b"N.Lb", LOST, 0),
+    (false, PREFERRED, Code::GET, b"C.L0", LOST, 0),
+    (true, PREFERRED, Code::GET, b"T.H1", AT_A, 1),
+    (true, PREFERRED, Code::GET, b"T.Hb", AT_B, 1),
+    (true, PREFERRED, Code::GET, b"T.Ha", LOST, 0),
+    (true, PREFERRED, Code::GET, b"T.HA", LOST, 0),
+    (false, PREFERRED, Code::GET, b"T.HA", LOST, 0),
+    (false, PREFERRED, Code::GET, b"S.", BUILT_IN, 0),
+    (
+        false,
+        Target::Token(2),
+        Code::GET,
+        b"S.",
+        Route::Deliver {
+            token: 2,
+            taker: Taker::BuiltIn,
+        },
+        0,
+    ),
+    (false, Target::Token(1), Code::GET, b"T.", AT_A, 0),
+    (false, Target::Token(1), Code::GET, b"C.", LOST, 0),
+    (false, Target::Token(9), Code::GET, b"C.", Route::Dropped, 0),
+    (false, PREFERRED, PING, b"", LOST, 0),
+    (
+        false,
+        Target::Token(2),
+        PING,
+        b"",
+        Route::Deliver {
+            token: 2,
+            taker: Taker::Reaction(0),
+        },
+        0,
+    ),
+    (
+        false,
+        Target::Token(1),
+        Code::QUIT_REQUESTED,
+        b"",
+        BUILT_IN,
+        0,
+    ),
+    (
+        false,
+        Target::Token(1),
+        Code::SUITES,
+        b"",
+        Route::Deliver {
+            token: 1,
+            taker: Taker::BuiltIn,
+        },
+        0,
+    ),
+    (true, PREFERRED, Code::ARGV_RECEIVED, b"", BUILT_IN, 0),
+    (false, PREFERRED, Code::READY_TO_RUN, b"", LOST, 0),
+    (true, PREFERRED, Code::READY_TO_RUN, b"", BUILT_IN, 0),
+];
 
 #[test]
 fn messages_are_routed(rt: HostRuntime) -> Result<(), Fail> {
     let alloc = rt.alloc();
     let set = demo(alloc)?;
     let common = FilterList::new(alloc);
-    let preferred = Target::Preferred;
-    let row = Taker::Property(0);
-    let built_in = Taker::BuiltIn;
-    let lost = Route::NotUnderstood;
-    let rows: [(bool, Target, Code, &[u8], Route, u32); 42] = [
-        (false, preferred, Code::GET, b"T.Hb", deliver(2, row), 1),
-        (false, preferred, Code::GET, b"T.H3", lost, 0),
-        (false, preferred, Code::GET, b"T.H1", deliver(1, row), 1),
-        (false, preferred, Code::GET, b"T.H0", lost, 1),
-        (false, preferred, Code::GET, b"T.Ha", lost, 0),
-        (false, preferred, Code::GET, b"T.Hd", lost, 1),
-        (false, preferred, Code::GET, b"T.He", lost, 0),
-        (false, preferred, Code::GET, b"T.Hw", lost, 0),
-        (false, preferred, Code::GET, b"C.", deliver(0, row), 0),
-        (false, preferred, Code::GET, b"N.", lost, 0),
-        (false, preferred, Code::GET, b"C.C.", deliver(0, row), 0),
-        (
-            false,
-            preferred,
-            Code::COUNT,
-            b"H.",
-            deliver(0, built_in),
-            0,
-        ),
-        (false, preferred, Code::COUNT, b"C.H.", lost, 0),
-        (false, preferred, Code::COUNT, b"L.", lost, 0),
-        (true, preferred, Code::COUNT, b"L.", deliver(0, built_in), 0),
-        (
-            true,
-            preferred,
-            Code::GET,
-            b"N.L1",
-            Route::Forward { looper: 1 },
-            1,
-        ),
-        (false, preferred, Code::GET, b"N.L1", lost, 0),
-        (true, preferred, Code::GET, b"C.L0", deliver(0, row), 1),
-        (
-            true,
-            preferred,
-            Code::GET,
-            b"N.Lw",
-            Route::Forward { looper: 1 },
-            1,
-        ),
-        (true, preferred, Code::GET, b"N.Lx", lost, 0),
-        (true, preferred, Code::GET, b"N.L2", lost, 0),
-        (true, preferred, Code::GET, b"N.Lb", lost, 0),
-        (false, preferred, Code::GET, b"N.Lw", lost, 0),
-        (false, preferred, Code::GET, b"N.Lb", lost, 0),
-        (false, preferred, Code::GET, b"C.L0", lost, 0),
-        (true, preferred, Code::GET, b"T.H1", deliver(1, row), 1),
-        (true, preferred, Code::GET, b"T.Hb", deliver(2, row), 1),
-        (true, preferred, Code::GET, b"T.Ha", lost, 0),
-        (true, preferred, Code::GET, b"T.HA", lost, 0),
-        (false, preferred, Code::GET, b"T.HA", lost, 0),
-        (false, preferred, Code::GET, b"S.", deliver(0, built_in), 0),
-        (
-            false,
-            Target::Token(2),
-            Code::GET,
-            b"S.",
-            deliver(2, built_in),
-            0,
-        ),
-        (
-            false,
-            Target::Token(1),
-            Code::GET,
-            b"T.",
-            deliver(1, row),
-            0,
-        ),
-        (false, Target::Token(1), Code::GET, b"C.", lost, 0),
-        (false, Target::Token(9), Code::GET, b"C.", Route::Dropped, 0),
-        (false, preferred, PING, b"", lost, 0),
-        (
-            false,
-            Target::Token(2),
-            PING,
-            b"",
-            deliver(2, Taker::Reaction(0)),
-            0,
-        ),
-        (
-            false,
-            Target::Token(1),
-            Code::QUIT_REQUESTED,
-            b"",
-            deliver(0, built_in),
-            0,
-        ),
-        (
-            false,
-            Target::Token(1),
-            Code::SUITES,
-            b"",
-            deliver(1, built_in),
-            0,
-        ),
-        (
-            true,
-            preferred,
-            Code::ARGV_RECEIVED,
-            b"",
-            deliver(0, built_in),
-            0,
-        ),
-        (false, preferred, Code::READY_TO_RUN, b"", lost, 0),
-        (
-            true,
-            preferred,
-            Code::READY_TO_RUN,
-            b"",
-            deliver(0, built_in),
-            0,
-        ),
-    ];
-    for (place, (own, first, what, specifiers, route, popped)) in rows.into_iter().enumerate() {
-        let message = message(alloc, what, specifiers)?;
+    for (place, &(own, first, what, specifiers, route, popped)) in ROUTES.iter().enumerate() {
         assert_eq!(rt;
-            routed(alloc, &set, &common, own, first, message)?,
+            sent(alloc, &set, &common, own, first, what, specifiers)?,
             (route, popped, what),
             "row {place}"
         );
@@ -335,43 +373,61 @@ fn messages_are_routed(rt: HostRuntime) -> Result<(), Fail> {
     Ok(())
 }
 
+// The code and the specifiers; the route, and how many specifiers are popped then.
+static WITH_A_PREFERRED: [(Code, &[u8], Route, u32); 6] = [
+    (Code::GET, b"T.", AT_A, 0),
+    (Code::GET, b"C.", AT_LOOPER, 0),
+    (Code::QUIT_REQUESTED, b"", BUILT_IN, 0),
+    (Code::GET, b"T.H2", AT_B, 1),
+    (Code::GET, b"T.H1", AT_A, 1),
+    (Code::GET, b"C.H1", LOST, 1),
+];
+
 #[test]
 fn the_preferred_handler_is_asked_first(rt: HostRuntime) -> Result<(), Fail> {
     let alloc = rt.alloc();
     let mut set = demo(alloc)?;
     let common = FilterList::new(alloc);
-    assert_eq!(rt; set.set_preferred(Some(1)), Ok(()));
-    let row = Taker::Property(0);
+    same(&rt, set.set_preferred(Some(1)), Ok(()), "preferring");
     // Without a match the looper is asked, which leads on to another handler, and to the same one.
-    let rows: [(Code, &[u8], Route, u32); 6] = [
-        (Code::GET, b"T.", deliver(1, row), 0),
-        (Code::GET, b"C.", deliver(0, row), 0),
-        (Code::QUIT_REQUESTED, b"", deliver(0, Taker::BuiltIn), 0),
-        (Code::GET, b"T.H2", deliver(2, row), 1),
-        (Code::GET, b"T.H1", deliver(1, row), 1),
-        (Code::GET, b"C.H1", Route::NotUnderstood, 1),
-    ];
-    for (what, specifiers, route, popped) in rows {
-        let message = message(alloc, what, specifiers)?;
+    for (place, &(what, specifiers, route, popped)) in WITH_A_PREFERRED.iter().enumerate() {
         assert_eq!(rt;
-            routed(alloc, &set, &common, false, Target::Preferred, message)?,
-            (route, popped, what)
+            sent(alloc, &set, &common, false, PREFERRED, what, specifiers)?,
+            (route, popped, what),
+            "row {place}"
         );
     }
-    // Without a next handler its chain ends with it, and once it is removed its token leads nowhere.
-    assert_eq!(rt; set.set_next(1, None), Ok(()));
-    let quit = message(alloc, Code::QUIT_REQUESTED, b"")?;
-    assert_eq!(rt;
-        routed(alloc, &set, &common, false, Target::Token(1), quit)?,
-        (Route::NotUnderstood, 0, Code::QUIT_REQUESTED)
-    );
-    assert_eq!(rt; set.remove(1).is_ok(), true);
-    let title = message(alloc, Code::GET, b"T.")?;
-    assert_eq!(rt;
-        routed(alloc, &set, &common, false, Target::Token(1), title)?,
-        (Route::Dropped, 0, Code::GET)
+    leads_nowhere_alone(&rt, alloc, &mut set, &common)
+}
+
+// Without a next handler the chain of `a` ends with it, and once it is removed its token leads nowhere.
+fn leads_nowhere_alone(
+    rt: &impl Abort,
+    alloc: Global,
+    set: &mut HandlerSet<Held>,
+    common: &FilterList,
+) -> Result<(), Fail> {
+    let first = Target::Token(1);
+    let quit = Code::QUIT_REQUESTED;
+    same(rt, set.set_next(1, None), Ok(()), "no next one");
+    let alone = sent(alloc, set, common, false, first, quit, b"")?;
+    same(rt, alone, (LOST, 0, quit), "a handler without a next one");
+    same(rt, set.remove(1).is_ok(), true, "the removal");
+    let removed = sent(alloc, set, common, false, first, Code::GET, b"T.")?;
+    same(
+        rt,
+        removed,
+        (Route::Dropped, 0, Code::GET),
+        "a removed handler",
     );
     Ok(())
+}
+
+// A message with that code and a specifier of that form, badly formed.
+fn bad_message(alloc: Global, what: Code, form: u32) -> Result<Message, Fail> {
+    let mut bad = Message::new(alloc, what);
+    add_bad(alloc, &mut bad, form)?;
+    Ok(bad)
 }
 
 #[test]
@@ -390,11 +446,10 @@ fn badly_formed_specifiers_lead_nowhere(rt: HostRuntime) -> Result<(), Fail> {
         for (preferred, first) in firsts {
             set.set_preferred(preferred)?;
             for what in [Code::GET, Code::QUIT_REQUESTED, PING] {
-                let mut bad = message(alloc, what, b"")?;
-                add_bad(alloc, &mut bad, form)?;
+                let bad = bad_message(alloc, what, form)?;
                 assert_eq!(rt;
                     routed(alloc, &set, &common, true, first, bad)?,
-                    (Route::NotUnderstood, 0, what),
+                    (LOST, 0, what),
                     "form {form}"
                 );
             }
@@ -403,84 +458,80 @@ fn badly_formed_specifiers_lead_nowhere(rt: HostRuntime) -> Result<(), Fail> {
     Ok(())
 }
 
+// The form of the bad specifier, the code, and the specifiers that are added after it; the route, and how many
+// specifiers are popped then.
+static BAD_FIRST: [(u32, Code, &[u8], Route, u32); 5] = [
+    (1, Code::GET, b"H1", AT_A, 1),
+    (2, Code::GET, b"H1", LOST, 1),
+    (9, Code::GET, b"H1", LOST, 1),
+    (2, Code::GET, b"C.", AT_LOOPER, 0),
+    (9, Code::SET, b"C.", AT_LOOPER, 0),
+];
+
 #[test]
 fn badly_formed_specifiers_count_once_they_are_current(rt: HostRuntime) -> Result<(), Fail> {
     let alloc = rt.alloc();
     let set = demo(alloc)?;
     let common = FilterList::new(alloc);
-    let row = Taker::Property(0);
-    let rows: [(u32, Code, &[u8], Route, u32); 5] = [
-        (1, Code::GET, b"H1", deliver(1, row), 1),
-        (2, Code::GET, b"H1", Route::NotUnderstood, 1),
-        (9, Code::GET, b"H1", Route::NotUnderstood, 1),
-        (2, Code::GET, b"C.", deliver(0, row), 0),
-        (9, Code::SET, b"C.", deliver(0, row), 0),
-    ];
-    for (form, what, later, route, popped) in rows {
-        let mut message = Message::new(alloc, what);
-        add_bad(alloc, &mut message, form)?;
+    for &(form, what, later, route, popped) in &BAD_FIRST {
+        let mut message = bad_message(alloc, what, form)?;
         add_all(alloc, &mut message, later)?;
         assert_eq!(rt;
-            routed(alloc, &set, &common, false, Target::Preferred, message)?,
+            routed(alloc, &set, &common, false, PREFERRED, message)?,
             (route, popped, what),
             "form {form}"
         );
     }
     // A message without specifiers, or with well formed ones alone, goes to the looper as ever.
-    let looper = Target::Token(0);
-    let rows: [(Code, &[u8], Taker); 3] = [
-        (Code::QUIT_REQUESTED, b"", Taker::BuiltIn),
-        (Code::GET, b"C.", row),
-        (Code::GET, b"S.", Taker::BuiltIn),
+    let rows: [(Code, &[u8], Route); 3] = [
+        (Code::QUIT_REQUESTED, b"", BUILT_IN),
+        (Code::GET, b"C.", AT_LOOPER),
+        (Code::GET, b"S.", BUILT_IN),
     ];
-    for (what, specifiers, taker) in rows {
-        let message = message(alloc, what, specifiers)?;
-        assert_eq!(rt;
-            routed(alloc, &set, &common, false, looper, message)?,
-            (deliver(0, taker), 0, what)
-        );
+    for (what, specifiers, route) in rows {
+        let told = sent(
+            alloc,
+            &set,
+            &common,
+            false,
+            Target::Token(0),
+            what,
+            specifiers,
+        )?;
+        assert_eq!(rt; told, (route, 0, what));
     }
     Ok(())
+}
+
+// The handler `a` with `b` as its next one, which has none.
+fn a_before_b(alloc: Global) -> Result<HandlerSet<Held>, Fail> {
+    let mut set = demo(alloc)?;
+    set.set_next(2, None)?;
+    set.set_next(1, Some(2))?;
+    Ok(set)
 }
 
 #[test]
 fn the_looper_is_next_to_one_whose_next_is_removed(rt: HostRuntime) -> Result<(), Fail> {
     let alloc = rt.alloc();
-    let mut set = demo(alloc)?;
+    let mut set = a_before_b(alloc)?;
     let common = FilterList::new(alloc);
     let first = Target::Token(1);
-    set.set_next(2, None)?;
-    set.set_next(1, Some(2))?;
-    let rows = [
-        (PING, deliver(2, Taker::Reaction(0)), Route::NotUnderstood),
-        (
-            Code::QUIT_REQUESTED,
-            Route::NotUnderstood,
-            deliver(0, Taker::BuiltIn),
-        ),
-    ];
-    for (what, with, _) in rows {
-        let message = message(alloc, what, b"")?;
-        assert_eq!(rt;
-            routed(alloc, &set, &common, false, first, message)?,
-            (with, 0, what)
-        );
+    let reaction = deliver(2, Taker::Reaction(0));
+    for (what, with) in [(PING, reaction), (Code::QUIT_REQUESTED, LOST)] {
+        let told = sent(alloc, &set, &common, false, first, what, b"")?;
+        same(&rt, told, (with, 0, what), "a next one that is there");
     }
-    assert_eq!(rt; set.remove(2).is_ok(), true);
-    for (what, _, without) in rows {
-        let message = message(alloc, what, b"")?;
-        assert_eq!(rt;
-            routed(alloc, &set, &common, false, first, message)?,
-            (without, 0, what)
-        );
+    same(&rt, set.remove(2).is_ok(), true, "the removal");
+    for (what, without) in [(PING, LOST), (Code::QUIT_REQUESTED, BUILT_IN)] {
+        let told = sent(alloc, &set, &common, false, first, what, b"")?;
+        same(&rt, told, (without, 0, what), "a next one that is removed");
     }
     Ok(())
 }
 
-#[test]
-fn common_filters_run_in_order(rt: HostRuntime) -> Result<(), Fail> {
-    let alloc = rt.alloc();
-    let set = demo(alloc)?;
+// The code of a `SET` message changes twice, though no handler has the name to which it is passed.
+fn filters_in_order(alloc: Global) -> Result<FilterList, Fail> {
     let mut common = FilterList::new(alloc);
     common.push(filter(Some(Code::GET), true, None, None))?;
     common.push(filter(Some(PONG), true, None, None))?;
@@ -492,51 +543,49 @@ fn common_filters_run_in_order(rt: HostRuntime) -> Result<(), Fail> {
         Some(PING),
     ))?;
     common.push(filter(Some(PING), false, None, Some(PONG)))?;
-    // The code of a `SET` message changes twice, though no handler has the name to which it is passed.
+    Ok(common)
+}
+
+#[test]
+fn common_filters_run_in_order(rt: HostRuntime) -> Result<(), Fail> {
+    let alloc = rt.alloc();
+    let set = demo(alloc)?;
+    let common = filters_in_order(alloc)?;
     let rows: [(Code, &[u8], Route, Code); 6] = [
         (Code::GET, b"C.", Route::Skipped, Code::GET),
-        (Code::SET, b"", Route::NotUnderstood, PONG),
-        (Code::SET, b"C.", Route::NotUnderstood, PONG),
-        (
-            Code::COUNT,
-            b"C.",
-            deliver(0, Taker::Property(0)),
-            Code::COUNT,
-        ),
+        (Code::SET, b"", LOST, PONG),
+        (Code::SET, b"C.", LOST, PONG),
+        (Code::COUNT, b"C.", AT_LOOPER, Code::COUNT),
         (PONG, b"", Route::Skipped, PONG),
-        (PING, b"", Route::NotUnderstood, PONG),
+        (PING, b"", LOST, PONG),
     ];
     for (what, specifiers, route, code) in rows {
-        let message = message(alloc, what, specifiers)?;
         assert_eq!(rt;
-            routed(alloc, &set, &common, false, Target::Preferred, message)?,
+            sent(alloc, &set, &common, false, PREFERRED, what, specifiers)?,
             (route, 0, code)
         );
     }
     Ok(())
 }
 
+// The handlers `a` and `b`, of which each passes all that it gets to the other.
+fn passing_to_each_other(alloc: Global) -> Result<HandlerSet<Held>, Fail> {
+    let mut set = looper(alloc, Code(0))?;
+    let to_b = filter(None, false, Some(text(alloc, b"b")?), None);
+    set.add(text(alloc, b"a")?, filtering(alloc, PING, to_b)?)?;
+    let to_a = filter(None, false, Some(text(alloc, b"a")?), None);
+    set.add(text(alloc, b"b")?, filtering(alloc, PING, to_a)?)?;
+    Ok(set)
+}
+
 #[test]
 fn filters_of_a_handler_run_once(rt: HostRuntime) -> Result<(), Fail> {
     let alloc = rt.alloc();
-    let mut set = HandlerSet::new(
-        alloc,
-        text(alloc, b"demo")?,
-        holding(alloc, b"Count", Code(0))?,
-    )?;
-    let mut a = holding(alloc, b"Title", PING)?;
-    a.filters
-        .push(filter(None, false, Some(text(alloc, b"b")?), None))?;
-    let mut b = holding(alloc, b"Title", PING)?;
-    b.filters
-        .push(filter(None, false, Some(text(alloc, b"a")?), None))?;
-    set.add(text(alloc, b"a")?, a)?;
-    set.add(text(alloc, b"b")?, b)?;
+    let mut set = passing_to_each_other(alloc)?;
     assert_eq!(rt; set.set_preferred(Some(1)), Ok(()));
     let common = FilterList::new(alloc);
-    let ping = message(alloc, PING, b"")?;
     assert_eq!(rt;
-        routed(alloc, &set, &common, false, Target::Preferred, ping)?,
+        sent(alloc, &set, &common, false, PREFERRED, PING, b"")?,
         (deliver(1, Taker::Reaction(0)), 0, PING)
     );
     Ok(())

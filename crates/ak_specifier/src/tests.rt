@@ -2,7 +2,14 @@ use super::*;
 use ak_base::{Code, Text};
 use ak_message::{AddFault, At, AtRef, Kind, Message, Specifier, Value};
 use std::alloc::Global;
+use std::fmt::Debug;
+use std::process::Abort;
 use std::test::Fail;
+
+// The two are the same.
+fn same<T: PartialEq + Debug + Copy>(rt: &impl Abort, label: impl Debug + Copy, got: T, told: T) {
+    assert_eq!(rt; got, told, "at {label:?}");
+}
 
 // What a specifier says beside its form and its property: `index`, `range`, `id` and `name`.
 type Said<'a> = (Option<i32>, Option<i32>, Option<i32>, Option<&'a str>);
@@ -123,34 +130,42 @@ fn index(message: &Message) -> Option<i32> {
     }
 }
 
+// A message with the specifier of that form in the table.
+fn with_form(alloc: Global, form: u32) -> Result<Message, Fail> {
+    let mut message = Message::new(alloc, Code(1));
+    add_specifier(alloc, &mut message, specifier(alloc, form)?)?;
+    Ok(message)
+}
+
 #[test]
 fn forms_are_read_back(rt: HostRuntime) -> Result<(), Fail> {
     for row in FORMS {
-        let mut message = Message::new(rt.alloc(), Code(1));
-        add_specifier(rt.alloc(), &mut message, specifier(rt.alloc(), row.0)?)?;
-        assert_eq!(rt; left(&message), 1);
-        assert_eq!(rt; read(&message), Ok(("p", row)));
+        let message = with_form(rt.alloc(), row.0)?;
+        same(&rt, row, left(&message), 1);
+        same(&rt, row, read(&message), Ok(("p", row)));
     }
     Ok(())
+}
+
+// The message of a specifier has that form, the property `p`, and says that.
+fn is_written(rt: &impl Abort, written: &Message, form: u32, said: Said<'_>) {
+    let numbers = (
+        number_at(written, b"index"),
+        number_at(written, b"range"),
+        number_at(written, b"id"),
+        words_at(written, b"name"),
+    );
+    same(rt, form, written.what(), Code(form));
+    same(rt, form, words_at(written, b"property"), Some("p"));
+    same(rt, form, numbers, said);
 }
 
 #[test]
 fn forms_are_written(rt: HostRuntime) -> Result<(), Fail> {
     for (form, said) in FORMS {
-        let mut message = Message::new(rt.alloc(), Code(1));
-        add_specifier(rt.alloc(), &mut message, specifier(rt.alloc(), form)?)?;
+        let message = with_form(rt.alloc(), form)?;
         match message.find(b"specifiers", Kind::Message, 0)? {
-            Value::Message(written) => {
-                let numbers = (
-                    number_at(written, b"index"),
-                    number_at(written, b"range"),
-                    number_at(written, b"id"),
-                    words_at(written, b"name"),
-                );
-                assert_eq!(rt; written.what(), Code(form));
-                assert_eq!(rt; words_at(written, b"property"), Some("p"));
-                assert_eq!(rt; numbers, said);
-            }
+            Value::Message(written) => is_written(&rt, written, form, said),
             _ => assert!(rt; false),
         }
     }
@@ -162,53 +177,87 @@ fn first_values_count_and_other_fields_do_not(rt: HostRuntime) -> Result<(), Fai
     for row in FORMS {
         let mut message = Message::new(rt.alloc(), Code(1));
         add_letters(rt.alloc(), &mut message, row.0, b"xpqijrsnmdey")?;
-        assert_eq!(rt; read(&message), Ok(("p", row)));
+        same(&rt, row, read(&message), Ok(("p", row)));
     }
     Ok(())
 }
 
+static BADLY_FORMED: [(u32, &[u8]); 29] = [
+    (1, b""),
+    (1, b"Pirnd"),
+    (2, b"p"),
+    (2, b"i"),
+    (2, b"pI"),
+    (2, b"prnd"),
+    (3, b"p"),
+    (3, b"pI"),
+    (4, b"pi"),
+    (4, b"pr"),
+    (4, b"piR"),
+    (4, b"pIr"),
+    (5, b"pi"),
+    (5, b"pr"),
+    (5, b"piR"),
+    (6, b"p"),
+    (6, b"n"),
+    (6, b"pN"),
+    (7, b"p"),
+    (7, b"pi"),
+    (7, b"pD"),
+    (3, b"i"),
+    (4, b"ir"),
+    (5, b"ir"),
+    (5, b"pIr"),
+    (7, b"d"),
+    (0, b"pirnd"),
+    (8, b"pirnd"),
+    (0x8000_0001, b"pirnd"),
+];
+
+// A message with the index 3, and then a specifier of that form with these fields.
+fn behind_an_index(alloc: Global, form: u32, letters: &[u8]) -> Result<Message, Fail> {
+    let mut message = Message::new(alloc, Code(1));
+    add_index(alloc, &mut message, 3)?;
+    add_letters(alloc, &mut message, form, letters)?;
+    Ok(message)
+}
+
+// The specifier of that form is refused behind an index, and popped as any other.
+fn is_refused(rt: &impl Abort, message: &mut Message, form: u32) {
+    same(rt, ("form", form), left(message), 2);
+    same(rt, ("form", form), read(message), Err(BadScript));
+    same(rt, ("form", form), pop(message), Ok(()));
+    same(rt, ("form", form), index(message), Some(3));
+}
+
 #[test]
 fn badly_formed_specifiers_are_refused(rt: HostRuntime) -> Result<(), Fail> {
-    let rows: [(u32, &[u8]); 29] = [
-        (1, b""),
-        (1, b"Pirnd"),
-        (2, b"p"),
-        (2, b"i"),
-        (2, b"pI"),
-        (2, b"prnd"),
-        (3, b"p"),
-        (3, b"pI"),
-        (4, b"pi"),
-        (4, b"pr"),
-        (4, b"piR"),
-        (4, b"pIr"),
-        (5, b"pi"),
-        (5, b"pr"),
-        (5, b"piR"),
-        (6, b"p"),
-        (6, b"n"),
-        (6, b"pN"),
-        (7, b"p"),
-        (7, b"pi"),
-        (7, b"pD"),
-        (3, b"i"),
-        (4, b"ir"),
-        (5, b"ir"),
-        (5, b"pIr"),
-        (7, b"d"),
-        (0, b"pirnd"),
-        (8, b"pirnd"),
-        (0x8000_0001, b"pirnd"),
-    ];
-    for (form, letters) in rows {
-        let mut message = Message::new(rt.alloc(), Code(1));
-        add_index(rt.alloc(), &mut message, 3)?;
-        add_letters(rt.alloc(), &mut message, form, letters)?;
-        assert_eq!(rt; left(&message), 2);
-        assert_eq!(rt; read(&message), Err(BadScript), "form {form}");
-        // It is popped as any other.
-        assert_eq!(rt; pop(&mut message), Ok(()));
-        assert_eq!(rt; index(&message), Some(3));
+    for &(form, letters) in &BADLY_FORMED {
+        let mut message = behind_an_index(rt.alloc(), form, letters)?;
+        is_refused(&rt, &mut message, form);
+    }
+    Ok(())
+}
+
+// The message has no specifier that is left.
+fn none_is_left(rt: &impl Abort, label: &str, message: &mut Message) {
+    same(rt, label, left(message), 0);
+    same(rt, label, read(message), Err(BadScript));
+    same(rt, label, pop(message), Err(BadScript));
+}
+
+fn are_indexes(rt: &impl Abort, message: &mut Message, rows: [(u32, i32); 3]) {
+    for (more, n) in rows {
+        same(rt, ("left", n), left(message), more);
+        same(rt, ("index", n), index(message), Some(n));
+        same(rt, ("pop", n), pop(message), Ok(()));
+    }
+}
+
+// The indexes 0, 1 and 2 behind what the message has.
+fn add_indexes(alloc: Global, message: &mut Message) -> Result<(), Fail> {
+    for n in 0..3 {
+        add_index(alloc, message, n)?;
     }
     Ok(())
 }
@@ -217,26 +266,21 @@ fn badly_formed_specifiers_are_refused(rt: HostRuntime) -> Result<(), Fail> {
 fn the_last_one_is_current(rt: HostRuntime) -> Result<(), Fail> {
     let alloc = rt.alloc();
     let mut message = Message::new(alloc, Code(1));
-    assert_eq!(rt; left(&message), 0);
-    assert_eq!(rt; read(&message), Err(BadScript));
-    assert_eq!(rt; pop(&mut message), Err(BadScript));
-    for n in 0..3 {
-        add_index(alloc, &mut message, n)?;
-    }
-    for (more, n) in [(3, 2), (2, 1), (1, 0)] {
-        assert_eq!(rt; left(&message), more);
-        assert_eq!(rt; index(&message), Some(n));
-        assert_eq!(rt; pop(&mut message), Ok(()));
-    }
-    assert_eq!(rt; left(&message), 0);
-    assert_eq!(rt; read(&message), Err(BadScript));
-    assert_eq!(rt; pop(&mut message), Err(BadScript));
-    assert_eq!(rt; message.popped(), 3);
+    none_is_left(&rt, "before", &mut message);
+    add_indexes(alloc, &mut message)?;
+    are_indexes(&rt, &mut message, [(3, 2), (2, 1), (1, 0)]);
+    none_is_left(&rt, "after", &mut message);
+    same(&rt, "popped", message.popped(), 3);
     add_index(alloc, &mut message, 7)?;
-    assert_eq!(rt; message.popped(), 0);
-    assert_eq!(rt; left(&message), 4);
-    assert_eq!(rt; index(&message), Some(7));
+    same(&rt, "popped then", message.popped(), 0);
+    same(&rt, "left", left(&message), 4);
+    same(&rt, "index", index(&message), Some(7));
     Ok(())
+}
+
+// What is answered where a specifier is added.
+fn added(alloc: Global, message: &mut Message) -> Result<Result<(), AddFault>, Fail> {
+    Ok(add_specifier(alloc, message, specifier(alloc, 1)?))
 }
 
 #[test]
@@ -244,58 +288,65 @@ fn another_kind_is_refused(rt: HostRuntime) -> Result<(), Fail> {
     let alloc = rt.alloc();
     let mut message = Message::new(alloc, Code(1));
     message.add(b"specifiers", Value::Int32(5))?;
-    assert_eq!(rt; left(&message), 0);
-    assert_eq!(rt; read(&message), Err(BadScript));
-    assert_eq!(rt; pop(&mut message), Err(BadScript));
-    let more = specifier(alloc, 1)?;
-    assert_eq!(rt;
-        add_specifier(alloc, &mut message, more),
-        Err(AddFault::BadType)
-    );
-    assert_eq!(rt; message.count_names(), 1);
-    assert_eq!(rt; number_at(&message, b"specifiers"), Some(5));
+    none_is_left(&rt, "a number", &mut message);
+    let answer = added(alloc, &mut message)?;
+    same(&rt, "add", answer, Err(AddFault::BadType));
+    same(&rt, "count_names", message.count_names(), 1);
+    same(&rt, "number", number_at(&message, b"specifiers"), Some(5));
     Ok(())
+}
+
+// As many specifiers as there may be.
+fn all_that_fit(alloc: Global) -> Result<Message, Fail> {
+    let mut message = Message::new(alloc, Code(1));
+    for n in 0..255 {
+        add_index(alloc, &mut message, n)?;
+    }
+    Ok(message)
 }
 
 #[test]
 fn specifiers_are_limited(rt: HostRuntime) -> Result<(), Fail> {
     let alloc = rt.alloc();
+    let mut message = all_that_fit(alloc)?;
+    same(&rt, "pop", pop(&mut message), Ok(()));
+    let answer = added(alloc, &mut message)?;
+    same(&rt, "add", answer, Err(AddFault::FieldLimit));
+    same(&rt, "popped", message.popped(), 1);
+    same(&rt, "left", left(&message), 254);
+    same(&rt, "index", index(&message), Some(253));
+    Ok(())
+}
+
+// A message with 63 fields.
+fn with_63_fields(alloc: Global) -> Result<Message, Fail> {
     let mut message = Message::new(alloc, Code(1));
-    for n in 0..255 {
-        add_index(alloc, &mut message, n)?;
+    for letter in b"0123456789ABCDEFGHIJKLMNOPQRSTUVWXYZabcdefghijklmnopqrstuvwxyz_" {
+        message.add(&[*letter], Value::Int32(1))?;
     }
-    assert_eq!(rt; pop(&mut message), Ok(()));
-    let more = specifier(alloc, 1)?;
-    assert_eq!(rt;
-        add_specifier(alloc, &mut message, more),
-        Err(AddFault::FieldLimit)
-    );
-    assert_eq!(rt; message.popped(), 1);
-    assert_eq!(rt; left(&message), 254);
-    assert_eq!(rt; index(&message), Some(253));
+    Ok(message)
+}
+
+// A copy with a field more takes no specifier.
+fn takes_no_more(rt: &impl Abort, alloc: Global, message: &Message) -> Result<(), Fail> {
+    let mut full = message.try_clone()?;
+    full.add(b"more", Value::Int32(1))?;
+    let answer = added(alloc, &mut full)?;
+    same(rt, "add", answer, Err(AddFault::FieldLimit));
+    same(rt, "count_names of the full", full.count_names(), 64);
+    same(rt, "left in the full", left(&full), 0);
     Ok(())
 }
 
 #[test]
 fn fields_are_limited(rt: HostRuntime) -> Result<(), Fail> {
     let alloc = rt.alloc();
-    let mut message = Message::new(alloc, Code(1));
-    for letter in b"0123456789ABCDEFGHIJKLMNOPQRSTUVWXYZabcdefghijklmnopqrstuvwxyz_" {
-        message.add(&[*letter], Value::Int32(1))?;
-    }
-    let mut full = message.try_clone()?;
-    full.add(b"more", Value::Int32(1))?;
-    let more = specifier(alloc, 1)?;
-    assert_eq!(rt;
-        add_specifier(alloc, &mut full, more),
-        Err(AddFault::FieldLimit)
-    );
-    assert_eq!(rt; full.count_names(), 64);
-    assert_eq!(rt; left(&full), 0);
+    let mut message = with_63_fields(alloc)?;
+    takes_no_more(&rt, alloc, &message)?;
     // The field `specifiers` is the 64th, and then has room for more.
     add_index(alloc, &mut message, 0)?;
     add_index(alloc, &mut message, 1)?;
-    assert_eq!(rt; message.count_names(), 64);
-    assert_eq!(rt; left(&message), 2);
+    same(&rt, "count_names", message.count_names(), 64);
+    same(&rt, "left", left(&message), 2);
     Ok(())
 }

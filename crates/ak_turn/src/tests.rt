@@ -6,8 +6,15 @@ mod two_locks;
 
 use crate::{Book, Clock};
 use ak_base::ThreadId;
+use std::fmt::Debug;
+use std::process::Abort;
 use std::test::Fail;
 use tally::{Count, Tally};
+
+// The two are the same.
+fn same<T: PartialEq + Debug + Copy>(rt: &impl Abort, got: T, told: T, label: &str) {
+    assert_eq!(rt; got, told, "at {label}");
+}
 
 // The clock's time, the object's last stamp, and the stamp.
 const STAMPS: [(u64, u64, u64); 7] = [
@@ -28,9 +35,9 @@ fn a_stamp_is_past_both(rt: HostRuntime) {
                 thread: ThreadId(4),
                 time,
             };
-            assert_eq!(rt; clock.stamp(last), stamp);
-            assert_eq!(rt; clock.time, stamp);
-            assert_eq!(rt; clock.thread, ThreadId(4));
+            let given = clock.stamp(last);
+            let told = (stamp, stamp, ThreadId(4));
+            assert_eq!(rt; (given, clock.time, clock.thread), told);
         }
     }
 }
@@ -49,9 +56,8 @@ fn stamps_of_one_thread_rise(rt: HostRuntime) {
 #[test]
 fn a_tally_is_a_book(rt: HostRuntime) -> Result<(), Fail> {
     let mut tally = Tally::new(rt.alloc());
-    assert_eq!(rt; tally.last_stamp(), 0);
-    assert_eq!(rt; tally.len(), 0);
-    assert_eq!(rt; tally.entry(0)?, None);
+    same(&rt, (tally.last_stamp(), tally.len()), (0, 0), "no entries");
+    same(&rt, tally.entry(0)?, None, "no entry");
     let first = Count {
         stamp: 3,
         by: ThreadId(1),
@@ -64,10 +70,14 @@ fn a_tally_is_a_book(rt: HostRuntime) -> Result<(), Fail> {
     };
     tally.add(first)?;
     tally.add(second)?;
-    assert_eq!(rt; tally.last_stamp(), 5);
-    assert_eq!(rt; tally.len(), 2);
-    assert_eq!(rt; tally.entry(0)?, Some(first));
-    assert_eq!(rt; tally.entry(1)?, Some(second));
-    assert_eq!(rt; tally.entry(2)?, None);
+    same(
+        &rt,
+        (tally.last_stamp(), tally.len()),
+        (5, 2),
+        "two entries",
+    );
+    same(&rt, tally.entry(0)?, Some(first), "the first entry");
+    same(&rt, tally.entry(1)?, Some(second), "the second entry");
+    same(&rt, tally.entry(2)?, None, "a third entry");
     Ok(())
 }

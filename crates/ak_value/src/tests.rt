@@ -7,7 +7,18 @@ use Form::{Direct, Id, Index, Name, Range, Reverse, ReverseRange};
 use ak_base::{Code, Items, Text};
 use ak_message::{AtRef, Kind, Message, Value};
 use std::alloc::Global;
+use std::fmt::Debug;
+use std::process::Abort;
 use std::test::Fail;
+
+// The two are the same.
+fn same<T: PartialEq + Debug + Copy>(rt: &impl Abort, label: impl Debug + Copy, got: T, told: T) {
+    assert_eq!(rt; got, told, "at {label:?}");
+}
+
+fn holds(rt: &impl Abort, label: impl Debug + Copy, it_holds: bool) {
+    assert!(rt; it_holds, "does not hold at {label:?}");
+}
 
 // A form in plain data.
 #[derive(Clone, Copy, Debug)]
@@ -156,6 +167,58 @@ fn first_wrong_form(
     Ok(None)
 }
 
+// These are the elements.
+fn consist(
+    rt: &impl Abort,
+    label: impl Debug + Copy,
+    elements: &Elements,
+    rows: &[(&'static str, u32, i32)],
+) {
+    holds(rt, label, are(elements, rows));
+}
+
+// The commands, given in this order, are answered so.
+fn are_answered(
+    rt: &impl Abort,
+    alloc: Global,
+    label: &str,
+    elements: &mut Elements,
+    rows: &[Row],
+) -> Result<(), Fail> {
+    same(rt, label, first_wrong(alloc, elements, rows)?, None);
+    Ok(())
+}
+
+// The elements 10, 20 and 30 are found by these forms, or are not.
+fn are_found(rt: &impl Abort, alloc: Global, rows: &[(Form, Answer)]) -> Result<(), Fail> {
+    let mut elements = three(alloc)?;
+    let wrong = first_wrong_form(alloc, &mut elements, rows)?;
+    same(rt, "rows", wrong, None);
+    Ok(())
+}
+
+// Each creates an element with that message, one after the other.
+fn are_created(
+    rt: &impl Abort,
+    alloc: Global,
+    elements: &mut Elements,
+    message: &Message,
+    rows: &[(Form, Answer)],
+) -> Result<(), Fail> {
+    for &(form, answer) in rows {
+        let created = answers(alloc, elements, Code::CREATE, form, message, answer)?;
+        holds(rt, (form, answer), created);
+    }
+    Ok(())
+}
+
+fn first_number(elements: &Elements) -> Option<i32> {
+    match elements.first() {
+        Some(Value::Int32(n)) => Some(*n),
+        _ => None,
+    }
+}
+
 #[test]
 fn commands_in_order(rt: HostRuntime) -> Result<(), Fail> {
     let mut elements = three(rt.alloc())?;
@@ -170,14 +233,18 @@ fn commands_in_order(rt: HostRuntime) -> Result<(), Fail> {
         (Code::CREATE, Name("d"), Number(40), Numbers(&[4])),
         (Code::SET, Direct, Words, Fault(BadType)),
     ];
-    assert_eq!(rt; first_wrong(rt.alloc(), &mut elements, &rows)?, None);
-    assert!(rt; are(&elements, &[("", 1, 10), ("", 3, 30), ("d", 4, 40)]));
+    are_answered(&rt, rt.alloc(), "elements", &mut elements, &rows)?;
+    consist(
+        &rt,
+        "elements",
+        &elements,
+        &[("", 1, 10), ("", 3, 30), ("d", 4, 40)],
+    );
     Ok(())
 }
 
 #[test]
 fn forms_choose(rt: HostRuntime) -> Result<(), Fail> {
-    let mut elements = three(rt.alloc())?;
     let rows = [
         (Direct, Numbers(&[10])),
         (Index(0), Numbers(&[10])),
@@ -189,13 +256,11 @@ fn forms_choose(rt: HostRuntime) -> Result<(), Fail> {
         (Name(""), Numbers(&[10])),
         (Id(3), Numbers(&[30])),
     ];
-    assert_eq!(rt; first_wrong_form(rt.alloc(), &mut elements, &rows)?, None);
-    Ok(())
+    are_found(&rt, rt.alloc(), &rows)
 }
 
 #[test]
 fn choices_that_are_not_there(rt: HostRuntime) -> Result<(), Fail> {
-    let mut elements = three(rt.alloc())?;
     let answer = Fault(BadIndex);
     let rows = [
         (Index(-1), answer),
@@ -217,8 +282,7 @@ fn choices_that_are_not_there(rt: HostRuntime) -> Result<(), Fail> {
         (Id(0), answer),
         (Id(4), answer),
     ];
-    assert_eq!(rt; first_wrong_form(rt.alloc(), &mut elements, &rows)?, None);
-    Ok(())
+    are_found(&rt, rt.alloc(), &rows)
 }
 
 // Each refusal leaves the elements and the next id as they were.
@@ -245,15 +309,21 @@ fn refusals_change_nothing(rt: HostRuntime) -> Result<(), Fail> {
         (Code::DELETE, Range(1, 3), Bare, Fault(BadIndex)),
     ];
     for row in rows {
-        assert_eq!(rt;
-            first_wrong(alloc, &mut elements, &[row])?,
-            None,
-            "at {row:?}"
-        );
-        assert!(rt; are(&elements, &[("", 1, 10), ("b", 2, 20), ("", 3, 30)]));
-        assert_eq!(rt; elements.next_id, 4);
+        same(&rt, row, first_wrong(alloc, &mut elements, &[row])?, None);
+        let kept = are(&elements, &[("", 1, 10), ("b", 2, 20), ("", 3, 30)]);
+        holds(&rt, row, kept);
+        same(&rt, row, elements.next_id, 4);
     }
     Ok(())
+}
+
+fn have_no_first(rt: &impl Abort, elements: &mut Elements) {
+    same(rt, "len", elements.len(), 0);
+    holds(rt, "first", elements.first().is_none());
+    let answer = elements.set_first(Value::Bool(true));
+    same(rt, "Bool", answer, Err(BadType));
+    let answer = elements.set_first(Value::Int32(1));
+    same(rt, "Int32", answer, Err(BadIndex));
 }
 
 #[test]
@@ -264,24 +334,30 @@ fn no_elements(rt: HostRuntime) -> Result<(), Fail> {
         (Code::GET, Name(""), Bare, Fault(NameNotFound)),
         (Code::COUNT, Direct, Bare, Numbers(&[0])),
     ];
-    assert_eq!(rt; first_wrong(rt.alloc(), &mut elements, &rows)?, None);
-    assert_eq!(rt; elements.len(), 0);
-    assert!(rt; elements.first().is_none());
-    assert_eq!(rt; elements.set_first(Value::Bool(true)), Err(BadType));
-    assert_eq!(rt; elements.set_first(Value::Int32(1)), Err(BadIndex));
+    are_answered(&rt, rt.alloc(), "elements", &mut elements, &rows)?;
+    have_no_first(&rt, &mut elements);
     Ok(())
+}
+
+fn have_first_10(rt: &impl Abort, elements: &mut Elements) {
+    same(rt, "kind", elements.kind(), Kind::Int32);
+    same(rt, "len", elements.len(), 3);
+    same(rt, "Int8", elements.set_first(Value::Int8(1)), Err(BadType));
+    same(rt, "10", first_number(elements), Some(10));
 }
 
 #[test]
 fn the_first_value(rt: HostRuntime) -> Result<(), Fail> {
     let mut elements = three(rt.alloc())?;
-    assert!(rt; elements.kind() == Kind::Int32);
-    assert_eq!(rt; elements.len(), 3);
-    assert_eq!(rt; elements.set_first(Value::Int8(1)), Err(BadType));
-    assert!(rt; matches!(elements.first(), Some(Value::Int32(10))));
+    have_first_10(&rt, &mut elements);
     elements.set_first(Value::Int32(11))?;
-    assert!(rt; matches!(elements.first(), Some(Value::Int32(11))));
-    assert!(rt; are(&elements, &[("", 1, 11), ("b", 2, 20), ("", 3, 30)]));
+    same(&rt, "11", first_number(&elements), Some(11));
+    consist(
+        &rt,
+        "elements",
+        &elements,
+        &[("", 1, 11), ("b", 2, 20), ("", 3, 30)],
+    );
     Ok(())
 }
 
@@ -293,8 +369,13 @@ fn all_chosen_are_set(rt: HostRuntime) -> Result<(), Fail> {
         (Code::SET, Range(1, 2), Number(5), Nothing),
         (Code::SET, Direct, Number(6), Nothing),
     ];
-    assert_eq!(rt; first_wrong(rt.alloc(), &mut elements, &rows)?, None);
-    assert!(rt; are(&elements, &[("", 1, 6), ("b", 2, 5), ("", 3, 5)]));
+    are_answered(&rt, rt.alloc(), "elements", &mut elements, &rows)?;
+    consist(
+        &rt,
+        "elements",
+        &elements,
+        &[("", 1, 6), ("b", 2, 5), ("", 3, 5)],
+    );
     Ok(())
 }
 
@@ -309,8 +390,8 @@ fn ids_are_not_used_again(rt: HostRuntime) -> Result<(), Fail> {
         (Code::CREATE, Name("e"), Number(8), Numbers(&[5])),
         (Code::DELETE, Id(4), Bare, Fault(BadIndex)),
     ];
-    assert_eq!(rt; first_wrong(rt.alloc(), &mut elements, &rows)?, None);
-    assert!(rt; are(&elements, &[("e", 5, 8)]));
+    are_answered(&rt, rt.alloc(), "elements", &mut elements, &rows)?;
+    consist(&rt, "elements", &elements, &[("e", 5, 8)]);
     Ok(())
 }
 
@@ -323,18 +404,30 @@ fn a_copy_has_the_same_ids(rt: HostRuntime) -> Result<(), Fail> {
         (Code::CREATE, Name("d"), Number(40), Numbers(&[4])),
         (Code::DELETE, Id(4), Bare, Nothing),
     ];
-    assert_eq!(rt; first_wrong(alloc, &mut elements, &rows)?, None);
+    are_answered(&rt, alloc, "elements", &mut elements, &rows)?;
     let mut copy = elements.try_clone()?;
-    assert!(rt; copy.kind() == Kind::Int32);
+    same(&rt, "kind", copy.kind(), Kind::Int32);
     let rows = [
         (Code::GET, Id(1), Bare, Fault(BadIndex)),
         (Code::GET, Id(2), Bare, Numbers(&[20])),
         (Code::GET, Id(3), Bare, Numbers(&[30])),
         (Code::CREATE, Direct, Number(50), Numbers(&[5])),
     ];
-    assert_eq!(rt; first_wrong(alloc, &mut copy, &rows)?, None);
-    assert!(rt; are(&copy, &[("b", 2, 20), ("", 3, 30), ("", 5, 50)]));
-    assert!(rt; are(&elements, &[("b", 2, 20), ("", 3, 30)]));
+    are_answered(&rt, alloc, "copy", &mut copy, &rows)?;
+    consist(
+        &rt,
+        "copy",
+        &copy,
+        &[("b", 2, 20), ("", 3, 30), ("", 5, 50)],
+    );
+    consist(&rt, "elements", &elements, &[("b", 2, 20), ("", 3, 30)]);
+    Ok(())
+}
+
+// Two names, of which the first counts.
+fn add_names(alloc: Global, message: &mut Message) -> Result<(), Fail> {
+    message.add(b"name", Value::Text(Text::from_bytes(alloc, b"n")?))?;
+    message.add(b"name", Value::Text(Text::from_bytes(alloc, b"second")?))?;
     Ok(())
 }
 
@@ -343,38 +436,23 @@ fn names_of_new_elements(rt: HostRuntime) -> Result<(), Fail> {
     let alloc = rt.alloc();
     let mut elements = none_yet(alloc)?;
     let mut message = message(alloc, Number(7))?;
-    for (form, answer) in [(Direct, Numbers(&[1])), (Name("c"), Numbers(&[2]))] {
-        assert!(rt; answers(alloc, &mut elements, Code::CREATE, form, &message, answer)?);
-    }
-    message.add(b"name", Value::Text(Text::from_bytes(alloc, b"n")?))?;
-    message.add(b"name", Value::Text(Text::from_bytes(alloc, b"second")?))?;
-    for (form, answer) in [(Direct, Numbers(&[3])), (Name("d"), Numbers(&[4]))] {
-        assert!(rt; answers(alloc, &mut elements, Code::CREATE, form, &message, answer)?);
-    }
-    assert_eq!(rt; message.remove_name(b"name"), Ok(()));
+    let rows = [(Direct, Numbers(&[1])), (Name("c"), Numbers(&[2]))];
+    are_created(&rt, alloc, &mut elements, &message, &rows)?;
+    add_names(alloc, &mut message)?;
+    let rows = [(Direct, Numbers(&[3])), (Name("d"), Numbers(&[4]))];
+    are_created(&rt, alloc, &mut elements, &message, &rows)?;
+    same(&rt, "remove_name", message.remove_name(b"name"), Ok(()));
     message.add(b"name", Value::Int32(1))?;
-    assert!(rt;
-        answers(
-            alloc,
-            &mut elements,
-            Code::CREATE,
-            Direct,
-            &message,
-            Numbers(&[5])
-        )?
-    );
-    assert!(rt;
-        are(
-            &elements,
-            &[
-                ("", 1, 7),
-                ("c", 2, 7),
-                ("n", 3, 7),
-                ("d", 4, 7),
-                ("", 5, 7)
-            ]
-        )
-    );
+    let rows = [(Direct, Numbers(&[5]))];
+    are_created(&rt, alloc, &mut elements, &message, &rows)?;
+    let rows = [
+        ("", 1, 7),
+        ("c", 2, 7),
+        ("n", 3, 7),
+        ("d", 4, 7),
+        ("", 5, 7),
+    ];
+    consist(&rt, "elements", &elements, &rows);
     Ok(())
 }
 
@@ -390,8 +468,13 @@ fn each_form_sets(rt: HostRuntime) -> Result<(), Fail> {
         (Code::SET, ReverseRange(3, 2), Number(5), Nothing),
         (Code::GET, Range(0, 3), Bare, Numbers(&[5, 5, 4])),
     ];
-    assert_eq!(rt; first_wrong(rt.alloc(), &mut elements, &rows)?, None);
-    assert!(rt; are(&elements, &[("", 1, 5), ("b", 2, 5), ("", 3, 4)]));
+    are_answered(&rt, rt.alloc(), "elements", &mut elements, &rows)?;
+    consist(
+        &rt,
+        "elements",
+        &elements,
+        &[("", 1, 5), ("b", 2, 5), ("", 3, 4)],
+    );
     Ok(())
 }
 
@@ -409,43 +492,36 @@ fn each_form_deletes(rt: HostRuntime) -> Result<(), Fail> {
         (Code::GET, Range(0, 3), Bare, Numbers(&[30, 40, 50])),
         (Code::DELETE, Range(0, 2), Bare, Nothing),
     ];
-    assert_eq!(rt; first_wrong(rt.alloc(), &mut elements, &rows)?, None);
-    assert!(rt; are(&elements, &[("c", 5, 50)]));
+    are_answered(&rt, rt.alloc(), "elements", &mut elements, &rows)?;
+    consist(&rt, "elements", &elements, &[("c", 5, 50)]);
     Ok(())
+}
+
+// As many elements as there may be.
+fn all_that_fit(rt: &impl Abort, alloc: Global) -> Result<Elements, Fail> {
+    let mut elements = none_yet(alloc)?;
+    let number = message(alloc, Number(7))?;
+    for n in 0..ELEMENT_LIMIT {
+        let created = elements
+            .access(Code::CREATE, AtRef::Direct, &number)
+            .is_ok();
+        holds(rt, n, created);
+    }
+    Ok(elements)
 }
 
 #[test]
 fn elements_are_limited(rt: HostRuntime) -> Result<(), Fail> {
-    let alloc = rt.alloc();
-    let mut elements = none_yet(alloc)?;
-    let number = message(alloc, Number(7))?;
-    for _ in 0..ELEMENT_LIMIT {
-        assert!(rt;
-            elements
-                .access(Code::CREATE, AtRef::Direct, &number)
-                .is_ok()
-        );
-    }
-    assert_eq!(rt; elements.len(), 64);
-    for (data, fault) in [
-        (Bare, BadValue),
-        (Words, BadType),
-        (Number(7), ElementLimit),
-    ] {
-        let message = message(alloc, data)?;
-        assert!(rt;
-            answers(
-                alloc,
-                &mut elements,
-                Code::CREATE,
-                Direct,
-                &message,
-                Fault(fault)
-            )?
-        );
-    }
-    assert_eq!(rt; elements.len(), 64);
-    assert_eq!(rt; elements.next_id, 65);
+    let mut elements = all_that_fit(&rt, rt.alloc())?;
+    same(&rt, "len", elements.len(), 64);
+    let rows = [
+        (Code::CREATE, Direct, Bare, Fault(BadValue)),
+        (Code::CREATE, Direct, Words, Fault(BadType)),
+        (Code::CREATE, Direct, Number(7), Fault(ElementLimit)),
+    ];
+    are_answered(&rt, rt.alloc(), "elements", &mut elements, &rows)?;
+    same(&rt, "len then", elements.len(), 64);
+    same(&rt, "next_id", elements.next_id, 65);
     Ok(())
 }
 
@@ -462,11 +538,9 @@ fn ids_are_limited(rt: HostRuntime) -> Result<(), Fail> {
             list: Vec::new(alloc),
             next_id,
         };
-        assert!(rt;
-            answers(alloc, &mut elements, Code::CREATE, Direct, &message, answer)?,
-            "at {next_id}"
-        );
-        assert_eq!(rt; elements.next_id, 2147483647);
+        let answered = answers(alloc, &mut elements, Code::CREATE, Direct, &message, answer)?;
+        holds(&rt, next_id, answered);
+        same(&rt, next_id, elements.next_id, 2147483647);
     }
     Ok(())
 }

@@ -5,6 +5,7 @@ use super::*;
 use crate::action::{Action, ActionList, Dest, Reaction};
 use crate::number::Number;
 use crate::template::{Given, Template, TemplateField, TemplateFields};
+use crate::tests::{holds, same};
 use crate::values::Values;
 use ak_base::Code;
 use ak_message::{Kind, Message, Value};
@@ -58,7 +59,7 @@ pub(crate) fn desk(alloc: Global, preferred: &[u8], rows: Vec<PlanRow>) -> Resul
 }
 
 // Each handler by its name and that of its next one.
-fn linked(alloc: Global, names: &[(&[u8], &[u8])]) -> Result<Vec<PlanRow>, Fail> {
+pub(crate) fn linked(alloc: Global, names: &[(&[u8], &[u8])]) -> Result<Vec<PlanRow>, Fail> {
     let mut rows = Vec::new(alloc);
     for (name, next) in names {
         rows.push(bare_row(alloc, name, next)?)?;
@@ -69,6 +70,21 @@ fn linked(alloc: Global, names: &[(&[u8], &[u8])]) -> Result<Vec<PlanRow>, Fail>
 // What is wrong with a plan of these parts.
 fn fault(alloc: Global, parts: PlanParts) -> Option<PlanFault> {
     LooperPlan::new(alloc, parts).err()
+}
+
+fn fault_of_rows(alloc: Global, rows: Vec<PlanRow>) -> Result<Option<PlanFault>, Fail> {
+    Ok(fault(alloc, desk(alloc, b"", rows)?))
+}
+
+// The same where the looper's port keeps so many messages.
+fn fault_of_port(
+    alloc: Global,
+    rows: Vec<PlanRow>,
+    capacity: u32,
+) -> Result<Option<PlanFault>, Fail> {
+    let mut parts = desk(alloc, b"", rows)?;
+    parts.capacity = capacity;
+    Ok(fault(alloc, parts))
 }
 
 fn fault_of_names(
@@ -101,71 +117,86 @@ fn is_chain_of_three(parts: &PlanParts) -> bool {
             == next)
 }
 
-#[test]
-fn a_plan_has_its_parts(rt: HostRuntime) -> Result<(), Fail> {
-    let alloc = rt.alloc();
+fn parts_of_chain(alloc: Global) -> Result<PlanParts, Fail> {
     let rows = linked(
         alloc,
         &[(b"desk", b""), (b"a", b"b"), (b"b", b"c"), (b"c", b"")],
     )?;
-    let plan = LooperPlan::new(alloc, desk(alloc, b"b", rows)?).expect(&rt, "a plan");
-    assert!(rt; is_chain_of_three(plan.parts()));
-    assert!(rt; is_chain_of_three(plan.try_clone()?.parts()));
-    assert!(rt; is_chain_of_three(&plan.into_parts()));
+    desk(alloc, b"b", rows)
+}
+
+fn is_copied_as_chain(plan: &LooperPlan) -> Result<bool, Fail> {
+    Ok(is_chain_of_three(plan.try_clone()?.parts()))
+}
+
+#[test]
+fn a_plan_has_its_parts(rt: HostRuntime) -> Result<(), Fail> {
+    let alloc = rt.alloc();
+    let plan = LooperPlan::new(alloc, parts_of_chain(alloc)?).expect(&rt, "a plan");
+    holds(&rt, "the plan", is_chain_of_three(plan.parts()));
+    holds(&rt, "its copy", is_copied_as_chain(&plan)?);
+    holds(
+        &rt,
+        "what it is made into",
+        is_chain_of_three(&plan.into_parts()),
+    );
     plans_are_whole();
     Ok(())
 }
 
 // ---- names and chains
+// Handlers by their names and those of their next ones.
+type Names = &'static [(&'static [u8], &'static [u8])];
+
+static CHAINS: [(Names, Option<PlanFault>); 18] = [
+    (&[(b"desk", b"")], None),
+    (&[], Some(PlanFault::BadLooper)),
+    (&[(b"other", b"")], Some(PlanFault::BadLooper)),
+    (&[(b"desk", b"desk")], Some(PlanFault::BadLooper)),
+    (&[(b"a", b""), (b"desk", b"")], Some(PlanFault::BadLooper)),
+    (
+        &[(b"desk", b""), (b"a", b"b"), (b"b", b"c"), (b"c", b"")],
+        None,
+    ),
+    (
+        &[(b"desk", b""), (b"a", b""), (b"b", b"a"), (b"c", b"b")],
+        None,
+    ),
+    (&[(b"desk", b""), (b"a", b"desk")], None),
+    (&[(b"desk", b""), (b"a", b"a")], Some(PlanFault::ChainLoop)),
+    (
+        &[(b"desk", b""), (b"a", b"b"), (b"b", b"a")],
+        Some(PlanFault::ChainLoop),
+    ),
+    (
+        &[(b"desk", b""), (b"a", b"b"), (b"b", b"c"), (b"c", b"b")],
+        Some(PlanFault::ChainLoop),
+    ),
+    (
+        &[(b"desk", b""), (b"a", b"c")],
+        Some(PlanFault::UnknownName),
+    ),
+    (
+        &[(b"desk", b""), (b"a", b"A")],
+        Some(PlanFault::UnknownName),
+    ),
+    (
+        &[(b"desk", b""), (b"a", b""), (b"a", b"")],
+        Some(PlanFault::NameInUse),
+    ),
+    (
+        &[(b"desk", b""), (b"desk", b"")],
+        Some(PlanFault::NameInUse),
+    ),
+    (&[(b"desk", b""), (b"a b", b"")], Some(PlanFault::BadName)),
+    (&[(b"desk", b""), (b"", b"")], Some(PlanFault::BadName)),
+    (&[(b"desk", b""), (b"a", b""), (b"A", b"a")], None),
+];
+
 #[test]
 fn names_of_next_handlers_lead_to_the_looper(rt: HostRuntime) -> Result<(), Fail> {
-    let alloc = rt.alloc();
-    let rows: [(&[(&[u8], &[u8])], Option<PlanFault>); 18] = [
-        (&[(b"desk", b"")], None),
-        (&[], Some(PlanFault::BadLooper)),
-        (&[(b"other", b"")], Some(PlanFault::BadLooper)),
-        (&[(b"desk", b"desk")], Some(PlanFault::BadLooper)),
-        (&[(b"a", b""), (b"desk", b"")], Some(PlanFault::BadLooper)),
-        (
-            &[(b"desk", b""), (b"a", b"b"), (b"b", b"c"), (b"c", b"")],
-            None,
-        ),
-        (
-            &[(b"desk", b""), (b"a", b""), (b"b", b"a"), (b"c", b"b")],
-            None,
-        ),
-        (&[(b"desk", b""), (b"a", b"desk")], None),
-        (&[(b"desk", b""), (b"a", b"a")], Some(PlanFault::ChainLoop)),
-        (
-            &[(b"desk", b""), (b"a", b"b"), (b"b", b"a")],
-            Some(PlanFault::ChainLoop),
-        ),
-        (
-            &[(b"desk", b""), (b"a", b"b"), (b"b", b"c"), (b"c", b"b")],
-            Some(PlanFault::ChainLoop),
-        ),
-        (
-            &[(b"desk", b""), (b"a", b"c")],
-            Some(PlanFault::UnknownName),
-        ),
-        (
-            &[(b"desk", b""), (b"a", b"A")],
-            Some(PlanFault::UnknownName),
-        ),
-        (
-            &[(b"desk", b""), (b"a", b""), (b"a", b"")],
-            Some(PlanFault::NameInUse),
-        ),
-        (
-            &[(b"desk", b""), (b"desk", b"")],
-            Some(PlanFault::NameInUse),
-        ),
-        (&[(b"desk", b""), (b"a b", b"")], Some(PlanFault::BadName)),
-        (&[(b"desk", b""), (b"", b"")], Some(PlanFault::BadName)),
-        (&[(b"desk", b""), (b"a", b""), (b"A", b"a")], None),
-    ];
-    for (names, wanted) in rows {
-        assert_eq!(rt; fault_of_names(alloc, b"", names)?, wanted);
+    for &(names, wanted) in &CHAINS {
+        assert_eq!(rt; fault_of_names(rt.alloc(), b"", names)?, wanted);
     }
     Ok(())
 }
@@ -186,38 +217,43 @@ fn the_preferred_one_is_a_handler(rt: HostRuntime) -> Result<(), Fail> {
     Ok(())
 }
 
+// The preferred one, the names, and what is told of all that is wrong.
+static BEFORE_CHAINS: [(&[u8], Names, PlanFault); 4] = [
+    (
+        b"",
+        &[(b"desk", b""), (b"a b", b""), (b"a b", b"")],
+        PlanFault::BadName,
+    ),
+    (
+        b"",
+        &[(b"desk", b""), (b"a", b"x"), (b"a", b"")],
+        PlanFault::NameInUse,
+    ),
+    (
+        b"",
+        &[(b"desk", b""), (b"a", b"a"), (b"b", b"x")],
+        PlanFault::UnknownName,
+    ),
+    (
+        b"x",
+        &[(b"desk", b""), (b"a", b"a")],
+        PlanFault::UnknownName,
+    ),
+];
+
 #[test]
 fn names_are_tested_before_chains(rt: HostRuntime) -> Result<(), Fail> {
-    let alloc = rt.alloc();
-    let rows: [(&[u8], &[(&[u8], &[u8])], PlanFault); 4] = [
-        (
-            b"",
-            &[(b"desk", b""), (b"a b", b""), (b"a b", b"")],
-            PlanFault::BadName,
-        ),
-        (
-            b"",
-            &[(b"desk", b""), (b"a", b"x"), (b"a", b"")],
-            PlanFault::NameInUse,
-        ),
-        (
-            b"",
-            &[(b"desk", b""), (b"a", b"a"), (b"b", b"x")],
-            PlanFault::UnknownName,
-        ),
-        (
-            b"x",
-            &[(b"desk", b""), (b"a", b"a")],
-            PlanFault::UnknownName,
-        ),
-    ];
-    for (preferred, names, wanted) in rows {
-        assert_eq!(rt; fault_of_names(alloc, preferred, names)?, Some(wanted));
+    for &(preferred, names, wanted) in &BEFORE_CHAINS {
+        assert_eq!(rt; fault_of_names(rt.alloc(), preferred, names)?, Some(wanted));
     }
     Ok(())
 }
 
 // ---- limits
+fn fault_of_capacity(alloc: Global, capacity: u32) -> Result<Option<PlanFault>, Fail> {
+    fault_of_port(alloc, linked(alloc, &[(b"desk", b"")])?, capacity)
+}
+
 #[test]
 fn a_port_keeps_from_1_to_1000_messages(rt: HostRuntime) -> Result<(), Fail> {
     let alloc = rt.alloc();
@@ -229,9 +265,7 @@ fn a_port_keeps_from_1_to_1000_messages(rt: HostRuntime) -> Result<(), Fail> {
         (u32::MAX, Some(PlanFault::BadCapacity)),
     ];
     for (capacity, wanted) in rows {
-        let mut parts = desk(alloc, b"", linked(alloc, &[(b"desk", b"")])?)?;
-        parts.capacity = capacity;
-        assert_eq!(rt; fault(alloc, parts), wanted);
+        assert_eq!(rt; fault_of_capacity(alloc, capacity)?, wanted);
     }
     Ok(())
 }
@@ -245,28 +279,44 @@ fn crowd(alloc: Global, count: u8) -> Result<Vec<PlanRow>, Fail> {
     Ok(rows)
 }
 
+fn fault_of_crowd(alloc: Global, count: u8) -> Result<Option<PlanFault>, Fail> {
+    fault_of_rows(alloc, crowd(alloc, count)?)
+}
+
+fn fault_of_crowd_without_room(alloc: Global) -> Result<Option<PlanFault>, Fail> {
+    fault_of_port(alloc, crowd(alloc, 65)?, 0)
+}
+
+fn fault_of_no_looper_without_room(alloc: Global) -> Result<Option<PlanFault>, Fail> {
+    fault_of_port(alloc, linked(alloc, &[(b"a", b"")])?, 0)
+}
+
+fn fault_of_crowd_and_name(alloc: Global) -> Result<Option<PlanFault>, Fail> {
+    let mut rows = crowd(alloc, 64)?;
+    rows.push(bare_row(alloc, b"a b", b"")?)?;
+    fault_of_rows(alloc, rows)
+}
+
 #[test]
 fn a_looper_has_up_to_64_handlers(rt: HostRuntime) -> Result<(), Fail> {
     let alloc = rt.alloc();
-    for (count, wanted) in [(64, None), (65, Some(PlanFault::HandlerLimit))] {
-        assert_eq!(rt;
-            fault(alloc, desk(alloc, b"", crowd(alloc, count)?)?),
-            wanted
-        );
-    }
+    let limit = Some(PlanFault::HandlerLimit);
+    same(&rt, "64", fault_of_crowd(alloc, 64)?, None);
+    same(&rt, "65", fault_of_crowd(alloc, 65)?, limit);
     // The looper is tested before the capacity, this before how many handlers there are, and that before names.
-    let mut parts = desk(alloc, b"", crowd(alloc, 65)?)?;
-    parts.capacity = 0;
-    assert_eq!(rt; fault(alloc, parts), Some(PlanFault::BadCapacity));
-    let mut parts = desk(alloc, b"", linked(alloc, &[(b"a", b"")])?)?;
-    parts.capacity = 0;
-    assert_eq!(rt; fault(alloc, parts), Some(PlanFault::BadLooper));
-    let mut rows = crowd(alloc, 64)?;
-    rows.push(bare_row(alloc, b"a b", b"")?)?;
-    assert_eq!(rt;
-        fault(alloc, desk(alloc, b"", rows)?),
-        Some(PlanFault::HandlerLimit)
+    same(
+        &rt,
+        "65 without room",
+        fault_of_crowd_without_room(alloc)?,
+        Some(PlanFault::BadCapacity),
     );
+    same(
+        &rt,
+        "no looper",
+        fault_of_no_looper_without_room(alloc)?,
+        Some(PlanFault::BadLooper),
+    );
+    same(&rt, "65 and a name", fault_of_crowd_and_name(alloc)?, limit);
     Ok(())
 }
 
@@ -278,15 +328,24 @@ fn suites(alloc: Global, count: u8) -> Result<Items<Text>, Fail> {
     Ok(Items::from_vec(suites))
 }
 
+// These handlers, and then a handler `a` with so many suites.
+fn with_suites(alloc: Global, count: u8, names: &[(&[u8], &[u8])]) -> Result<Vec<PlanRow>, Fail> {
+    let mut row = bare_row(alloc, b"a", b"")?;
+    row.suites = suites(alloc, count)?;
+    let mut rows = linked(alloc, names)?;
+    rows.push(row)?;
+    Ok(rows)
+}
+
+fn fault_of_suites(alloc: Global, count: u8) -> Result<Option<PlanFault>, Fail> {
+    fault_of_rows(alloc, with_suites(alloc, count, &[(b"desk", b"")])?)
+}
+
 #[test]
 fn a_handler_has_up_to_16_suites(rt: HostRuntime) -> Result<(), Fail> {
     let alloc = rt.alloc();
     for (count, wanted) in [(16, None), (17, Some(PlanFault::SuiteLimit))] {
-        let mut row = bare_row(alloc, b"a", b"")?;
-        row.suites = suites(alloc, count)?;
-        let mut rows = linked(alloc, &[(b"desk", b"")])?;
-        rows.push(row)?;
-        assert_eq!(rt; fault(alloc, desk(alloc, b"", rows)?), wanted);
+        assert_eq!(rt; fault_of_suites(alloc, count)?, wanted);
     }
     Ok(())
 }
@@ -303,6 +362,14 @@ fn add_property(alloc: Global, row: &mut PlanRow, name: &[u8], kind: Kind) -> Re
     Ok(())
 }
 
+fn elements(alloc: Global, kinds: &[Kind]) -> Result<ElementsList, Fail> {
+    let mut elements = Vec::new(alloc);
+    for kind in kinds {
+        elements.push(Elements::new(alloc, *kind, Vec::new(alloc))?)?;
+    }
+    Ok(ElementsList::from_vec(elements))
+}
+
 // A handler `a` with properties of these names and kinds, and elements of those kinds.
 fn with_table(
     alloc: Global,
@@ -313,11 +380,7 @@ fn with_table(
     for (name, kind) in properties {
         add_property(alloc, &mut row, name, *kind)?;
     }
-    let mut elements = Vec::new(alloc);
-    for kind in kinds {
-        elements.push(Elements::new(alloc, *kind, Vec::new(alloc))?)?;
-    }
-    row.elements = ElementsList::from_vec(elements);
+    row.elements = elements(alloc, kinds)?;
     Ok(row)
 }
 
@@ -327,189 +390,273 @@ fn fault_of_row(alloc: Global, row: PlanRow) -> Result<Option<PlanFault>, Fail> 
     Ok(fault(alloc, desk(alloc, b"", rows)?))
 }
 
+// Properties in plain data.
+type Properties = &'static [(&'static [u8], Kind)];
+
+const TWO: Properties = &[(b"Count", Kind::Int32), (b"Title", Kind::Text)];
+
+const TWICE: Properties = &[
+    (b"Count", Kind::Int32),
+    (b"Title", Kind::Text),
+    (b"Count", Kind::Int32),
+];
+
+const MESSAGES: Properties = &[(b"Last", Kind::Message)];
+
+const BAD: Option<PlanFault> = Some(PlanFault::BadTable);
+
+static TABLES: [(Properties, &[Kind], Option<PlanFault>); 9] = [
+    (&[], &[], None),
+    (TWO, &[Kind::Int32, Kind::Text], None),
+    (TWO, &[Kind::Int32], BAD),
+    (TWO, &[], BAD),
+    (TWO, &[Kind::Int32, Kind::Text, Kind::Text], BAD),
+    (TWO, &[Kind::Text, Kind::Int32], BAD),
+    (TWO, &[Kind::Int32, Kind::Raw], BAD),
+    (TWICE, &[Kind::Int32, Kind::Text, Kind::Int32], BAD),
+    (MESSAGES, &[Kind::Message], BAD),
+];
+
+fn fault_of_table(
+    alloc: Global,
+    properties: &[(&[u8], Kind)],
+    kinds: &[Kind],
+) -> Result<Option<PlanFault>, Fail> {
+    fault_of_row(alloc, with_table(alloc, properties, kinds)?)
+}
+
 #[test]
 fn each_property_has_its_elements(rt: HostRuntime) -> Result<(), Fail> {
-    let alloc = rt.alloc();
-    let two: [(&[u8], Kind); 2] = [(b"Count", Kind::Int32), (b"Title", Kind::Text)];
-    let twice: [(&[u8], Kind); 3] = [
-        (b"Count", Kind::Int32),
-        (b"Title", Kind::Text),
-        (b"Count", Kind::Int32),
-    ];
-    let messages: [(&[u8], Kind); 1] = [(b"Last", Kind::Message)];
-    let bad = Some(PlanFault::BadTable);
-    let rows: [(&[(&[u8], Kind)], &[Kind], Option<PlanFault>); 9] = [
-        (&[], &[], None),
-        (&two, &[Kind::Int32, Kind::Text], None),
-        (&two, &[Kind::Int32], bad),
-        (&two, &[], bad),
-        (&two, &[Kind::Int32, Kind::Text, Kind::Text], bad),
-        (&two, &[Kind::Text, Kind::Int32], bad),
-        (&two, &[Kind::Int32, Kind::Raw], bad),
-        (&twice, &[Kind::Int32, Kind::Text, Kind::Int32], bad),
-        (&messages, &[Kind::Message], bad),
-    ];
-    for (properties, kinds, wanted) in rows {
-        assert_eq!(rt;
-            fault_of_row(alloc, with_table(alloc, properties, kinds)?)?,
-            wanted
-        );
+    for &(properties, kinds, wanted) in &TABLES {
+        assert_eq!(rt; fault_of_table(rt.alloc(), properties, kinds)?, wanted);
     }
     Ok(())
 }
 
 // ---- actions
-fn with_action(alloc: Global, action: Action) -> Result<PlanRow, Fail> {
-    let properties: [(&[u8], Kind); 2] = [(b"Count", Kind::Int32), (b"Title", Kind::Text)];
-    let mut row = with_table(alloc, &properties, &[Kind::Int32, Kind::Text])?;
-    let mut actions = ActionList::new(alloc);
-    actions.push(Action::Stop)?;
-    actions.push(action)?;
-    row.reactions.push(Reaction {
-        what: Code(7),
-        actions,
-    })?;
-    Ok(row)
+// What a field of a message or a property is given: one number or several, a field, or a property's value.
+#[derive(Clone, Copy)]
+enum Put {
+    One,
+    Several,
+    Field(&'static [u8]),
+    Property(&'static [u8]),
 }
 
-fn field(alloc: Global, given: Given) -> Result<TemplateField, Fail> {
-    Ok(TemplateField {
-        name: text(alloc, b"data")?,
-        given,
+// Where an action sends.
+#[derive(Clone, Copy)]
+enum To {
+    Own,
+    Handler(&'static [u8]),
+    Looper,
+    App,
+}
+
+// An action in plain data. A message has one field, which is given that.
+#[derive(Clone, Copy)]
+enum Do {
+    Reply(Put),
+    Post(To, Put, bool),
+    Ask(To, Put, Option<&'static [u8]>),
+    Set(&'static [u8], Put),
+    Add(&'static [u8], Number),
+    Quit,
+}
+
+fn several(alloc: Global) -> Result<Values, Fail> {
+    let mut values = Values::one(alloc, Value::Int32(1))?;
+    values.push(Value::Int32(2))?;
+    Ok(values)
+}
+
+fn given(alloc: Global, put: Put) -> Result<Given, Fail> {
+    Ok(match put {
+        Put::One => Given::Values(Values::one(alloc, Value::Int32(1))?),
+        Put::Several => Given::Values(several(alloc)?),
+        Put::Field(name) => Given::Field(text(alloc, name)?),
+        Put::Property(name) => Given::Property(text(alloc, name)?),
     })
 }
 
-// A message with one field.
-fn message(alloc: Global, given: Given) -> Result<Template, Fail> {
+fn dest(alloc: Global, to: To) -> Result<Dest, Fail> {
+    Ok(match to {
+        To::Own => Dest::Own,
+        To::Handler(name) => Dest::Handler(text(alloc, name)?),
+        To::Looper => Dest::Looper(text(alloc, b"list")?),
+        To::App => Dest::App(ak_base::AppWord::Path(text(alloc, b"demo")?)),
+    })
+}
+
+fn field(alloc: Global, put: Put) -> Result<TemplateField, Fail> {
+    Ok(TemplateField {
+        name: text(alloc, b"data")?,
+        given: given(alloc, put)?,
+    })
+}
+
+fn message(alloc: Global, put: Put) -> Result<Template, Fail> {
     let mut fields = TemplateFields::new(alloc);
-    fields.add(field(alloc, given)?)?;
+    fields.add(field(alloc, put)?)?;
     Ok(Template {
         what: Code(1),
         fields,
     })
 }
 
-// A message with the property's value.
-fn told(alloc: Global, name: &[u8]) -> Result<Template, Fail> {
-    message(alloc, Given::Property(text(alloc, name)?))
-}
-
-fn one(alloc: Global) -> Result<Given, Fail> {
-    Ok(Given::Values(Values::one(alloc, Value::Int32(1))?))
-}
-
-fn several(alloc: Global) -> Result<Given, Fail> {
-    let mut values = Values::one(alloc, Value::Int32(1))?;
-    values.push(Value::Int32(2))?;
-    Ok(Given::Values(values))
-}
-
-fn set(alloc: Global, name: &[u8], value: Given) -> Result<Action, Fail> {
-    Ok(Action::Set {
-        property: text(alloc, name)?,
-        value,
+fn posting(alloc: Global, to: To, put: Put, back: bool) -> Result<Action, Fail> {
+    Ok(Action::Post {
+        to: dest(alloc, to)?,
+        message: message(alloc, put)?,
+        back,
     })
 }
 
-fn add(alloc: Global, name: &[u8], amount: Number) -> Result<Action, Fail> {
+fn asking(alloc: Global, to: To, put: Put, into: Option<&[u8]>) -> Result<Action, Fail> {
+    Ok(Action::Ask {
+        to: dest(alloc, to)?,
+        message: message(alloc, put)?,
+        into: text_or_none(alloc, into.unwrap_or(b"".as_slice()))?,
+    })
+}
+
+fn setting(alloc: Global, name: &[u8], put: Put) -> Result<Action, Fail> {
+    Ok(Action::Set {
+        property: text(alloc, name)?,
+        value: given(alloc, put)?,
+    })
+}
+
+fn adding(alloc: Global, name: &[u8], amount: Number) -> Result<Action, Fail> {
     Ok(Action::Add {
         property: text(alloc, name)?,
         amount,
     })
 }
 
-fn ask(to: Dest, message: Template, into: Option<Text>) -> Action {
-    Action::Ask { to, message, into }
+fn action(alloc: Global, what: Do) -> Result<Action, Fail> {
+    match what {
+        Do::Reply(put) => Ok(Action::Reply {
+            message: message(alloc, put)?,
+        }),
+        Do::Post(to, put, back) => posting(alloc, to, put, back),
+        Do::Ask(to, put, into) => asking(alloc, to, put, into),
+        Do::Set(name, put) => setting(alloc, name, put),
+        Do::Add(name, amount) => adding(alloc, name, amount),
+        Do::Quit => Ok(Action::Quit),
+    }
+}
+
+fn action_list(alloc: Global, what: Do) -> Result<ActionList, Fail> {
+    let mut actions = ActionList::new(alloc);
+    actions.push(Action::Stop)?;
+    actions.push(action(alloc, what)?)?;
+    Ok(actions)
+}
+
+fn with_action(alloc: Global, what: Do) -> Result<PlanRow, Fail> {
+    let mut row = with_table(alloc, TWO, &[Kind::Int32, Kind::Text])?;
+    row.reactions.push(Reaction {
+        what: Code(7),
+        actions: action_list(alloc, what)?,
+    })?;
+    Ok(row)
+}
+
+fn fault_of_action(alloc: Global, what: Do) -> Result<Option<PlanFault>, Fail> {
+    fault_of_row(alloc, with_action(alloc, what)?)
 }
 
 // What can be done.
-fn good_actions(alloc: Global) -> Result<Vec<Action>, Fail> {
-    let mut list = Vec::new(alloc);
-    list.push(Action::Reply {
-        message: told(alloc, b"Title")?,
-    })?;
-    list.push(Action::Reply {
-        message: message(alloc, several(alloc)?)?,
-    })?;
-    list.push(Action::Post {
-        to: Dest::Own,
-        message: told(alloc, b"Count")?,
-        back: false,
-    })?;
-    list.push(Action::Post {
-        to: Dest::Handler(text(alloc, b"none of them")?),
-        message: message(alloc, Given::Field(text(alloc, b"Other")?))?,
-        back: true,
-    })?;
-    let looper = Dest::Looper(text(alloc, b"list")?);
-    list.push(ask(looper, told(alloc, b"Title")?, Some(text(alloc, b"Count")?)))?;
-    let app = Dest::App(ak_base::AppWord::Path(text(alloc, b"demo")?));
-    list.push(ask(app, told(alloc, b"Count")?, None))?;
-    list.push(set(alloc, b"Count", one(alloc)?)?)?;
-    list.push(set(alloc, b"Title", Given::Field(text(alloc, b"Other")?))?)?;
-    list.push(set(alloc, b"Title", Given::Property(text(alloc, b"Count")?))?)?;
-    list.push(add(alloc, b"Count", Number::Int32(-1))?)?;
-    list.push(Action::Quit)?;
-    Ok(list)
-}
+static GOOD_ACTIONS: [Do; 11] = [
+    Do::Reply(Put::Property(b"Title")),
+    Do::Reply(Put::Several),
+    Do::Post(To::Own, Put::Property(b"Count"), false),
+    Do::Post(To::Handler(b"none of them"), Put::Field(b"Other"), true),
+    Do::Ask(To::Looper, Put::Property(b"Title"), Some(b"Count")),
+    Do::Ask(To::App, Put::Property(b"Count"), None),
+    Do::Set(b"Count", Put::One),
+    Do::Set(b"Title", Put::Field(b"Other")),
+    Do::Set(b"Title", Put::Property(b"Count")),
+    Do::Add(b"Count", Number::Int32(-1)),
+    Do::Quit,
+];
 
 // Each has one thing wrong.
-fn bad_actions(alloc: Global) -> Result<Vec<Action>, Fail> {
-    let mut list = Vec::new(alloc);
-    list.push(Action::Reply {
-        message: told(alloc, b"Other")?,
-    })?;
-    list.push(Action::Post {
-        to: Dest::Own,
-        message: told(alloc, b"count")?,
-        back: false,
-    })?;
-    let looper = Dest::Looper(text(alloc, b"list")?);
-    list.push(ask(looper, told(alloc, b"Other")?, None))?;
-    let looper = Dest::Looper(text(alloc, b"list")?);
-    list.push(ask(looper, told(alloc, b"Title")?, Some(text(alloc, b"Other")?)))?;
-    let handler = Dest::Handler(text(alloc, b"b")?);
-    list.push(ask(handler, told(alloc, b"Title")?, None))?;
-    list.push(ask(Dest::Own, told(alloc, b"Title")?, None))?;
-    list.push(set(alloc, b"Other", one(alloc)?)?)?;
-    list.push(set(alloc, b"Count", Given::Property(text(alloc, b"Other")?))?)?;
-    list.push(set(alloc, b"Count", several(alloc)?)?)?;
-    list.push(add(alloc, b"Other", Number::Int32(1))?)?;
-    list.push(add(alloc, b"Count", Number::Int64(1))?)?;
-    list.push(add(alloc, b"Title", Number::Int32(1))?)?;
-    Ok(list)
-}
+static BAD_ACTIONS: [Do; 12] = [
+    Do::Reply(Put::Property(b"Other")),
+    Do::Post(To::Own, Put::Property(b"count"), false),
+    Do::Ask(To::Looper, Put::Property(b"Other"), None),
+    Do::Ask(To::Looper, Put::Property(b"Title"), Some(b"Other")),
+    Do::Ask(To::Handler(b"b"), Put::Property(b"Title"), None),
+    Do::Ask(To::Own, Put::Property(b"Title"), None),
+    Do::Set(b"Other", Put::One),
+    Do::Set(b"Count", Put::Property(b"Other")),
+    Do::Set(b"Count", Put::Several),
+    Do::Add(b"Other", Number::Int32(1)),
+    Do::Add(b"Count", Number::Int64(1)),
+    Do::Add(b"Title", Number::Int32(1)),
+];
 
 #[test]
 fn actions_name_properties_of_their_handler(rt: HostRuntime) -> Result<(), Fail> {
-    let alloc = rt.alloc();
-    for action in good_actions(alloc)? {
-        assert_eq!(rt; fault_of_row(alloc, with_action(alloc, action)?)?, None);
+    for what in &GOOD_ACTIONS {
+        assert_eq!(rt; fault_of_action(rt.alloc(), *what)?, None);
     }
-    for action in bad_actions(alloc)? {
-        let row = with_action(alloc, action)?;
-        assert_eq!(rt; fault_of_row(alloc, row)?, Some(PlanFault::BadAction));
+    for what in &BAD_ACTIONS {
+        assert_eq!(rt;
+            fault_of_action(rt.alloc(), *what)?,
+            Some(PlanFault::BadAction)
+        );
     }
     Ok(())
+}
+
+// ---- what is tested first
+// A handler without elements of its properties, which has that action.
+fn without_elements(alloc: Global, what: Do) -> Result<PlanRow, Fail> {
+    let mut row = with_action(alloc, what)?;
+    row.elements = ElementsList::from_vec(Vec::new(alloc));
+    Ok(row)
+}
+
+fn fault_of_suites_and_table(alloc: Global) -> Result<Option<PlanFault>, Fail> {
+    let mut row = without_elements(alloc, Do::Quit)?;
+    row.suites = suites(alloc, 17)?;
+    fault_of_row(alloc, row)
+}
+
+fn fault_of_table_and_action(alloc: Global) -> Result<Option<PlanFault>, Fail> {
+    let what = Do::Add(b"Other", Number::Int32(1));
+    fault_of_row(alloc, without_elements(alloc, what)?)
+}
+
+fn fault_of_chain_and_suites(alloc: Global) -> Result<Option<PlanFault>, Fail> {
+    fault_of_rows(
+        alloc,
+        with_suites(alloc, 17, &[(b"desk", b""), (b"b", b"b")])?,
+    )
 }
 
 #[test]
 fn suites_are_tested_before_tables_and_these_before_actions(rt: HostRuntime) -> Result<(), Fail> {
     let alloc = rt.alloc();
-    let mut row = with_action(alloc, Action::Quit)?;
-    row.elements = ElementsList::from_vec(Vec::new(alloc));
-    row.suites = suites(alloc, 17)?;
-    assert_eq!(rt; fault_of_row(alloc, row)?, Some(PlanFault::SuiteLimit));
-    let mut row = with_action(alloc, add(alloc, b"Other", Number::Int32(1))?)?;
-    row.elements = ElementsList::from_vec(Vec::new(alloc));
-    assert_eq!(rt; fault_of_row(alloc, row)?, Some(PlanFault::BadTable));
-    let mut rows = linked(alloc, &[(b"desk", b""), (b"b", b"b")])?;
-    let mut row = bare_row(alloc, b"a", b"")?;
-    row.suites = suites(alloc, 17)?;
-    rows.push(row)?;
-    assert_eq!(rt;
-        fault(alloc, desk(alloc, b"", rows)?),
-        Some(PlanFault::ChainLoop)
+    same(
+        &rt,
+        "suites",
+        fault_of_suites_and_table(alloc)?,
+        Some(PlanFault::SuiteLimit),
+    );
+    same(
+        &rt,
+        "tables",
+        fault_of_table_and_action(alloc)?,
+        Some(PlanFault::BadTable),
+    );
+    same(
+        &rt,
+        "chains",
+        fault_of_chain_and_suites(alloc)?,
+        Some(PlanFault::ChainLoop),
     );
     Ok(())
 }

@@ -1,4 +1,4 @@
-ghost use Rattle.std.specs.Prelude.{◌≡◌, IsTrue, List, Option, ℕ};
+ghost use Rattle.std.specs.Prelude.{◌≡◌, ◌≤◌, length, IfOk, IsTrue, List, Option, ℕ};
 ghost use Rattle.ak_flatten.specs.Laws.{Spells};
 ghost use Rattle.ak_message.specs.Message.{MessageData};
 ghost use Rattle.ak_action.specs.Interp.{AnswersFind, AnswersSend, AnswersStage, MayGoOnFrom};
@@ -123,7 +123,7 @@ fn dest(alloc: Global, to: To) -> Result<Dest, Fail> {
     })
 }
 
-fn given(alloc: Global, put: Put) -> Result<Given, Fail> {
+pub(super) fn given(alloc: Global, put: Put) -> Result<Given, Fail> {
     Ok(match put {
         Put::Number(n) => Given::Values(Values::one(alloc, Value::Int32(n))?),
         Put::Words => Given::Values(Values::one(alloc, Value::Text(text(alloc, b"w")?))?),
@@ -132,35 +132,51 @@ fn given(alloc: Global, put: Put) -> Result<Given, Fail> {
     })
 }
 
+fn posting(alloc: Global, to: To, back: bool) -> Result<Action, Fail> {
+    Ok(Action::Post {
+        to: dest(alloc, to)?,
+        message: template(alloc, 1),
+        back,
+    })
+}
+
+fn text_or_none(alloc: Global, name: Option<&[u8]>) -> Result<Option<Text>, Fail> {
+    match name {
+        Some(name) => Ok(Some(text(alloc, name)?)),
+        None => Ok(None),
+    }
+}
+
+fn asking(alloc: Global, to: To, into: Option<&[u8]>) -> Result<Action, Fail> {
+    Ok(Action::Ask {
+        to: dest(alloc, to)?,
+        message: template(alloc, 1),
+        into: text_or_none(alloc, into)?,
+    })
+}
+
+fn setting(alloc: Global, name: &[u8], put: Put) -> Result<Action, Fail> {
+    Ok(Action::Set {
+        property: text(alloc, name)?,
+        value: given(alloc, put)?,
+    })
+}
+
 fn action(alloc: Global, what: Do) -> Result<Action, Fail> {
-    Ok(match what {
-        Do::Reply(code) => Action::Reply {
+    match what {
+        Do::Reply(code) => Ok(Action::Reply {
             message: template(alloc, code),
-        },
-        Do::Post(to, back) => Action::Post {
-            to: dest(alloc, to)?,
-            message: template(alloc, 1),
-            back,
-        },
-        Do::Ask(to, into) => Action::Ask {
-            to: dest(alloc, to)?,
-            message: template(alloc, 1),
-            into: match into {
-                Some(name) => Some(text(alloc, name)?),
-                None => None,
-            },
-        },
-        Do::Set(name, put) => Action::Set {
-            property: text(alloc, name)?,
-            value: given(alloc, put)?,
-        },
-        Do::Add(name, amount) => Action::Add {
+        }),
+        Do::Post(to, back) => posting(alloc, to, back),
+        Do::Ask(to, into) => asking(alloc, to, into),
+        Do::Set(name, put) => setting(alloc, name, put),
+        Do::Add(name, amount) => Ok(Action::Add {
             property: text(alloc, name)?,
             amount,
-        },
-        Do::Drop => Action::Stop,
-        Do::Quit => Action::Quit,
-    })
+        }),
+        Do::Drop => Ok(Action::Stop),
+        Do::Quit => Ok(Action::Quit),
+    }
 }
 
 pub(super) fn actions(alloc: Global, list: &[Do]) -> Result<ActionList, Fail> {
@@ -189,49 +205,72 @@ fn alone(alloc: Global, value: Value) -> Result<Elements, Fail> {
     Ok(Elements::new(alloc, kind, list)?)
 }
 
-// Holds `count` with that value, `title` with the words `t`, and `none` of whole numbers without an
-// element; and that one reaction.
-fn holding(alloc: Global, count: Value, actions: ActionList) -> Result<DeskRow, Fail> {
+fn table(alloc: Global, kind: Kind) -> Result<PropertyTable, Fail> {
     let mut table = PropertyTable::new(alloc);
-    table.add_row(property(alloc, b"count", count.kind())?)?;
+    table.add_row(property(alloc, b"count", kind)?)?;
     table.add_row(property(alloc, b"title", Kind::Text)?)?;
     table.add_row(property(alloc, b"none", Kind::Int32)?)?;
+    Ok(table)
+}
+
+fn title(alloc: Global) -> Result<Elements, Fail> {
+    alone(alloc, Value::Text(text(alloc, b"t")?))
+}
+
+fn elements(alloc: Global, count: Value) -> Result<ElementsList, Fail> {
     let mut elements = Vec::new(alloc);
     elements.push(alone(alloc, count)?)?;
-    elements.push(alone(alloc, Value::Text(text(alloc, b"t")?))?)?;
+    elements.push(title(alloc)?)?;
     elements.push(Elements::new(alloc, Kind::Int32, Vec::new(alloc))?)?;
+    Ok(ElementsList::from_vec(elements))
+}
+
+fn reactions(alloc: Global, actions: ActionList) -> Result<ReactionList, Fail> {
     let mut reactions = ReactionList::new(alloc);
     reactions.push(Reaction {
         what: Code(7),
         actions,
     })?;
+    Ok(reactions)
+}
+
+// Holds `count` with that value, `title` with the words `t`, and `none` of whole numbers without an
+// element; and that one reaction.
+fn holding(alloc: Global, count: Value, actions: ActionList) -> Result<DeskRow, Fail> {
     Ok(DeskRow {
         suites: Items::from_vec(Vec::new(alloc)),
-        table,
-        elements: ElementsList::from_vec(elements),
+        table: table(alloc, count.kind())?,
+        elements: elements(alloc, count)?,
         filters: FilterList::new(alloc),
-        reactions,
+        reactions: reactions(alloc, actions)?,
     })
+}
+
+fn handlers(alloc: Global, row: DeskRow) -> Result<HandlerSet<DeskRow>, Fail> {
+    let mut handlers = HandlerSet::new(alloc, text(alloc, b"beta")?, row)?;
+    handlers.add(text(alloc, b"side")?, DeskRow::empty(alloc))?;
+    Ok(handlers)
+}
+
+// Of an application there are at most 8 loopers.
+fn names(alloc: Global) -> Result<Items<Text>, Fail>
+    ensures { IfOk result (λ names. length names ≤ 8) }
+{
+    let mut names = Vec::new(alloc);
+    names.push(text(alloc, b"alpha")?)?;
+    names.push(text(alloc, b"beta")?)?;
+    Ok(Items::from_vec(names))
 }
 
 // The second looper of an application, with a handler `side` whose token is 1. The looper has the reaction.
 pub(super) fn desk(alloc: Global, count: Value, actions: ActionList) -> Result<DeskState, Fail> {
-    let mut handlers = HandlerSet::new(
-        alloc,
-        text(alloc, b"beta")?,
-        holding(alloc, count, actions)?,
-    )?;
-    handlers.add(text(alloc, b"side")?, DeskRow::empty(alloc))?;
-    let mut names = Vec::new(alloc);
-    names.push(text(alloc, b"alpha")?)?;
-    names.push(text(alloc, b"beta")?)?;
     Ok(DeskState {
         looper: LOOPER,
         team: 2,
         first: OTHER,
-        names: Items::from_vec(names),
+        names: names(alloc)?,
         quit_refused: false,
-        handlers,
+        handlers: handlers(alloc, holding(alloc, count, actions)?)?,
         common: FilterList::new(alloc),
     })
 }

@@ -1,5 +1,7 @@
-use super::making::{Do, Hear, LOOPER, OTHER, Put, Said, To, Told, actions, desk, run};
+use super::making::{Do, Hear, LOOPER, OTHER, Put, Ran, Said, To, Told, actions, desk, run};
+use super::same;
 use crate::number::Number;
+use crate::state::DeskState;
 use Do::{Add, Ask, Post, Quit, Reply, Set};
 use Said::Error;
 use ak_base::{Code, KitError};
@@ -33,8 +35,40 @@ fn number_in(value: Option<&Value>) -> Option<i32> {
     }
 }
 
-// Carries the actions out on a message whose field `n` is 8 and whose field `flag` is true, with these
-// answers; it has to want and to say this.
+fn count_of(state: &DeskState) -> Option<i32> {
+    number_in(state.handlers.by_token(0)?.first_of(b"count"))
+}
+
+fn left_of(ran: &Ran, state: &DeskState) -> Left {
+    Left {
+        reply: match &ran.reply {
+            Some(reply) => Some(reply.what().0),
+            None => None,
+        },
+        quit: ran.quit,
+        count: count_of(state),
+    }
+}
+
+fn wants_and_says(ran: &Ran, wants: &[Told], said: &[Said]) -> Result<(), Fail> {
+    if ran.wants.as_slice() != wants {
+        return Err(Fail::new("it wants something else"));
+    }
+    if ran.said.as_slice() != said {
+        return Err(Fail::new("it says something else"));
+    }
+    Ok(())
+}
+
+// Its field `n` is 8, and its field `flag` is true.
+fn received(alloc: Global) -> Result<Message, Fail> {
+    let mut message = Message::new(alloc, Code(7));
+    message.add(b"n", Value::Int32(8))?;
+    message.add(b"flag", Value::Bool(true))?;
+    Ok(message)
+}
+
+// Carries the actions out on that message, with these answers; it has to want and to say this.
 fn left_by(
     alloc: Global,
     list: &[Do],
@@ -43,27 +77,9 @@ fn left_by(
     said: &[Said],
 ) -> Result<Left, Fail> {
     let mut state = desk(alloc, Value::Int32(5), actions(alloc, list)?)?;
-    let mut message = Message::new(alloc, Code(7));
-    message.add(b"n", Value::Int32(8))?;
-    message.add(b"flag", Value::Bool(true))?;
-    let ran = run(alloc, &mut state, message, heard)?;
-    if ran.wants.as_slice() != wants {
-        return Err(Fail::new("it wants something else"));
-    }
-    if ran.said.as_slice() != said {
-        return Err(Fail::new("it says something else"));
-    }
-    Ok(Left {
-        reply: match &ran.reply {
-            Some(reply) => Some(reply.what().0),
-            None => None,
-        },
-        quit: ran.quit,
-        count: match state.handlers.by_token(0) {
-            Some(row) => number_in(row.first_of(b"count")),
-            None => None,
-        },
-    })
+    let ran = run(alloc, &mut state, received(alloc)?, heard)?;
+    wants_and_says(&ran, wants, said)?;
+    Ok(left_of(&ran, &state))
 }
 
 #[test]
@@ -104,8 +120,8 @@ fn a_post_has_the_answer_of_its_send(rt: HostRuntime) -> Result<(), Fail> {
             &[OWN_POST, Told::Done],
             &[Error(error), FINE],
         )?;
-        assert_eq!(rt; left.reply, Some(21));
-        assert_eq!(rt; left.count, Some(5));
+        same(&rt, "the reply", left.reply, Some(21));
+        same(&rt, "the count", left.count, Some(5));
     }
     Ok(())
 }
@@ -177,7 +193,7 @@ fn an_application_is_found_before_a_send(rt: HostRuntime) -> Result<(), Fail> {
         &[Told::Find, Told::Post(12, None, None), Told::Done],
         &[Said::Team(6), Error(KitError::WouldBlock)],
     )?;
-    assert_eq!(rt; left, UNCHANGED);
+    same(&rt, "a post", left, UNCHANGED);
     let left = left_by(
         alloc,
         &[Ask(To::App, Some(b"count"))],
@@ -185,7 +201,7 @@ fn an_application_is_found_before_a_send(rt: HostRuntime) -> Result<(), Fail> {
         &[Told::Find, Told::Ask(12, None), Told::Done],
         &[Said::Team(6), Said::Reply],
     )?;
-    assert_eq!(rt; left.count, Some(30));
+    same(&rt, "an ask", left.count, Some(30));
     Ok(())
 }
 
@@ -200,8 +216,8 @@ fn an_application_may_not_run(rt: HostRuntime) -> Result<(), Fail> {
             &[Told::Find, Told::Done],
             &[Said::NoTeam, Error(KitError::NoTeam), FINE],
         )?;
-        assert_eq!(rt; left.reply, Some(21));
-        assert_eq!(rt; left.count, Some(5));
+        same(&rt, "the reply", left.reply, Some(21));
+        same(&rt, "the count", left.count, Some(5));
     }
     Ok(())
 }
@@ -236,17 +252,20 @@ fn an_ask_has_the_reply_or_an_error(rt: HostRuntime) -> Result<(), Fail> {
     Ok(())
 }
 
+// A property, an answer, and the value of `count` then.
+static RESULTS: [(&[u8], Hear, i32); 6] = [
+    (b"count", Hear::Result(30), 30),
+    (b"count", Hear::Words, 5),
+    (b"count", Hear::Bare, 5),
+    (b"title", Hear::Result(30), 5),
+    (b"none", Hear::Result(30), 5),
+    (b"absent", Hear::Result(30), 5),
+];
+
 #[test]
 fn a_property_takes_a_result_of_its_kind(rt: HostRuntime) -> Result<(), Fail> {
     let alloc = rt.alloc();
-    for (into, hear, count) in [
-        (b"count".as_slice(), Hear::Result(30), 30),
-        (b"count".as_slice(), Hear::Words, 5),
-        (b"count".as_slice(), Hear::Bare, 5),
-        (b"title".as_slice(), Hear::Result(30), 5),
-        (b"none".as_slice(), Hear::Result(30), 5),
-        (b"absent".as_slice(), Hear::Result(30), 5),
-    ] {
+    for &(into, hear, count) in &RESULTS {
         let left = left_by(
             alloc,
             &[Ask(To::Looper(b"alpha"), Some(into))],
@@ -266,48 +285,31 @@ fn a_property_takes_a_result_of_its_kind(rt: HostRuntime) -> Result<(), Fail> {
     Ok(())
 }
 
+// A property, what it is to be, the error, and the value of `count` then.
+static SETS: [(&[u8], Put, KitError, i32); 12] = [
+    (b"count", Put::Number(6), KitError::Ok, 6),
+    (b"count", Put::Field(b"n"), KitError::Ok, 8),
+    (b"count", Put::Property(b"count"), KitError::Ok, 5),
+    (b"count", Put::Field(b"absent"), KitError::NameNotFound, 5),
+    (b"count", Put::Property(b"none"), KitError::NameNotFound, 5),
+    (
+        b"count",
+        Put::Property(b"absent"),
+        KitError::NameNotFound,
+        5,
+    ),
+    (b"count", Put::Words, KitError::BadType, 5),
+    (b"count", Put::Field(b"flag"), KitError::BadType, 5),
+    (b"title", Put::Number(6), KitError::BadType, 5),
+    (b"none", Put::Words, KitError::BadType, 5),
+    (b"none", Put::Number(6), KitError::BadIndex, 5),
+    (b"title", Put::Words, KitError::Ok, 5),
+];
+
 #[test]
 fn a_property_is_set(rt: HostRuntime) -> Result<(), Fail> {
     let alloc = rt.alloc();
-    for (name, put, error, count) in [
-        (b"count".as_slice(), Put::Number(6), KitError::Ok, 6),
-        (b"count".as_slice(), Put::Field(b"n"), KitError::Ok, 8),
-        (
-            b"count".as_slice(),
-            Put::Property(b"count"),
-            KitError::Ok,
-            5,
-        ),
-        (
-            b"count".as_slice(),
-            Put::Field(b"absent"),
-            KitError::NameNotFound,
-            5,
-        ),
-        (
-            b"count".as_slice(),
-            Put::Property(b"none"),
-            KitError::NameNotFound,
-            5,
-        ),
-        (
-            b"count".as_slice(),
-            Put::Property(b"absent"),
-            KitError::NameNotFound,
-            5,
-        ),
-        (b"count".as_slice(), Put::Words, KitError::BadType, 5),
-        (
-            b"count".as_slice(),
-            Put::Field(b"flag"),
-            KitError::BadType,
-            5,
-        ),
-        (b"title".as_slice(), Put::Number(6), KitError::BadType, 5),
-        (b"none".as_slice(), Put::Words, KitError::BadType, 5),
-        (b"none".as_slice(), Put::Number(6), KitError::BadIndex, 5),
-        (b"title".as_slice(), Put::Words, KitError::Ok, 5),
-    ] {
+    for &(name, put, error, count) in &SETS {
         let left = left_by(
             alloc,
             &[Set(name, put)],
@@ -327,15 +329,18 @@ fn a_property_is_set(rt: HostRuntime) -> Result<(), Fail> {
     Ok(())
 }
 
+// A property, what is added, the error, and the value of `count` then.
+static SUMS: [(&[u8], Number, KitError, i32); 4] = [
+    (b"count", Number::Int32(-7), KitError::Ok, -2),
+    (b"count", Number::Int64(1), KitError::BadValue, 5),
+    (b"title", Number::Int32(1), KitError::BadValue, 5),
+    (b"none", Number::Int32(1), KitError::BadIndex, 5),
+];
+
 #[test]
 fn a_number_is_added(rt: HostRuntime) -> Result<(), Fail> {
     let alloc = rt.alloc();
-    for (name, amount, error, count) in [
-        (b"count".as_slice(), Number::Int32(-7), KitError::Ok, -2),
-        (b"count".as_slice(), Number::Int64(1), KitError::BadValue, 5),
-        (b"title".as_slice(), Number::Int32(1), KitError::BadValue, 5),
-        (b"none".as_slice(), Number::Int32(1), KitError::BadIndex, 5),
-    ] {
+    for &(name, amount, error, count) in &SUMS {
         let left = left_by(
             alloc,
             &[Add(name, amount)],
@@ -365,7 +370,7 @@ fn drop_ends_the_list_and_quit_goes_on(rt: HostRuntime) -> Result<(), Fail> {
         &[Told::Done],
         &[FINE],
     )?;
-    assert_eq!(rt; left, UNCHANGED);
+    same(&rt, "drop", left, UNCHANGED);
     let left = left_by(
         alloc,
         &[Quit, Add(b"count", Number::Int32(1)), Do::Drop],
@@ -373,50 +378,50 @@ fn drop_ends_the_list_and_quit_goes_on(rt: HostRuntime) -> Result<(), Fail> {
         &[Told::Done],
         &[FINE, FINE, FINE],
     )?;
-    assert_eq!(rt;
-        left,
-        Left {
-            reply: None,
-            quit: true,
-            count: Some(6)
-        }
-    );
+    let told = Left {
+        reply: None,
+        quit: true,
+        count: Some(6),
+    };
+    same(&rt, "quit", left, told);
     Ok(())
 }
 
+const NO_MEMORY: Said = Error(KitError::NoMemory);
+
+// A send after a reply, the answers, of which the last tells want of memory, what is wanted, and the words.
+static STARVED: [(Do, &[Hear], &[Told], &[Said]); 3] = [
+    (
+        Post(To::Own, false),
+        &[Hear::NoMemory],
+        &[OWN_POST, Told::Done],
+        &[FINE, NO_MEMORY],
+    ),
+    (
+        Ask(To::App, Some(b"count")),
+        &[Hear::NoMemory],
+        &[Told::Find, Told::Done],
+        &[FINE, NO_MEMORY],
+    ),
+    (
+        Ask(To::App, Some(b"count")),
+        &[Hear::Team(6, 12), Hear::NoMemory],
+        &[Told::Find, Told::Ask(12, None), Told::Done],
+        &[FINE, Said::Team(6), NO_MEMORY],
+    ),
+];
+
 #[test]
 fn want_of_memory_ends_the_list(rt: HostRuntime) -> Result<(), Fail> {
-    let alloc = rt.alloc();
-    let no_memory = Error(KitError::NoMemory);
     let kept = Left {
         reply: Some(21),
         quit: false,
         count: Some(5),
     };
-    let left = left_by(
-        alloc,
-        &[Reply(21), Post(To::Own, false), Quit],
-        &[Hear::NoMemory],
-        &[OWN_POST, Told::Done],
-        &[FINE, no_memory],
-    )?;
-    assert_eq!(rt; left, kept);
-    let left = left_by(
-        alloc,
-        &[Reply(21), Ask(To::App, Some(b"count")), Quit],
-        &[Hear::NoMemory],
-        &[Told::Find, Told::Done],
-        &[FINE, no_memory],
-    )?;
-    assert_eq!(rt; left, kept);
-    let left = left_by(
-        alloc,
-        &[Reply(21), Ask(To::App, Some(b"count")), Quit],
-        &[Hear::Team(6, 12), Hear::NoMemory],
-        &[Told::Find, Told::Ask(12, None), Told::Done],
-        &[FINE, Said::Team(6), no_memory],
-    )?;
-    assert_eq!(rt; left, kept);
+    for &(send, heard, wants, said) in &STARVED {
+        let list = [Reply(21), send, Quit];
+        assert_eq!(rt; left_by(rt.alloc(), &list, heard, wants, said)?, kept);
+    }
     Ok(())
 }
 
@@ -428,25 +433,41 @@ fn without_actions_it_is_done(rt: HostRuntime) -> Result<(), Fail> {
     Ok(())
 }
 
-// Sixteen posts to an application that does not run: as many words as there can be.
-#[test]
-fn there_is_room_for_all_words(rt: HostRuntime) -> Result<(), Fail> {
-    let alloc = rt.alloc();
-    let mut wants = Vec::with_capacity(alloc, 17)?;
-    let mut said = Vec::with_capacity(alloc, 32)?;
-    for _ in 0..16 {
+// What so many posts to an application that does not run want.
+fn wants_of(alloc: Global, count: usize) -> Result<Vec<Told>, Fail> {
+    let mut wants = Vec::new(alloc);
+    for _ in 0..count {
         wants.push(Told::Find)?;
+    }
+    wants.push(Told::Done)?;
+    Ok(wants)
+}
+
+// What they say.
+fn said_of(alloc: Global, count: usize) -> Result<Vec<Said>, Fail> {
+    let mut said = Vec::new(alloc);
+    for _ in 0..count {
         said.push(Said::NoTeam)?;
         said.push(Error(KitError::NoTeam))?;
     }
-    wants.push(Told::Done)?;
-    let left = left_by(
+    Ok(said)
+}
+
+fn left_by_sixteen(alloc: Global) -> Result<Left, Fail> {
+    let wants = wants_of(alloc, 16)?;
+    let said = said_of(alloc, 16)?;
+    left_by(
         alloc,
         &[Post(To::App, false); 16],
         &[Hear::NoTeam; 16],
         wants.as_slice(),
         said.as_slice(),
-    )?;
-    assert_eq!(rt; left, UNCHANGED);
+    )
+}
+
+// As many words as there can be.
+#[test]
+fn there_is_room_for_all_words(rt: HostRuntime) -> Result<(), Fail> {
+    assert_eq!(rt; left_by_sixteen(rt.alloc())?, UNCHANGED);
     Ok(())
 }

@@ -3,7 +3,7 @@ ghost use Rattle.std.specs.Prelude.{◌≡◌, ◌+◌};
 use super::conditions::{is_at, is_idle, may_give_up, may_stamp};
 use super::driving::{answer_all, come_to_an_end};
 use super::making::{
-    Asked, Expected, Hear, Of, Said, Told, asking, item, plain_words, reply_told, same,
+    Asked, Expected, Hear, Of, Said, Told, asking, item, plain_words, reply_told, same_message,
 };
 use crate::desk::Desk;
 use crate::entry::{DeskEntry, DeskEvent, Edit, EditAnswer, EntryRoute};
@@ -221,7 +221,7 @@ impl Came {
     fn replies_so(&self, alloc: Global, expected: &Message) -> Result<bool, Fail> {
         match &self.reply {
             Some(reply) => Ok(
-                !self.forwarded && reply.popped() == 0 && same(alloc, reply, expected)?,
+                !self.forwarded && reply.popped() == 0 && same_message(alloc, reply, expected)?,
             ),
             None => Ok(false),
         }

@@ -3,6 +3,7 @@ use super::making::{
     Asked, Do, Expected, Hear, LOOPER, OK, ONE, OTHER, OWN, Of, PING, Said, To, Told, Val, asking,
     filter, filtering, message, state,
 };
+use super::same;
 use crate::entry::EntryRoute;
 use ak_base::{Code, KitError};
 use ak_flatten::{Duty, Item, flat_len};
@@ -295,9 +296,9 @@ fn dropped(alloc: Global) -> Result<Option<Part>, Fail> {
 #[test]
 fn what_nobody_carries_out_is_replied(rt: HostRuntime) -> Result<(), Fail> {
     let alloc = rt.alloc();
-    assert_eq!(rt; not_understood(alloc)?, None);
-    assert_eq!(rt; skipped(alloc)?, None);
-    assert_eq!(rt; dropped(alloc)?, None);
+    same(&rt, "not understood", not_understood(alloc)?, None);
+    same(&rt, "skipped", skipped(alloc)?, None);
+    same(&rt, "dropped", dropped(alloc)?, None);
     Ok(())
 }
 
@@ -335,8 +336,18 @@ static TOO_LONG: Expected = Expected {
 #[test]
 fn a_reply_that_is_too_long_is_replaced(rt: HostRuntime) -> Result<(), Fail> {
     let alloc = rt.alloc();
-    assert_eq!(rt; reply_len(alloc, 4069)?, Some(4096));
-    assert_eq!(rt; reply_len(alloc, 4070)?, Some(29));
-    assert_eq!(rt; too_long(alloc, TOO_LONG)?, None);
+    same(&rt, "the longest one", reply_len(alloc, 4069)?, Some(4096));
+    same(
+        &rt,
+        "the one in its place",
+        reply_len(alloc, 4070)?,
+        Some(29),
+    );
+    same(
+        &rt,
+        "all that it comes to",
+        too_long(alloc, TOO_LONG)?,
+        None,
+    );
     Ok(())
 }

@@ -1,5 +1,6 @@
 use super::bench::{Bench, Part, counted};
 use super::making::{Do, Expected, OTHER, OWN, PING, Told, message, state, text};
+use super::same;
 use crate::entry::{DeskEvent, Edit, EditAnswer, EntryRoute};
 use EditAnswer::{Done, Refused, Token};
 use ak_flatten::{Duty, Item};
@@ -111,10 +112,15 @@ fn edits_are_answered_and_told(rt: HostRuntime) -> Result<(), Fail> {
     let alloc = rt.alloc();
     let mut bench = unused(alloc)?;
     for &(change, answer, set) in &EDITS {
-        assert_eq!(rt; edited(alloc, &mut bench, change)?, answer);
-        assert_eq!(rt; set_of(&bench), set);
+        same(
+            &rt,
+            "the answer",
+            edited(alloc, &mut bench, change)?,
+            answer,
+        );
+        same(&rt, "the handlers then", set_of(&bench), set);
     }
-    assert_eq!(rt; bench.desk.len(), 13);
+    same(&rt, "how many entries", bench.desk.len(), 13);
     Ok(())
 }
 
@@ -143,10 +149,20 @@ fn stamps_rise_past_the_clock(rt: HostRuntime) -> Result<(), Fail> {
     let alloc = rt.alloc();
     let mut bench = unused(alloc)?;
     for (time, stamp) in [(0, 1), (9, 10), (3, 11), (11, 12), (0, 13)] {
-        assert_eq!(rt; stamp_of_edit(&mut bench, time)?, stamp);
+        same(&rt, "an edit", stamp_of_edit(&mut bench, time)?, stamp);
     }
-    assert_eq!(rt; stamp_of_dispatch(alloc, &mut bench, 20)?, 21);
-    assert_eq!(rt; stamp_of_dispatch(alloc, &mut bench, 4)?, 22);
+    same(
+        &rt,
+        "past the clock",
+        stamp_of_dispatch(alloc, &mut bench, 20)?,
+        21,
+    );
+    same(
+        &rt,
+        "past the last entry",
+        stamp_of_dispatch(alloc, &mut bench, 4)?,
+        22,
+    );
     Ok(())
 }
 
@@ -171,10 +187,10 @@ fn around_a_removal(alloc: Global) -> Result<(EntryRoute, EntryRoute, Bench), Fa
 fn a_removed_handler_gets_nothing(rt: HostRuntime) -> Result<(), Fail> {
     let alloc = rt.alloc();
     let (before, after, mut bench) = around_a_removal(alloc)?;
-    assert_eq!(rt; before, EntryRoute::To(0));
-    assert_eq!(rt; after, EntryRoute::Dropped);
-    assert_eq!(rt; counted(alloc, &mut bench)?, Some(3));
-    assert_eq!(rt; bench.desk.len(), 4);
+    same(&rt, "before", before, EntryRoute::To(0));
+    same(&rt, "after", after, EntryRoute::Dropped);
+    same(&rt, "the count", counted(alloc, &mut bench)?, Some(3));
+    same(&rt, "how many entries", bench.desk.len(), 4);
     Ok(())
 }
 
@@ -203,11 +219,11 @@ fn quits(alloc: Global, bench: &mut Bench) -> Result<bool, Fail> {
 fn a_message_is_given_up(rt: HostRuntime) -> Result<(), Fail> {
     let alloc = rt.alloc();
     let (part, mut bench) = given_up(alloc)?;
-    assert_eq!(rt; part, None);
+    same(&rt, "the giving up", part, None);
     // The position of the next one is tested where it is carried out.
-    assert_eq!(rt; bench.position, 1);
-    assert!(rt; quits(alloc, &mut bench)?);
-    assert_eq!(rt; bench.desk.len(), 2);
+    same(&rt, "the position", bench.position, 1);
+    same(&rt, "the next one quits", quits(alloc, &mut bench)?, true);
+    same(&rt, "how many entries", bench.desk.len(), 2);
     Ok(())
 }
 
@@ -237,9 +253,9 @@ fn has_entry(bench: &Bench, place: u64) -> Result<bool, Fail> {
 #[test]
 fn an_empty_list_has_no_entry(rt: HostRuntime) -> Result<(), Fail> {
     let bench = unused(rt.alloc())?;
-    assert_eq!(rt; bench.desk.len(), 0);
-    assert_eq!(rt; bench.desk.last_stamp(), 0);
-    assert!(rt; !has_entry(&bench, 0)?);
+    same(&rt, "how many entries", bench.desk.len(), 0);
+    same(&rt, "the last stamp", bench.desk.last_stamp(), 0);
+    same(&rt, "a first entry", has_entry(&bench, 0)?, false);
     Ok(())
 }
 
@@ -255,11 +271,11 @@ fn three_entries(alloc: Global) -> Result<Bench, Fail> {
 #[test]
 fn entries_are_copied_in_order(rt: HostRuntime) -> Result<(), Fail> {
     let bench = three_entries(rt.alloc())?;
-    assert_eq!(rt; bench.desk.len(), 3);
-    assert_eq!(rt; bench.desk.last_stamp(), 3);
-    for (place, position) in [(0, Some(0)), (1, None), (2, Some(1))] {
-        assert_eq!(rt; position_at(&bench, place)?, position);
-    }
-    assert!(rt; !has_entry(&bench, 3)?);
+    same(&rt, "how many entries", bench.desk.len(), 3);
+    same(&rt, "the last stamp", bench.desk.last_stamp(), 3);
+    same(&rt, "the first entry", position_at(&bench, 0)?, Some(0));
+    same(&rt, "the second entry", position_at(&bench, 1)?, None);
+    same(&rt, "the third entry", position_at(&bench, 2)?, Some(1));
+    same(&rt, "a fourth entry", has_entry(&bench, 3)?, false);
     Ok(())
 }

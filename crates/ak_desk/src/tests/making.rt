@@ -229,7 +229,7 @@ pub(super) fn asking(
 }
 
 // Whether they have one flat text, so the same code and the same fields in the same order.
-pub(super) fn same(alloc: Global, one: &Message, other: &Message) -> Result<bool, Fail> {
+pub(super) fn same_message(alloc: Global, one: &Message, other: &Message) -> Result<bool, Fail> {
     let one = flatten(alloc, one)?;
     let other = flatten(alloc, other)?;
     Ok(one.as_slice() == other.as_slice())

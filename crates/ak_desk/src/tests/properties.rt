@@ -3,6 +3,7 @@ use super::making::{
     Do, Expected, FINE, LOOPER, OK, ONE, OWN, Of, PING, Pair, Told, Val, asking, filter, filtering,
     replied, state,
 };
+use super::same;
 use ak_base::Code;
 use std::alloc::Global;
 use std::test::Fail;
@@ -142,7 +143,7 @@ fn filtered(alloc: Global, code: Code, ends: Expected) -> Result<Option<Part>, F
 #[test]
 fn a_filter_changes_the_command(rt: HostRuntime) -> Result<(), Fail> {
     let alloc = rt.alloc();
-    assert_eq!(rt; filtered(alloc, Code::COUNT, COUNTED)?, None);
-    assert_eq!(rt; filtered(alloc, PING, REACTION)?, None);
+    same(&rt, "counted", filtered(alloc, Code::COUNT, COUNTED)?, None);
+    same(&rt, "a reaction", filtered(alloc, PING, REACTION)?, None);
     Ok(())
 }

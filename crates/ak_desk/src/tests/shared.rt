@@ -2,6 +2,7 @@
 ghost use Rattle.std.specs.Prelude.{◌≡◌, false};
 
 use super::making::{OWN, state, text};
+use super::same;
 use crate::desk::Desk;
 use crate::entry::{DeskEvent, Edit, EditAnswer};
 use crate::shared::edit_shared;
@@ -95,18 +96,33 @@ static LINES: [Line; 5] = [
     Line(0, 10, Done),
 ];
 
+fn lines(desk: &Desk) -> Result<[Line; 5], Fail> {
+    Ok([
+        line_at(desk, 0)?,
+        line_at(desk, 1)?,
+        line_at(desk, 2)?,
+        line_at(desk, 3)?,
+        line_at(desk, 4)?,
+    ])
+}
+
+fn answers_in(lines: &[Line; 5]) -> [EditAnswer; 5] {
+    [lines[0].2, lines[1].2, lines[2].2, lines[3].2, lines[4].2]
+}
+
+// How many handlers there are, and the next one of the handler with token 1.
+fn handlers_of(desk: &Desk) -> (u32, Option<u64>) {
+    let handlers = &desk.state.handlers;
+    (handlers.len(), handlers.next_of(1))
+}
+
 // The answers are those of one list, which has the edits of both.
 #[test]
 fn two_threads_edit_one_desk(rt: HostRuntime) -> Result<(), Fail> {
     let (answers, desk) = edited_in_turn(&rt, rt.alloc())?;
-    assert_eq!(rt; desk.len(), 5);
-    for (place, line) in LINES.iter().enumerate() {
-        assert_eq!(rt; line_at(&desk, place as u64)?, *line);
-    }
-    for (answer, line) in answers.iter().zip(LINES.iter()) {
-        assert_eq!(rt; *answer, line.2);
-    }
-    assert_eq!(rt; desk.state.handlers.len(), 2);
-    assert_eq!(rt; desk.state.handlers.next_of(1), Some(0));
+    same(&rt, "how many entries", desk.len(), 5);
+    same(&rt, "entries", lines(&desk)?, LINES);
+    same(&rt, "answers", answers, answers_in(&LINES));
+    same(&rt, "handlers", handlers_of(&desk), (2, Some(0)));
     Ok(())
 }

@@ -1,7 +1,9 @@
 use super::*;
 use crate::fault::{FlatFault, FlatKind};
+use crate::tests::{same, same_bytes};
 use ak_base::{Code, Text};
 use ak_message::Value;
+use std::process::Abort;
 use std::test::Fail;
 
 const SENDER: Address = Address {
@@ -42,43 +44,76 @@ fn bytes(alloc: Global, piece: &[u8]) -> Result<Bytes, Fail> {
     Ok(bytes)
 }
 
-#[test]
-fn an_item_has_each_part(rt: HostRuntime) -> Result<(), Fail> {
-    let alloc = rt.alloc();
-    let message = question(alloc, 1)?;
-    let flat = flatten(alloc, &message)?;
-    let item = item(alloc, 1)?;
-    let again = Item::from_flat(
+// The parts of an item beside its flat text: for which handler it is, the team, whether it was dropped, what is owed,
+// and how many specifiers are popped.
+type Outline = (Target, u32, bool, Duty, u32);
+
+fn parts(item: &Item) -> Outline {
+    (
+        item.target(),
+        item.team(),
+        item.dropped(),
+        item.duty(),
+        item.popped(),
+    )
+}
+
+// The item of that flat text, for a handler of the looper, with one specifier popped.
+fn from_flat(alloc: Global, flat: &[u8]) -> Result<Item, Fail> {
+    Ok(Item::from_flat(
         alloc,
         Target::Token(5),
         3,
         true,
         Duty::Back(SENDER),
         1,
-        bytes(alloc, flat.as_slice())?,
-    )?;
-    for item in [&item, &again, &item.try_clone(alloc)?] {
-        assert_eq!(rt; item.target(), Target::Token(5));
-        assert_eq!(rt; item.team(), 3);
-        assert!(rt; item.dropped());
-        assert_eq!(rt; item.duty(), Duty::Back(SENDER));
-        assert_eq!(rt; item.popped(), 1);
-        assert_eq!(rt; item.flat(), flat.as_slice());
-    }
+        bytes(alloc, flat)?,
+    )?)
+}
+
+fn has_each_part(rt: &impl Abort, label: &str, item: &Item, flat: &[u8]) {
+    let told = (Target::Token(5), 3, true, Duty::Back(SENDER), 1);
+    same(rt, label, parts(item), told);
+    same_bytes(rt, label, item.flat(), flat);
+}
+
+#[test]
+fn an_item_has_each_part(rt: HostRuntime) -> Result<(), Fail> {
+    let alloc = rt.alloc();
+    let flat = flatten(alloc, &question(alloc, 1)?)?;
+    let item = item(alloc, 1)?;
+    has_each_part(&rt, "new", &item, flat.as_slice());
+    let copy = item.try_clone(alloc)?;
+    has_each_part(&rt, "copy", &copy, flat.as_slice());
+    let again = from_flat(alloc, flat.as_slice())?;
+    has_each_part(&rt, "from_flat", &again, flat.as_slice());
     Ok(())
+}
+
+// The code of an item's message, how many names and specifiers it has, and how many of these are popped.
+fn message_told(alloc: Global, popped: u32) -> Result<(Code, u32, u32, u32), Fail> {
+    let message = item(alloc, popped)?.message(alloc)?;
+    Ok((
+        message.what(),
+        message.count_names(),
+        message.specifiers(),
+        message.popped(),
+    ))
 }
 
 #[test]
 fn its_message_is_popped_as_it_was(rt: HostRuntime) -> Result<(), Fail> {
-    let alloc = rt.alloc();
     for popped in 0..3 {
-        let message = item(alloc, popped)?.message(alloc)?;
-        assert_eq!(rt; message.what(), Code::GET);
-        assert_eq!(rt; message.count_names(), 1);
-        assert_eq!(rt; message.specifiers(), 2);
-        assert_eq!(rt; message.popped(), popped);
+        let told = message_told(rt.alloc(), popped)?;
+        same(&rt, popped, told, (Code::GET, 1, 2, popped));
     }
     Ok(())
+}
+
+fn fault_of(alloc: Global, flat: &[u8], popped: u32) -> Result<Option<ItemFault>, Fail> {
+    let flat = bytes(alloc, flat)?;
+    let item = Item::from_flat(alloc, Target::Preferred, 0, false, Duty::None, popped, flat);
+    Ok(item.err())
 }
 
 #[test]
@@ -96,9 +131,7 @@ fn bytes_that_are_no_item_are_refused(rt: HostRuntime) -> Result<(), Fail> {
         (b"AKM2PGET\0\0\0\0", 1, Some(bad)),
     ];
     for (flat, popped, fault) in rows {
-        let flat = bytes(alloc, flat)?;
-        let item = Item::from_flat(alloc, Target::Preferred, 0, false, Duty::None, popped, flat);
-        assert_eq!(rt; item.err(), fault, "at {popped}");
+        same(&rt, popped, fault_of(alloc, flat, popped)?, fault);
     }
     Ok(())
 }
@@ -115,6 +148,14 @@ fn long_messages_are_no_items(rt: HostRuntime) -> Result<(), Fail> {
     Ok(())
 }
 
+// The item, forwarded with two specifiers popped.
+fn forwarded(rt: &impl Abort, alloc: Global, item: Item) -> Result<Item, Fail> {
+    let message = item.message(alloc)?;
+    assert!(rt; item.popped() <= 2);
+    assert!(rt; message.specifiers() >= 2);
+    Ok(item.forwarded(2))
+}
+
 #[test]
 fn forwarded_it_is_for_the_looper(rt: HostRuntime) -> Result<(), Fail> {
     let alloc = rt.alloc();
@@ -123,16 +164,10 @@ fn forwarded_it_is_for_the_looper(rt: HostRuntime) -> Result<(), Fail> {
         item: item(alloc, 1)?.with_duty(Duty::Slot(6)),
     };
     let Taken { position, item } = taken;
-    assert_eq!(rt; position, 7);
-    let message = item.message(alloc)?;
-    assert!(rt; item.popped() <= 2);
-    assert!(rt; message.specifiers() >= 2);
-    let forwarded = item.forwarded(2);
-    assert_eq!(rt; forwarded.target(), Target::Token(0));
-    assert_eq!(rt; forwarded.popped(), 2);
-    assert_eq!(rt; forwarded.duty(), Duty::Slot(6));
-    assert_eq!(rt; forwarded.team(), 3);
-    assert!(rt; forwarded.dropped());
-    assert_eq!(rt; forwarded.message(alloc)?.popped(), 2);
+    same(&rt, "position", position, 7);
+    let forwarded = forwarded(&rt, alloc, item)?;
+    let told = (Target::Token(0), 3, true, Duty::Slot(6), 2);
+    same(&rt, "parts", parts(&forwarded), told);
+    same(&rt, "message", forwarded.message(alloc)?.popped(), 2);
     Ok(())
 }

@@ -7,6 +7,7 @@ ghost use Rattle.ak_port.specs.PortCalls.{by_number};
 ghost use Rattle.ak_port.specs.PortMachine.{pending_items, state_of, taken_items, written_in};
 ghost use Rattle.ak_port.specs.PortWriters.{teams_in, HasSent, HasTaken, KnowsSent, StartsToTake};
 
+use super::same;
 use crate::{How, Port, PortBook, TakeAnswer, WriteAnswer, make, take, write};
 use ak_base::{Code, NoMemory, ThreadId};
 use ak_flatten::{Duty, Item, Taken};
@@ -14,6 +15,7 @@ use ak_message::{Message, Target};
 use ak_turn::{Book, Clock, Seat};
 use std::alloc::Global;
 use std::collections::VecDeque;
+use std::process::Abort;
 use std::sync::Wait;
 use std::test::Fail;
 use std::thread::{Threads, join};
@@ -268,23 +270,27 @@ pub fn three_threads<R: Threads + Wait + Sync>(
     })
 }
 
+// The item is at its place and has the next number of its writer. Answers the next number of each writer then.
+fn follows(rt: &impl Abort, taken: &Taken, place: u64, next: (u32, u32)) -> (u32, u32) {
+    let number = taken.item.team();
+    let told = (taken.position, number);
+    if number < 1000 {
+        same(rt, told, (place, next.0), "an item of the first writer");
+        (number + 1, next.1)
+    } else {
+        same(rt, told, (place, next.1), "an item of the second writer");
+        (next.0, number.saturating_add(1))
+    }
+}
+
 #[test]
 fn two_writers_and_a_taker(rt: HostRuntime) -> Result<(), Fail> {
     let tale = three_threads(&rt, rt.alloc(), 100)?;
-    assert_eq!(rt; tale.taken.len(), 200);
-    assert_eq!(rt; tale.first.len(), 100);
-    assert_eq!(rt; tale.second.len(), 100);
+    let lengths = (tale.taken.len(), tale.first.len(), tale.second.len());
+    assert_eq!(rt; lengths, (200, 100, 100));
     let mut next = (0, 1000);
     for (place, taken) in tale.taken.iter().enumerate() {
-        assert_eq!(rt; taken.position, place as u64);
-        let number = taken.item.team();
-        if number < 1000 {
-            assert_eq!(rt; number, next.0);
-            next.0 = number + 1;
-        } else {
-            assert_eq!(rt; number, next.1);
-            next.1 = number.saturating_add(1);
-        }
+        next = follows(&rt, taken, place as u64, next);
     }
     assert_eq!(rt; next, (100, 1100));
     Ok(())

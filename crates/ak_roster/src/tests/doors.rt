@@ -2,7 +2,7 @@
 ghost use Rattle.std.specs.Prelude.{◌≡◌, [], All, IfOk};
 ghost use Rattle.ak_roster.specs.Roster.{IsAtRest, state};
 
-use super::used::{Roster, Row, Word, clock_of, has_stamps, launch, roster_of};
+use super::used::{Roster, Row, Word, clock_of, has_stamps, launch, roster_of, same};
 use crate::{Mode, RosterEvent};
 use ak_base::ThreadId;
 use ak_turn::{Book, Clock};
@@ -47,16 +47,21 @@ fn no_door_is_given_where_no_looper_was_started(rt: HostRuntime) -> Result<(), F
     Ok(())
 }
 
+// When and by whom a door was given, and of which looper.
+fn door_at(roster: &Roster, place: u64) -> Result<(u64, ThreadId, u32), Fail> {
+    let entry = roster.entry(place)?.ok_or("an entry")?;
+    match &entry.event {
+        RosterEvent::Door { looper } => Ok((entry.stamp, entry.by, *looper)),
+        _ => Err(Fail::from("no door")),
+    }
+}
+
 #[test]
 fn a_door_is_given_where_its_looper_was_started(rt: HostRuntime) -> Result<(), Fail> {
     let mut roster = five(rt.alloc())?;
-    assert_eq!(rt; grant_to_session(&mut roster, 4)?, Some(()));
-    let entry = roster.entry(1)?.ok_or("an entry")?;
-    assert_eq!(rt; (entry.stamp, entry.by), (2, ThreadId(1)));
-    let RosterEvent::Door { looper } = entry.event else {
-        return Err(Fail::from("no door"));
-    };
-    assert_eq!(rt; looper, 4);
-    assert_eq!(rt; roster.take_doors().len(), 5);
+    let given = grant_to_session(&mut roster, 4)?;
+    same(&rt, given, Some(()), "the giving");
+    same(&rt, door_at(&roster, 1)?, (2, ThreadId(1), 4), "its entry");
+    same(&rt, roster.take_doors().len(), 5, "the doors");
     Ok(())
 }

@@ -2,7 +2,7 @@
 ghost use Rattle.std.specs.Prelude.{IfOk};
 ghost use Rattle.ak_roster.specs.Roster.{IsAtRest};
 
-use super::used::{Roster, Row, Word, clock_of, find, gone, launch, roster_of};
+use super::used::{Roster, Row, Word, clock_of, find, gone, launch, roster_of, same};
 use crate::{Decision, FindAnswer, FindOutcome, LaunchOutcome, Mode, RosterEntry, RosterEvent};
 use ak_turn::{Book, Clock};
 use std::alloc::Global;
@@ -65,9 +65,8 @@ fn modes_decide_what_starts(rt: HostRuntime) -> Result<(), Fail> {
         (Word::Path(b"/boot/z"), Decision::NotFound),
     ];
     launch_all(&rt, rt.alloc(), &mut roster, &mut clock, &rows)?;
-    assert_eq!(rt; roster.len(), 7);
-    assert_eq!(rt; roster.last_stamp(), 7);
-    assert_eq!(rt; clock.time, 7);
+    let told = (roster.len(), roster.last_stamp(), clock.time);
+    assert_eq!(rt; told, (7, 7, 7));
     Ok(())
 }
 
@@ -84,21 +83,17 @@ fn sixteen_launches_start(rt: HostRuntime) -> Result<(), Fail> {
         assert_eq!(rt; answer, starts(0, team + 1, 2 * team));
     }
     let answer = launch(rt.alloc(), &mut roster, &mut clock, &word)?;
-    assert_eq!(rt; answer, Decision::Limit);
+    same(&rt, answer, Decision::Limit, "one launch more");
     let last = FindAnswer::Team {
         team: 16,
         first: 30,
         loopers: 2,
     };
-    assert_eq!(rt;
-        find(rt.alloc(), &mut roster, &mut clock, &Word::Team(16))?,
-        last
-    );
-    assert_eq!(rt;
-        find(rt.alloc(), &mut roster, &mut clock, &Word::Team(17))?,
-        FindAnswer::NoTeam
-    );
-    assert_eq!(rt; roster.take_doors().len(), 32);
+    let found = find(rt.alloc(), &mut roster, &mut clock, &Word::Team(16))?;
+    same(&rt, found, last, "the last team");
+    let past = find(rt.alloc(), &mut roster, &mut clock, &Word::Team(17))?;
+    same(&rt, past, FindAnswer::NoTeam, "a team past it");
+    same(&rt, roster.take_doors().len(), 32, "the doors");
     Ok(())
 }
 
@@ -180,7 +175,9 @@ fn the_least_team_is_found(rt: HostRuntime) -> Result<(), Fail> {
 }
 
 // What an entry tells, without its word.
-fn told(entry: &RosterEntry) -> (u64, u32, Option<LaunchOutcome>, Option<FindOutcome>, u32) {
+type Told = (u64, u32, Option<LaunchOutcome>, Option<FindOutcome>, u32);
+
+fn told_by(entry: &RosterEntry) -> Told {
     let (launch, find, number) = match &entry.event {
         RosterEvent::Launch { outcome, .. } => (Some(*outcome), None, 0),
         RosterEvent::Find { outcome, .. } => (None, Some(*outcome), 0),
@@ -190,24 +187,41 @@ fn told(entry: &RosterEntry) -> (u64, u32, Option<LaunchOutcome>, Option<FindOut
     (entry.stamp, entry.by.0, launch, find, number)
 }
 
+fn all_told(alloc: Global, roster: Roster) -> Result<Vec<Told>, Fail> {
+    let entries = roster.into_entries();
+    Ok(entries.iter().map(told_by).collect::<Vec<_>>(alloc)?)
+}
+
+// Launches an application, which goes, and launches it again.
+fn come_and_go(
+    rt: &impl Abort,
+    alloc: Global,
+    roster: &mut Roster,
+    clock: &mut Clock,
+) -> Result<(), Fail>
+    requires { IsAtRest roster.old }
+{
+    let word = Word::Path(b"/boot/demo");
+    same(rt, gone(roster, clock, 1)?, false, "no team yet");
+    let first = launch(alloc, roster, clock, &word)?;
+    same(rt, first, starts(0, 1, 0), "the first launch");
+    same(rt, roster.app_list().len(), 1, "while it runs");
+    same(rt, gone(roster, clock, 1)?, true, "the going");
+    same(rt, roster.app_list().len(), 0, "once it is gone");
+    same(rt, gone(roster, clock, 1)?, false, "the going again");
+    let found = find(alloc, roster, clock, &word)?;
+    same(rt, found, FindAnswer::NoTeam, "the look-up");
+    let second = launch(alloc, roster, clock, &word)?;
+    same(rt, second, starts(0, 2, 1), "the second launch");
+    Ok(())
+}
+
 #[test]
 fn a_team_goes_once(rt: HostRuntime) -> Result<(), Fail> {
     let mut roster = roster_of(rt.alloc(), &MODES)?;
     let mut clock = clock_of(0);
-    let word = Word::Path(b"/boot/demo");
-    assert_eq!(rt; gone(&mut roster, &mut clock, 1)?, false);
-    let answer = launch(rt.alloc(), &mut roster, &mut clock, &word)?;
-    assert_eq!(rt; answer, starts(0, 1, 0));
-    assert_eq!(rt; roster.app_list().len(), 1);
-    assert_eq!(rt; gone(&mut roster, &mut clock, 1)?, true);
-    assert_eq!(rt; roster.app_list().len(), 0);
-    assert_eq!(rt; gone(&mut roster, &mut clock, 1)?, false);
-    let answer = find(rt.alloc(), &mut roster, &mut clock, &word)?;
-    assert_eq!(rt; answer, FindAnswer::NoTeam);
-    let answer = launch(rt.alloc(), &mut roster, &mut clock, &word)?;
-    assert_eq!(rt; answer, starts(0, 2, 1));
-    let entries = roster.into_entries();
-    let told = entries.iter().map(told).collect::<Vec<_>>(rt.alloc())?;
+    come_and_go(&rt, rt.alloc(), &mut roster, &mut clock)?;
+    let told = all_told(rt.alloc(), roster)?;
     let first = LaunchOutcome::Started {
         description: 0,
         team: 1,

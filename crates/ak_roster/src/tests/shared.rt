@@ -44,7 +44,6 @@ fn a_team_is_looked_up_in_a_shared_roster(rt: HostRuntime) -> Result<(), Fail> {
     let mut clock = clock_of(0);
     let answer = find_in(&rt, &lock, &mut seat, &mut clock, &AppWord::Team(1));
     assert_eq!(rt; answer, FindAnswer::NoTeam);
-    assert_eq!(rt; seat.seen(), 1);
-    assert_eq!(rt; clock.time, 1);
+    assert_eq!(rt; (seat.seen(), clock.time), (1, 1));
     Ok(())
 }

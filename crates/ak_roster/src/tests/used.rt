@@ -10,9 +10,16 @@ use crate::{AppHead, Decision, FindAnswer, Launched, Mode, RosterBook};
 use ak_base::{AppWord, Text, ThreadId};
 use ak_turn::{Book, Clock};
 use std::alloc::Global;
+use std::fmt::Debug;
+use std::process::Abort;
 use std::test::Fail;
 
 pub type Roster = RosterBook<()>;
+
+/// The two are the same.
+pub fn same<T: PartialEq + Debug + Copy>(rt: &impl Abort, got: T, told: T, label: &str) {
+    assert_eq!(rt; got, told, "at {label}");
+}
 
 /// Path, signature, mode and number of loopers.
 pub type Row = (&'static [u8], &'static [u8], Mode, u32);

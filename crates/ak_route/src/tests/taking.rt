@@ -33,41 +33,55 @@ fn with_table(alloc: Global) -> Result<HandlerSet<Held>, Fail> {
     Ok(HandlerSet::new(alloc, text(alloc, b"demo")?, held)?)
 }
 
+// The code and the specifiers, and as what the looper takes them, if it does.
+static TAKEN: [(Code, &[u8], Option<Taker>); 19] = [
+    (Code::GET, b"T.", Some(Taker::Property(1))),
+    (Code::SET, b"T.", Some(Taker::Property(2))),
+    (Code::COUNT, b"T.", None),
+    (Code::DELETE, b"T.", None),
+    (Code::GET, b"T1", Some(Taker::Property(0))),
+    (Code::SET, b"T1", Some(Taker::Property(0))),
+    (Code::DELETE, b"T1", Some(Taker::Property(0))),
+    (Code::GET, b"Tb", None),
+    // While more than one is left, no command is carried out, and so none is looked at.
+    (Code::DELETE, b"C.T.", Some(Taker::Property(1))),
+    (Code::DELETE, b"C.T1", Some(Taker::Property(0))),
+    (Code::GET, b"C.Tb", None),
+    (Code::GET, b"C.", Some(Taker::Property(3))),
+    (Code::DELETE, b"C.", Some(Taker::Property(3))),
+    (Code::CREATE, b"Cb", Some(Taker::Property(3))),
+    (PONG, b"", Some(Taker::Reaction(0))),
+    (PING, b"", Some(Taker::Reaction(1))),
+    (PING, b"C.", Some(Taker::Reaction(1))),
+    (PING, b"T.", None),
+    (PING, b"C.T.", Some(Taker::Reaction(1))),
+];
+
+// The route of what the looper takes as that, if it does.
+fn taken_as(taker: Option<Taker>) -> Route {
+    match taker {
+        Some(taker) => deliver(0, taker),
+        None => LOST,
+    }
+}
+
 #[test]
 fn commands_and_forms_decide(rt: HostRuntime) -> Result<(), Fail> {
     let alloc = rt.alloc();
     let set = with_table(alloc)?;
     let common = FilterList::new(alloc);
-    let row = |place: u32| deliver(0, Taker::Property(place));
-    let reaction = |place: u32| deliver(0, Taker::Reaction(place));
-    let lost = Route::NotUnderstood;
-    let rows: [(Code, &[u8], Route); 19] = [
-        (Code::GET, b"T.", row(1)),
-        (Code::SET, b"T.", row(2)),
-        (Code::COUNT, b"T.", lost),
-        (Code::DELETE, b"T.", lost),
-        (Code::GET, b"T1", row(0)),
-        (Code::SET, b"T1", row(0)),
-        (Code::DELETE, b"T1", row(0)),
-        (Code::GET, b"Tb", lost),
-        // While more than one is left, no command is carried out, and so none is looked at.
-        (Code::DELETE, b"C.T.", row(1)),
-        (Code::DELETE, b"C.T1", row(0)),
-        (Code::GET, b"C.Tb", lost),
-        (Code::GET, b"C.", row(3)),
-        (Code::DELETE, b"C.", row(3)),
-        (Code::CREATE, b"Cb", row(3)),
-        (PONG, b"", reaction(0)),
-        (PING, b"", reaction(1)),
-        (PING, b"C.", reaction(1)),
-        (PING, b"T.", lost),
-        (PING, b"C.T.", reaction(1)),
-    ];
-    for (place, (what, specifiers, route)) in rows.into_iter().enumerate() {
-        let message = message(alloc, what, specifiers)?;
+    for (place, &(what, specifiers, taker)) in TAKEN.iter().enumerate() {
         assert_eq!(rt;
-            routed(alloc, &set, &common, false, Target::Token(0), message)?,
-            (route, 0, what),
+            sent(
+                alloc,
+                &set,
+                &common,
+                false,
+                Target::Token(0),
+                what,
+                specifiers
+            )?,
+            (taken_as(taker), 0, what),
             "row {place}"
         );
     }
@@ -99,9 +113,8 @@ fn a_property_comes_first_and_what_is_built_in_last(rt: HostRuntime) -> Result<(
     ];
     for (property, what, specifiers, taker) in rows {
         let set = with_reactions(alloc, property)?;
-        let message = message(alloc, what, specifiers)?;
         assert_eq!(rt;
-            routed(alloc, &set, &common, false, Target::Preferred, message)?,
+            sent(alloc, &set, &common, false, PREFERRED, what, specifiers)?,
             (deliver(0, taker), 0, what)
         );
     }
@@ -113,54 +126,53 @@ fn some_are_taken_with_any_number_of_specifiers(rt: HostRuntime) -> Result<(), F
     let alloc = rt.alloc();
     let set = demo(alloc)?;
     let common = FilterList::new(alloc);
-    let built_in = deliver(0, Taker::BuiltIn);
-    let lost = Route::NotUnderstood;
     let rows: [(bool, Code, &[u8], Route); 8] = [
-        (false, Code::QUIT_REQUESTED, b"C.", built_in),
-        (false, Code::QUIT_REQUESTED, b"C.C.", built_in),
-        (true, Code::READY_TO_RUN, b"C.", built_in),
-        (false, Code::READY_TO_RUN, b"C.", lost),
-        (true, Code::ARGV_RECEIVED, b"C.C.", built_in),
-        (false, Code::ARGV_RECEIVED, b"C.C.", lost),
-        (false, Code::SUITES, b"C.", lost),
-        (true, Code::SUITES, b"C.C.", lost),
+        (false, Code::QUIT_REQUESTED, b"C.", BUILT_IN),
+        (false, Code::QUIT_REQUESTED, b"C.C.", BUILT_IN),
+        (true, Code::READY_TO_RUN, b"C.", BUILT_IN),
+        (false, Code::READY_TO_RUN, b"C.", LOST),
+        (true, Code::ARGV_RECEIVED, b"C.C.", BUILT_IN),
+        (false, Code::ARGV_RECEIVED, b"C.C.", LOST),
+        (false, Code::SUITES, b"C.", LOST),
+        (true, Code::SUITES, b"C.C.", LOST),
     ];
     for (own, what, specifiers, route) in rows {
-        let message = message(alloc, what, specifiers)?;
         assert_eq!(rt;
-            routed(alloc, &set, &common, own, Target::Token(0), message)?,
+            sent(
+                alloc,
+                &set,
+                &common,
+                own,
+                Target::Token(0),
+                what,
+                specifiers
+            )?,
             (route, 0, what)
         );
     }
     Ok(())
 }
 
+// The looper with `Count`, and `a` with `Title` and a reaction on `PING`.
+fn with_a(alloc: Global) -> Result<HandlerSet<Held>, Fail> {
+    let mut set = looper(alloc, Code(0))?;
+    set.add(text(alloc, b"a")?, holding(alloc, b"Title", PING)?)?;
+    Ok(set)
+}
+
 #[test]
 fn a_removed_handler_gets_nothing(rt: HostRuntime) -> Result<(), Fail> {
     let alloc = rt.alloc();
-    let mut set = HandlerSet::new(
-        alloc,
-        text(alloc, b"demo")?,
-        holding(alloc, b"Count", Code(0))?,
-    )?;
-    set.add(text(alloc, b"a")?, holding(alloc, b"Title", PING)?)?;
+    let mut set = with_a(alloc)?;
     let common = FilterList::new(alloc);
     let first = Target::Token(1);
-    let before = message(alloc, PING, b"")?;
-    assert_eq!(rt;
-        routed(alloc, &set, &common, false, first, before)?,
-        (deliver(1, Taker::Reaction(0)), 0, PING)
-    );
-    assert_eq!(rt; set.remove(1).is_ok(), true);
-    let after = message(alloc, PING, b"")?;
-    assert_eq!(rt;
-        routed(alloc, &set, &common, false, first, after)?,
-        (Route::Dropped, 0, PING)
-    );
-    let count = message(alloc, Code::GET, b"C.")?;
-    assert_eq!(rt;
-        routed(alloc, &set, &common, false, Target::Preferred, count)?,
-        (deliver(0, Taker::Property(0)), 0, Code::GET)
-    );
+    let reaction = deliver(1, Taker::Reaction(0));
+    let before = sent(alloc, &set, &common, false, first, PING, b"")?;
+    same(&rt, before, (reaction, 0, PING), "a handler that is there");
+    same(&rt, set.remove(1).is_ok(), true, "the removal");
+    let after = sent(alloc, &set, &common, false, first, PING, b"")?;
+    same(&rt, after, (Route::Dropped, 0, PING), "a removed handler");
+    let count = sent(alloc, &set, &common, false, PREFERRED, Code::GET, b"C.")?;
+    same(&rt, count, (AT_LOOPER, 0, Code::GET), "the looper");
     Ok(())
 }

@@ -2,19 +2,24 @@
 ghost use Rattle.std.specs.Prelude.{◌≡◌, false};
 ghost use Rattle.std.specs.Arc.{arc_value};
 
+use super::same;
 use super::shared::{add_to, await_count, look};
-use super::tally::Tally;
+use super::tally::{Count, Tally};
 use crate::{Book, Clock, Seat, TurnLock};
-use ak_base::ThreadId;
+use ak_base::{NoMemory, ThreadId};
 use std::alloc::Global;
+use std::process::Abort;
 use std::sync::{Arc, Wait};
 use std::test::Fail;
 use std::thread;
 use std::thread::yield_now;
 
-#[test]
-fn seats_split_call_and_join(rt: HostRuntime) -> Result<(), Fail> {
-    let alloc: Global = rt.alloc();
+// How many entries were seen: by main's seat after it waited for a call, and by a seat that is split off then; the
+// entry of the call, and the tally.
+fn split_call_and_join<R: Wait + Abort>(
+    rt: &R,
+    alloc: Global,
+) -> Result<([u64; 2], Count, Tally), NoMemory> {
     let (lock, mut main) = TurnLock::new(alloc, Tally::new(alloc), ThreadId(0))?;
     let mut head = lock.split_head(&mut main, ThreadId(1));
     let mut third = lock.split(&mut head, ThreadId(2));
@@ -22,19 +27,25 @@ fn seats_split_call_and_join(rt: HostRuntime) -> Result<(), Fail> {
         thread: ThreadId(2),
         time: 6,
     };
-    let count = add_to(&rt, &lock, &mut third, &mut clock, 40)?;
-    assert_eq!(rt; count.stamp, 7);
-    assert_eq!(rt; third.seen(), 1);
-    assert_eq!(rt; main.seen(), 0);
-    await_count(&rt, &lock, &mut main, 1);
-    assert_eq!(rt; main.seen(), 1);
+    let count = add_to(rt, &lock, &mut third, &mut clock, 40)?;
+    let called = (count.stamp, third.seen(), main.seen());
+    same(rt, called, (7, 1, 0), "the call");
+    await_count(rt, &lock, &mut main, 1);
+    let waited = main.seen();
     lock.join(&mut main, head);
     lock.join(&mut main, third);
     let mut fourth = lock.split(&mut main, ThreadId(3));
-    assert_eq!(rt; look(&rt, &lock, &mut fourth), 1);
-    let tally = lock.lock(&rt, &mut main).keep();
-    assert_eq!(rt; tally.len(), 1);
-    assert_eq!(rt; tally.entry(0)?, Some(count));
+    let looked = look(rt, &lock, &mut fourth);
+    let tally = lock.lock(rt, &mut main).keep();
+    Ok(([waited, looked], count, tally))
+}
+
+#[test]
+fn seats_split_call_and_join(rt: HostRuntime) -> Result<(), Fail> {
+    let (seen, count, tally) = split_call_and_join(&rt, rt.alloc())?;
+    same(&rt, seen, [1, 1], "the seats");
+    same(&rt, tally.len(), 1, "the tally");
+    same(&rt, tally.entry(0)?, Some(count), "its entry");
     Ok(())
 }
 

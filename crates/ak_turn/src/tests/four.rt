@@ -209,19 +209,26 @@ fn are_numbered(made: &Vec<Count>) -> bool {
         .all(|(place, count)| count.number == place as u64)
 }
 
+// Whether the stamps rise, and each entry is of one of the four.
+fn stamps_rise(tally: &Tally) -> Result<bool, Fail> {
+    let mut stamp = 0;
+    for place in 0..4000 {
+        let count = tally.entry(place)?.ok_or("an entry")?;
+        if count.stamp <= stamp || count.by.0 < 1 || count.by.0 > 4 {
+            return Ok(false);
+        }
+        stamp = count.stamp;
+    }
+    Ok(true)
+}
+
 #[test]
 fn four_threads_add_a_thousand_each(rt: HostRuntime) -> Result<(), Fail> {
     let tale = four_threads(&rt, rt.alloc(), 1000)?;
-    assert_eq!(rt; tale.tally.len(), 4000);
     for made in [&tale.first, &tale.second, &tale.third, &tale.fourth] {
-        assert_eq!(rt; made.len(), 1000);
-        assert!(rt; are_numbered(made));
+        assert_eq!(rt; (made.len(), are_numbered(made)), (1000, true));
     }
-    let mut stamp = 0;
-    for place in 0..4000 {
-        let count = tale.tally.entry(place)?.ok_or("an entry")?;
-        assert!(rt; count.stamp > stamp && count.by.0 >= 1 && count.by.0 <= 4);
-        stamp = count.stamp;
-    }
+    assert_eq!(rt; tale.tally.len(), 4000);
+    assert!(rt; stamps_rise(&tale.tally)?);
     Ok(())
 }
