@@ -7,14 +7,32 @@ mod address;
 mod fault;
 mod field_ref;
 mod kind;
+mod line;
+mod lines;
+mod marks;
 mod message;
+mod payload;
+mod pieces;
+mod quoted;
+mod read_fault;
+mod reading;
 mod specifier;
+mod words;
 
 pub use address::{Address, Target};
 pub use fault::{AddFault, FindFault, RemoveFault, ReplaceFault};
 pub use field_ref::FieldRef;
 pub use kind::Kind;
+pub use line::{Line, Word};
+pub use lines::{
+    INPUT_LIMIT, InputLines, LineFault, LinesFault, pieces_are_the_input, split_lines,
+};
 pub use message::{
     DEPTH_LIMIT, FIELD_LIMIT, Field, Message, VALUE_LIMIT, Value, added_values_are_found,
 };
+pub use payload::ints_are_read;
+pub use quoted::{raws_are_read, texts_are_read};
+pub use read_fault::ReadFault;
+pub use reading::{read_message, read_quoted, read_value, read_values, split_field};
 pub use specifier::{At, AtRef, Specifier, SpecifierRef};
+pub use words::{WordsFault, one_line, split_words};

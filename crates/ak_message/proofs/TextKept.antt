@@ -1,0 +1,46 @@
+-- Which bytes in quotes are a text.
+use Rattle.std.proofs.Common.{◌≡◌, ℕ, suc, ◌<◌, ◌≤◌, true, false, eqb, List, [], ◌∷◌, length, Option, Some, None, Result, refl, subst, zero, arith}
+use Rattle.std.specs.Prelude.{Contains, IsUtf8}
+use Rattle.std.specs.List.{list_any}
+use Rattle.std.specs.Str.{is_utf8}
+use Rattle.std.proofs.lemmas.Bool.{le-leb, ne_eqb, eq-eqb, or_from, or_parts, true_from_ne_false, lt-leb}
+use Rattle.std.proofs.lemmas.Str.{IsUtf8-from_is_utf8}
+use Rattle.ak_base.specs.Text.{IsText}
+use Rattle.ak_message.specs.declared.kind.Kind.TheVariants as k
+use Rattle.ak_message.specs.Message.{text_value}
+use Rattle.ak_message.specs.Payload.{unquoted}
+use Rattle.ak_message.specs.Reading.{got, over, text_of, text_got, text_from}
+use Rattle.ak_message.specs.declared.read_fault.ReadFault.{ReadFault}
+use Rattle.ak_message.specs.ReadSeen.{Gives}
+
+no_zero : (bytes : List ℕ) → list_any (λ b. eqb b 0) bytes ≡ false → Contains bytes 0 → ⊥
+no_zero [] none c = omega (arith, c.1)
+no_zero (b ∷ bytes) none (zero, lt, is) = let e = eq-eqb b 0 is in let n = (or_parts (eqb b 0) (list_any (λ x. eqb x 0) bytes) none).0 in absurd cc
+no_zero (b ∷ bytes) none (suc i, lt, is) = no_zero bytes (or_parts (eqb b 0) (list_any (λ x. eqb x 0) bytes) none).1 (i, omega arith, is)
+
+zero_in : (bytes : List ℕ) → (Contains bytes 0 → ⊥) → list_any (λ b. eqb b 0) bytes ≡ false
+zero_in [] none = refl
+zero_in (b ∷ bytes) none =
+    or_from _ _ (ne_eqb b 0 (λ e. none (0, omega arith, e))) (zero_in bytes (λ c. none (suc c.0, omega (arith, c.1), c.2)))
+
+pub text_ok : (bytes : List ℕ) → is_utf8 bytes ≡ true → IsText bytes → text_of bytes ≡ Some (got (text_value bytes))
+text_ok bytes utf8 h = rw (utf8, le-leb _ _ h.0.0, zero_in bytes h.0.1) refl
+
+pub text_long : (bytes : List ℕ) → is_utf8 bytes ≡ true → 1024 < length bytes → text_of bytes ≡ Some (over k.Text)
+text_long bytes utf8 long = rw (utf8, lt-leb _ _ long) refl
+
+pub text_zero : (bytes : List ℕ) → is_utf8 bytes ≡ true → length bytes ≤ 1024 → Contains bytes 0 → text_of bytes ≡ None
+text_zero bytes utf8 short found =
+    let some : list_any (λ b. eqb b 0) bytes ≡ true = true_from_ne_false (list_any (λ b. eqb b 0) bytes) (λ e. no_zero bytes e found) in
+    rw (utf8, le-leb _ _ short, some) refl
+
+pub text_bad : (bytes : List ℕ) → is_utf8 bytes ≡ true → (IsUtf8 bytes → ⊥) → text_of bytes ≡ None
+text_bad bytes utf8 bad = absurd (bad (IsUtf8-from_is_utf8 bytes utf8))
+
+pub ruleset texts = (text_ok, text_long, text_zero, text_bad)
+
+-- what stands in the quotes decides
+pub text_reads : (text bytes seen_bytes : List ℕ) (r : Result (Option (List ℕ)) ReadFault) → unquoted text ≡ Some bytes → seen_bytes ≡ bytes → Gives text_got r (text_of seen_bytes) → Gives text_got r (text_from text)
+unfolding text_from
+text_reads text bytes seen_bytes r is same given =
+    rw is (subst (λ (b : List ℕ). Gives text_got r (text_of b)) same given)

@@ -1,0 +1,574 @@
+//! Reads values, fields and messages in an input. Messages in messages are read as deep as they may stand.
+
+ghost use Rattle.std.specs.Prelude.{◌≡◌, ◌≢◌, ◌<◌, ◌≤◌, length, map, filter, None, Some, Err, option_map, IfSome, IfOk, OnErr};
+ghost use Rattle.std.specs.List.{list_any};
+ghost use Rattle.std.specs.Str.{bytes_eq};
+ghost use Rattle.ak_message.specs.ReadSeen.{Gives, GivesValue, GivesText, GivesMessage, GivesValues, seen, pair_of, got_of, got_values_of, built_of};
+ghost use Rattle.ak_message.specs.Reading as reads;
+ghost use Rattle.ak_message.specs.Seen.{value_of};
+ghost use Rattle.ak_message.specs.Kind.{is_same_kind};
+ghost use Rattle.ak_message.specs.Payload.{kind_before};
+
+use crate::fault::AddFault;
+use crate::kind::Kind;
+use crate::line::Word;
+use crate::message::{DEPTH_LIMIT, FIELD_LIMIT, Message, VALUE_LIMIT, Value};
+use crate::payload;
+use crate::pieces::{Separator, braced, pieces_of};
+use crate::quoted::{raw_from, unquoted};
+use crate::read_fault::ReadFault;
+use crate::words::is_utf8;
+use ak_base::{Code, NoMemory, Raw, RawFault, Text, TextFault, is_word};
+use std::alloc::Global;
+
+/// What a text is read as: its kind, and the value where it passes no limit.
+#[derive(Drop)]
+struct ReadValue {
+    kind: Kind,
+    value: Option<Value>,
+}
+
+/// The values of a field: their kind, and the values where they pass no limit.
+#[derive(Drop)]
+struct ReadValues {
+    kind: Kind,
+    values: Option<Vec<Value>>,
+}
+
+/// A message as far as it is read: the names of its fields, the first 64 of them, and the message itself
+/// where it passes no limit.
+#[derive(Drop)]
+struct Building<'a> {
+    names: Vec<&'a [u8]>,
+    message: Option<Message>,
+}
+
+/// The value that a word writes: the letters of its kind, a colon and its payload; or for short a whole
+/// number in decimal, which is an `Int32`, `true` or `false`, or a text in quotes. A message has its text in
+/// braces, with one space or tab or more between its parts. The faults are tested in the order of
+/// `ReadFault`. Of a message that stands in 16 others, which passes the limit, the parts are not read.
+pub fn read_value(alloc: Global, word: &[u8]) -> Result<Value, ReadFault>
+    ensures { GivesValue result (reads.read_value word.now) }
+{
+    kept(value(alloc, DEPTH_LIMIT, word)?)
+}
+
+// The value, where it passes no limit.
+fn kept(read: ReadValue) -> Result<Value, ReadFault>
+    ensures { GivesValue result (Some (got_of read)) }
+{
+    match read.value {
+        Some(value) => Ok(value),
+        None => Err(ReadFault::Limit),
+    }
+}
+
+/// The values of a field: one or more, all of one kind, with a comma between each two. The faults are tested
+/// in the order of `ReadFault`.
+pub fn read_values(alloc: Global, text: &[u8]) -> Result<Vec<Value>, ReadFault>
+    ensures { GivesValues result (reads.read_values text.now) }
+{
+    kept_values(values(alloc, DEPTH_LIMIT - 1, text)?)
+}
+
+// The values, where they pass no limit.
+fn kept_values(read: ReadValues) -> Result<Vec<Value>, ReadFault>
+    ensures { GivesValues result (Some (got_values_of read)) }
+{
+    match read.values {
+        Some(values) => Ok(values),
+        None => Err(ReadFault::Limit),
+    }
+}
+
+/// The message that the words of a line write: a code, and then a field in each, which is a name, `=` and its
+/// values. The faults are tested in the order of `ReadFault`.
+pub fn read_message(alloc: Global, words: &[Word]) -> Result<Message, ReadFault>
+    ensures { GivesMessage result (reads.read_message (map (λ word. word.bytes) words.now)) }
+{
+    let texts = texts_of(alloc, words)?;
+    kept_message(message_of(alloc, DEPTH_LIMIT - 1, &texts)?)
+}
+
+// The message, where it passes no limit.
+fn kept_message(message: Option<Message>) -> Result<Message, ReadFault>
+    ensures { GivesMessage result (Some message) }
+{
+    match message {
+        Some(message) => Ok(message),
+        None => Err(ReadFault::Limit),
+    }
+}
+
+/// The text that a word writes, in quotes. The faults are tested in the order of `ReadFault`.
+pub fn read_quoted(alloc: Global, word: &[u8]) -> Result<Text, ReadFault>
+    ensures { GivesText result (reads.text_from word.now) }
+{
+    match text_within(alloc, word)? {
+        Some(text) => Ok(text),
+        None => Err(ReadFault::Limit),
+    }
+}
+
+/// The name of a field and what follows the first `=`. None where what stands before it is no name, or where
+/// there is none.
+#[tactic(auto, unfolding(crate::specs::Reading::field_split))]
+pub fn split_field(word: &[u8]) -> Option<(&[u8], &[u8])>
+    ensures { option_map pair_of result ≡ reads.field_split word.now }
+{
+    let place = equals_in(word)?;
+    let name = &word[..place];
+    if is_word(name) {
+        Some((name, &word[place + 1..]))
+    } else {
+        None
+    }
+}
+
+fn equals_in(word: &[u8]) -> Option<usize>
+    ensures place { result ≡ reads.equals_in word.now }
+    ensures within { IfSome result (λ place. place < length word.now) }
+{
+    word.iter().position(|b| *b == b'=')
+}
+
+fn texts_of(alloc: Global, words: &[Word]) -> Result<Vec<&[u8]>, NoMemory>
+    ensures { IfOk result (λ texts. map seen texts.items ≡ map (λ word. word.bytes) words.now) }
+{
+    let mut texts = Vec::new(alloc);
+    for word in words {
+        texts.push(word.bytes.as_slice())?;
+    }
+    Ok(texts)
+}
+
+// ---- values that are no message
+
+// One that passes a limit.
+fn over(kind: Kind) -> ReadValue
+    ensures { got_of result ≡ reads.over kind }
+{
+    ReadValue { kind, value: None }
+}
+
+fn got(value: Value) -> ReadValue
+    ensures { got_of result ≡ reads.got (value_of value) }
+{
+    ReadValue {
+        kind: value.kind(),
+        value: Some(value),
+    }
+}
+
+fn value_or_fault(value: Option<Value>) -> Result<ReadValue, ReadFault>
+    ensures { Gives got_of result (option_map reads.got (option_map value_of value)) }
+{
+    match value {
+        Some(value) => Ok(got(value)),
+        None => Err(ReadFault::BadValue),
+    }
+}
+
+// A value without the letters of its kind.
+#[tactic(auto, unfolding(crate::specs::Reading::short_from))]
+fn short(alloc: Global, text: &[u8]) -> Result<ReadValue, ReadFault>
+    ensures { Gives got_of result (reads.short_from text.now) }
+{
+    if text.first() == Some(&b'"') {
+        return text_value(alloc, text);
+    }
+    if let Some(value) = payload::bool_from(text) {
+        return Ok(got(Value::Bool(value)));
+    }
+    match payload::int32_from(text) {
+        Some(number) => Ok(got(Value::Int32(number))),
+        None => Err(ReadFault::BadValue),
+    }
+}
+
+// A payload that takes no memory.
+#[tactic(auto, unfolding(crate::specs::Reading::small_from))]
+fn small(kind: Kind, text: &[u8]) -> Option<Value>
+    ensures { option_map value_of result ≡ reads.small_from kind text.now }
+{
+    match kind {
+        Kind::Bool => Some(Value::Bool(payload::bool_from(text)?)),
+        Kind::Int8 => Some(Value::Int8(payload::int8_from(text)?)),
+        Kind::Int16 => Some(Value::Int16(payload::int16_from(text)?)),
+        Kind::Int32 => Some(Value::Int32(payload::int32_from(text)?)),
+        Kind::Int64 => Some(Value::Int64(payload::int64_from(text)?)),
+        Kind::UInt8 => Some(Value::UInt8(payload::uint8_from(text)?)),
+        Kind::UInt16 => Some(Value::UInt16(payload::uint16_from(text)?)),
+        Kind::UInt32 => Some(Value::UInt32(payload::uint32_from(text)?)),
+        Kind::UInt64 => Some(Value::UInt64(payload::uint64_from(text)?)),
+        Kind::Messenger => Some(Value::Messenger(payload::address_from(text)?)),
+        Kind::Text | Kind::Message | Kind::Raw => None,
+    }
+}
+
+fn text_value(alloc: Global, text: &[u8]) -> Result<ReadValue, ReadFault>
+    ensures { Gives got_of result (reads.text_from text.now) }
+{
+    match text_within(alloc, text)? {
+        Some(text) => Ok(got(Value::Text(text))),
+        None => Ok(over(Kind::Text)),
+    }
+}
+
+// The text in quotes, where it is not too long.
+#[tactic(auto, unfolding(crate::specs::Reading::text_from))]
+fn text_within(alloc: Global, text: &[u8]) -> Result<Option<Text>, ReadFault>
+    ensures { Gives reads.text_got result (reads.text_from text.now) }
+{
+    let bytes = unquoted(alloc, text)?;
+    text_of(alloc, bytes.as_slice())
+}
+
+// The text of these bytes, where they are not too many.
+#[tactic(auto, using(crate::proofs::TextKept::texts))]
+fn text_of(alloc: Global, bytes: &[u8]) -> Result<Option<Text>, ReadFault>
+    ensures { Gives reads.text_got result (reads.text_of bytes.now) }
+{
+    if !is_utf8(bytes) {
+        return Err(ReadFault::BadValue);
+    }
+    match Text::from_bytes(alloc, bytes) {
+        Ok(text) => Ok(Some(text)),
+        Err(TextFault::TooLong) => Ok(None),
+        Err(TextFault::NoMemory) => Err(ReadFault::NoMemory),
+        Err(TextFault::NotUtf8) => Err(ReadFault::BadValue),
+        Err(TextFault::Zero) => Err(ReadFault::BadValue),
+    }
+}
+
+#[tactic(auto, unfolding(crate::specs::Reading::raw_value_from))]
+fn raw_value(alloc: Global, text: &[u8]) -> Result<ReadValue, ReadFault>
+    ensures { Gives got_of result (reads.raw_value_from text.now) }
+{
+    let bytes = raw_from(alloc, text)?;
+    match Raw::from_bytes(alloc, bytes.as_slice()) {
+        Ok(raw) => Ok(got(Value::Raw(raw))),
+        Err(RawFault::TooLong) => Ok(over(Kind::Raw)),
+        Err(RawFault::NoMemory) => Err(ReadFault::NoMemory),
+    }
+}
+
+// ---- messages
+
+#[cycle(values)]
+fn value(alloc: Global, levels: u32, text: &[u8]) -> Result<ReadValue, ReadFault>
+    requires { levels ≤ 16 }
+    ensures { Gives got_of result (reads.value_with (reads.message_from levels) text.now) }
+{
+    match payload::kind_before(text) {
+        Some(kind) => payload_value(alloc, levels, kind, &text[payload::LETTERS_LEN..]),
+        None => short(alloc, text),
+    }
+}
+
+#[cycle(values)]
+fn payload_value(
+    alloc: Global,
+    levels: u32,
+    kind: Kind,
+    text: &[u8],
+) -> Result<ReadValue, ReadFault>
+    requires { levels ≤ 16 }
+    ensures { Gives got_of result (reads.payload_from (reads.message_from levels) kind text.now) }
+{
+    if kind == Kind::Message {
+        message(alloc, levels, text)
+    } else if kind == Kind::Text {
+        text_value(alloc, text)
+    } else if kind == Kind::Raw {
+        raw_value(alloc, text)
+    } else {
+        value_or_fault(small(kind, text))
+    }
+}
+
+// A message's text in braces.
+#[cycle(values)]
+#[tactic(auto, unfolding(crate::specs::Reading::message_from))]
+fn message(alloc: Global, levels: u32, text: &[u8]) -> Result<ReadValue, ReadFault>
+    requires { levels ≤ 16 }
+    ensures { Gives got_of result (reads.message_from levels text.now) }
+{
+    let Some(body) = braced(text) else {
+        return Err(ReadFault::BadValue);
+    };
+    let words = words_of(alloc, body)?;
+    if levels == 0 {
+        return Ok(over(Kind::Message));
+    }
+    match message_of(alloc, levels - 1, &words)? {
+        Some(message) => Ok(got(Value::from_message(alloc, message)?)),
+        None => Ok(over(Kind::Message)),
+    }
+}
+
+// The words of a message's text: one blank or more stand between them, and none before or behind them.
+#[tactic(auto, unfolding(crate::specs::Reading::words_of))]
+fn words_of(alloc: Global, body: &[u8]) -> Result<Vec<&[u8]>, ReadFault>
+    ensures { Gives (λ words. map seen words.items) result (reads.words_of body.now) }
+{
+    let pieces = pieces_of(alloc, Separator::Blank, body)?;
+    if is_blank_at_an_end(&pieces) {
+        return Err(ReadFault::BadValue);
+    }
+    Ok(filled(alloc, &pieces)?)
+}
+
+// The pieces that are not empty.
+fn filled<'a>(alloc: Global, pieces: &[&'a [u8]]) -> Result<Vec<&'a [u8]>, NoMemory>
+    ensures { IfOk result (λ words. map seen words.items ≡ filter reads.is_some_bytes (map seen pieces.now)) }
+{
+    let mut words = Vec::new(alloc);
+    for piece in pieces {
+        if !piece.is_empty() {
+            words.push(*piece)?;
+        }
+    }
+    Ok(words)
+}
+
+fn is_blank_at_an_end(pieces: &[&[u8]]) -> bool
+    ensures { result ≡ reads.is_blank_at_an_end (map seen pieces.now) }
+{
+    is_missing(pieces.first()) || is_missing(pieces.last())
+}
+
+fn is_missing(piece: Option<&&[u8]>) -> bool
+    ensures { result ≡ reads.is_missing (option_map (λ p. p.now.now) piece.entry) }
+{
+    match piece {
+        Some(piece) => piece.is_empty(),
+        None => true,
+    }
+}
+
+#[cycle(values)]
+#[tactic(auto, unfolding(crate::specs::Reading::message_of))]
+fn message_of(alloc: Global, levels: u32, words: &[&[u8]]) -> Result<Option<Message>, ReadFault>
+    requires { levels ≤ 15 }
+    ensures { Gives (λ m. m) result (reads.message_of (reads.message_from levels) (map seen words.now)) }
+{
+    let Some((first, fields)) = words.split_first() else {
+        return Err(ReadFault::BadValue);
+    };
+    let Some(what) = code_from(first) else {
+        return Err(ReadFault::BadValue);
+    };
+    let mut building = Building {
+        names: Vec::new(alloc),
+        message: Some(Message::new(alloc, what)),
+    };
+    for word in fields {
+        building = field(alloc, levels, building, word)?;
+    }
+    Ok(building.message)
+}
+
+fn code_from(word: &[u8]) -> Option<Code>
+    ensures { option_map (λ c. c.0) result ≡ reads.code_from word.now }
+{
+    match Code::read(word) {
+        Some(code) => Some(code),
+        None => None,
+    }
+}
+
+// The message with one field more.
+#[cycle(values)]
+#[tactic(auto, unfolding(crate::specs::Reading::field_behind))]
+fn field<'a>(
+    alloc: Global,
+    levels: u32,
+    building: Building<'a>,
+    word: &'a [u8],
+) -> Result<Building<'a>, ReadFault>
+    requires { levels ≤ 15 }
+    ensures { Gives built_of result (reads.field_behind (reads.message_from levels) (built_of building.entry) word.now) }
+{
+    let Some((name, text)) = split_field(word) else {
+        return Err(ReadFault::BadValue);
+    };
+    let begun = begin(building, name)?;
+    let texts = pieces_of(alloc, Separator::Comma, text)?;
+    let Building { names, message } = begun;
+    let message = add_values(alloc, levels, message, name, &texts)?;
+    Ok(Building { names, message })
+}
+
+// A field begins. Its name has to be a new one.
+fn begin<'a>(building: Building<'a>, name: &'a [u8]) -> Result<Building<'a>, ReadFault>
+    ensures { Gives built_of result (reads.field_begun (built_of building.entry) name.now) }
+{
+    let Building { mut names, message } = building;
+    if names.len() >= FIELD_LIMIT {
+        return Ok(Building {
+            names,
+            message: None,
+        });
+    }
+    if has_name(&names, name) {
+        return Err(ReadFault::BadValue);
+    }
+    names.push(name)?;
+    Ok(Building { names, message })
+}
+
+// The message with the values of these texts, all of one kind, added under that name.
+#[cycle(values)]
+fn add_values(
+    alloc: Global,
+    levels: u32,
+    message: Option<Message>,
+    name: &[u8],
+    texts: &[&[u8]],
+) -> Result<Option<Message>, ReadFault>
+    requires { levels ≤ 15 }
+    ensures { Gives (λ m. m) result (reads.values_added (reads.message_from levels) name.now (map seen texts.now) None message) }
+{
+    let mut message = message;
+    let mut kind = None;
+    for text in texts {
+        let read = value(alloc, levels, text)?;
+        if !fits(kind, read.kind) {
+            return Err(ReadFault::BadValue);
+        }
+        kind = Some(read.kind);
+        message = with_value(message, name, read.value)?;
+    }
+    Ok(message)
+}
+
+fn fits(first: Option<Kind>, kind: Kind) -> bool
+    ensures { result ≡ reads.fits first kind }
+{
+    match first {
+        Some(first) => kind == first,
+        None => true,
+    }
+}
+
+// The message with one value more, where it has room for it.
+fn with_value(
+    message: Option<Message>,
+    name: &[u8],
+    value: Option<Value>,
+) -> Result<Option<Message>, ReadFault>
+    ensures added { IfOk result (λ m. m ≡ reads.with_value message name.now (option_map value_of value)) }
+    ensures only { OnErr result (result ≡ Err ReadFault.NoMemory) }
+{
+    let Some(mut message) = message else {
+        return Ok(None);
+    };
+    let Some(value) = value else {
+        return Ok(None);
+    };
+    match message.add(name, value) {
+        Ok(()) => Ok(Some(message)),
+        Err(fault) => not_added(fault),
+    }
+}
+
+// The value passes a limit, unless memory ran out.
+fn not_added(fault: AddFault) -> Result<Option<Message>, ReadFault>
+    ensures kept { IfOk result (λ m. (m ≡ None) × (fault ≢ AddFault.NoMemory)) }
+    ensures only { OnErr result (result ≡ Err ReadFault.NoMemory) }
+{
+    match fault {
+        AddFault::NoMemory => Err(ReadFault::NoMemory),
+        AddFault::BadName | AddFault::BadType | AddFault::FieldLimit | AddFault::TooDeep => Ok(
+            None,
+        ),
+    }
+}
+
+// One value or more.
+#[tactic(auto, unfolding(crate::specs::Reading::values_of))]
+fn values(alloc: Global, levels: u32, text: &[u8]) -> Result<ReadValues, ReadFault>
+    requires { levels ≤ 15 }
+    ensures { Gives got_values_of result (reads.values_with (reads.message_from levels) text.now) }
+{
+    let pieces = pieces_of(alloc, Separator::Comma, text)?;
+    let Some((first, others)) = pieces.split_first() else {
+        return Err(ReadFault::BadValue);
+    };
+    let read = first_values(alloc, value(alloc, levels, first)?)?;
+    further_values(alloc, levels, read, others)
+}
+
+fn further_values(
+    alloc: Global,
+    levels: u32,
+    read: ReadValues,
+    texts: &[&[u8]],
+) -> Result<ReadValues, ReadFault>
+    requires { levels ≤ 15 }
+    ensures { Gives got_values_of result (reads.values_behind (reads.message_from levels) (map seen texts.now) (got_values_of read)) }
+{
+    let mut read = read;
+    for text in texts {
+        let one = value(alloc, levels, text)?;
+        read = read.with(one)?;
+    }
+    Ok(read)
+}
+
+// The values so far and one more, at most 255.
+fn joined(values: Option<Vec<Value>>, value: Option<Value>) -> Result<Option<Vec<Value>>, ReadFault>
+    ensures joined { IfOk result (λ all. option_map (λ vs. map value_of vs.items) all
+        ≡ reads.joined (option_map (λ vs. map value_of vs.items) values) (option_map value_of value)) }
+    ensures only { OnErr result (result ≡ Err ReadFault.NoMemory) }
+{
+    let Some(mut values) = values else {
+        return Ok(None);
+    };
+    let Some(value) = value else {
+        return Ok(None);
+    };
+    if values.len() >= VALUE_LIMIT {
+        return Ok(None);
+    }
+    values.push(value)?;
+    Ok(Some(values))
+}
+
+fn first_values(alloc: Global, first: ReadValue) -> Result<ReadValues, ReadFault>
+    ensures first { IfOk result (λ read. got_values_of read ≡ reads.first_values (got_of first)) }
+    ensures only { OnErr result (result ≡ Err ReadFault.NoMemory) }
+{
+    let ReadValue { kind, value } = first;
+    Ok(ReadValues {
+        kind,
+        values: joined(Some(Vec::new(alloc)), value)?,
+    })
+}
+
+impl ReadValues {
+    // One value more, which has to be of the same kind.
+    fn with(self, read: ReadValue) -> Result<ReadValues, ReadFault>
+        ensures { Gives got_values_of result (reads.more_values (got_values_of self) (got_of read)) }
+    {
+        let ReadValues { kind, values } = self;
+        let ReadValue { kind: other, value } = read;
+        if other != kind {
+            return Err(ReadFault::BadValue);
+        }
+        Ok(ReadValues {
+            kind,
+            values: joined(values, value)?,
+        })
+    }
+}
+
+fn has_name(names: &[&[u8]], name: &[u8]) -> bool
+    ensures { result ≡ list_any (λ other. bytes_eq other name.now) (map seen names.now) }
+{
+    names.iter().any(|other| *other == name)
+}
+
+#[cfg(test)]
+mod tests;

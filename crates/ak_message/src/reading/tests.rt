@@ -1,0 +1,482 @@
+use super::*;
+use crate::address::{Address, Target};
+use crate::words::split_words;
+use ak_base::{Bytes, Items};
+use std::fmt::Debug;
+use std::process::Abort;
+use std::test::Fail;
+
+// The two are the same.
+fn same<T: PartialEq + Debug + Copy>(rt: &impl Abort, got: T, told: T, label: &str) {
+    assert_eq!(rt; got, told, "at {label}");
+}
+
+// The number of a value that is one, and 1 for true.
+fn number_of(value: &Value) -> Option<i128> {
+    match value {
+        Value::Bool(x) => Some(i128::from(*x)),
+        Value::Int8(x) => Some(i128::from(*x)),
+        Value::Int16(x) => Some(i128::from(*x)),
+        Value::Int32(x) => Some(i128::from(*x)),
+        Value::Int64(x) => Some(i128::from(*x)),
+        Value::UInt8(x) => Some(i128::from(*x)),
+        Value::UInt16(x) => Some(i128::from(*x)),
+        Value::UInt32(x) => Some(i128::from(*x)),
+        Value::UInt64(x) => Some(i128::from(*x)),
+        _ => None,
+    }
+}
+
+fn number_read(alloc: Global, text: &[u8]) -> Result<(Kind, Option<i128>), ReadFault> {
+    let value = read_value(alloc, text)?;
+    Ok((value.kind(), number_of(&value)))
+}
+
+#[test]
+fn numbers_are_read(rt: HostRuntime) {
+    for (text, kind, number) in [
+        ("BOOL:true", Kind::Bool, 1),
+        ("BOOL:false", Kind::Bool, 0),
+        ("true", Kind::Bool, 1),
+        ("false", Kind::Bool, 0),
+        ("BYTE:-128", Kind::Int8, -128),
+        ("BYTE:127", Kind::Int8, 127),
+        ("SHRT:-32768", Kind::Int16, -32_768),
+        ("SHRT:32767", Kind::Int16, 32_767),
+        ("LONG:-2147483648", Kind::Int32, -2_147_483_648),
+        ("2147483647", Kind::Int32, 2_147_483_647),
+        ("0", Kind::Int32, 0),
+        ("-5", Kind::Int32, -5),
+        (
+            "LLNG:-9223372036854775808",
+            Kind::Int64,
+            -9_223_372_036_854_775_808,
+        ),
+        (
+            "LLNG:9223372036854775807",
+            Kind::Int64,
+            9_223_372_036_854_775_807,
+        ),
+        ("UBYT:0", Kind::UInt8, 0),
+        ("UBYT:255", Kind::UInt8, 255),
+        ("USHT:65535", Kind::UInt16, 65_535),
+        ("ULNG:0", Kind::UInt32, 0),
+        ("ULNG:4294967295", Kind::UInt32, 4_294_967_295),
+        ("ULLG:0", Kind::UInt64, 0),
+        (
+            "ULLG:18446744073709551615",
+            Kind::UInt64,
+            18_446_744_073_709_551_615,
+        ),
+    ] {
+        let read = number_read(rt.alloc(), text.as_bytes());
+        same(&rt, read, Ok((kind, Some(number))), text);
+    }
+}
+
+fn address_read(alloc: Global, text: &[u8]) -> Result<Option<Address>, ReadFault> {
+    match read_value(alloc, text)? {
+        Value::Messenger(address) => Ok(Some(address)),
+        _ => Ok(None),
+    }
+}
+
+#[test]
+fn addresses_are_read(rt: HostRuntime) {
+    for (text, looper, target) in [
+        ("MSNG:0.p", 0, Target::Preferred),
+        ("MSNG:4294967295.0", 4_294_967_295, Target::Token(0)),
+        ("MSNG:7.18446744073709551615", 7, Target::Token(u64::MAX)),
+    ] {
+        let read = address_read(rt.alloc(), text.as_bytes());
+        same(&rt, read, Ok(Some(Address { looper, target })), text);
+    }
+}
+
+// The bytes of a text or a raw value.
+fn bytes_of(value: &Value) -> Option<&[u8]> {
+    match value {
+        Value::Text(text) => Some(text.as_bytes()),
+        Value::Raw(raw) => Some(raw.as_bytes()),
+        _ => None,
+    }
+}
+
+#[test]
+fn texts_and_raw_values_are_read(rt: HostRuntime) -> Result<(), Fail> {
+    let rows: [(&[u8], &[u8]); 8] = [
+        (b"CSTR:\"\"", b""),
+        (b"\"a b,c{[\"", b"a b,c{["),
+        (b"\"\\\"\\\\\\x01\\x0a\\x1f\\x7f\"", b"\"\\\x01\x0a\x1f\x7f"),
+        (b"CSTR:\"p\xc3\xa9\"", b"p\xc3\xa9"),
+        (b"\"'\"", b"'"),
+        (b"RAWT:", b""),
+        (b"RAWT:00ff7e", b"\x00\xff\x7e"),
+        (b"RAWT:41", b"A"),
+    ];
+    for (text, wanted) in rows {
+        let value = read_value(rt.alloc(), text)?;
+        assert_eq!(rt; bytes_of(&value), Some(wanted), "at {text:?}");
+    }
+    Ok(())
+}
+
+#[test]
+fn texts_in_quotes_are_read(rt: HostRuntime) -> Result<(), Fail> {
+    let text = read_quoted(rt.alloc(), b"\"x\\\"y\"")?;
+    assert_eq!(rt; text.as_bytes(), b"x\"y".as_slice());
+    Ok(())
+}
+
+fn quoted_fault(alloc: Global, word: &[u8]) -> Option<ReadFault> {
+    read_quoted(alloc, word).err()
+}
+
+#[test]
+fn words_without_quotes_are_refused(rt: HostRuntime) {
+    for word in [b"x".as_slice(), b"CSTR:\"x\"", b"\"x", b"1"] {
+        let fault = quoted_fault(rt.alloc(), word);
+        assert_eq!(rt; fault, Some(ReadFault::BadValue), "at {word:?}");
+    }
+}
+
+fn value_fault(alloc: Global, text: &[u8]) -> Option<ReadFault> {
+    read_value(alloc, text).err()
+}
+
+#[test]
+fn texts_of_no_value_are_refused(rt: HostRuntime) {
+    let rows: [&[u8]; 60] = [
+        b"",
+        b"x",
+        b"BOOL",
+        b"BOOL:",
+        b"BOOL:1",
+        b"BOOL:True",
+        b"TRUE",
+        b"true ",
+        b"truefalse",
+        b"LONG:",
+        b"LONG:+1",
+        b"LONG:01",
+        b"LONG:-0",
+        b"LONG: 1",
+        b"LONG:1 ",
+        b"LONG:2147483648",
+        b"-2147483649",
+        b"BYTE:128",
+        b"BYTE:-129",
+        b"SHRT:32768",
+        b"LLNG:9223372036854775808",
+        b"UBYT:256",
+        b"UBYT:-1",
+        b"USHT:65536",
+        b"ULNG:4294967296",
+        b"ULLG:18446744073709551616",
+        b"long:1",
+        b"LONG;1",
+        b"XXXX:1",
+        b"CSTR:x",
+        b"CSTR:\"x",
+        b"CSTR:\"x\"y",
+        b"\"x\"\"",
+        b"\"\x09\"",
+        b"\"\x7f\"",
+        b"\"\x00\"",
+        b"\"\\a\"",
+        b"\"\\x00\"",
+        b"\"\\x20\"",
+        b"\"\\x7e\"",
+        b"\"\\x0A\"",
+        b"\"\\x0\"",
+        b"\"\\",
+        b"\"\xff\"",
+        b"RAWT:0",
+        b"RAWT:0g",
+        b"RAWT:0A",
+        b"RAWT:0a ",
+        b"MSNG:",
+        b"MSNG:1",
+        b"MSNG:1.",
+        b"MSNG:.p",
+        b"MSNG:1.P",
+        b"MSNG:4294967296.p",
+        b"MSNG:1.-1",
+        b"MSNG:1.p.p",
+        b"MSGG:",
+        b"MSGG:{}",
+        b"MSGG:'abcd'",
+        b"1,2",
+    ];
+    for text in rows {
+        let fault = value_fault(rt.alloc(), text);
+        assert_eq!(rt; fault, Some(ReadFault::BadValue), "at {text:?}");
+    }
+}
+
+fn text_in<'a>(message: &'a Message, name: &[u8], index: u32) -> Option<&'a str> {
+    match message.find(name, Kind::Text, index) {
+        Ok(Value::Text(text)) => Some(text.as_str()),
+        _ => None,
+    }
+}
+
+fn long_in(message: &Message, name: &[u8], index: u32) -> Option<i32> {
+    match message.find(name, Kind::Int32, index) {
+        Ok(Value::Int32(number)) => Some(*number),
+        _ => None,
+    }
+}
+
+fn message_in<'a>(message: &'a Message, index: u32) -> Result<&'a Message, Fail> {
+    match message.find(b"m", Kind::Message, index) {
+        Ok(Value::Message(inner)) => Ok(inner),
+        _ => Err("no message".into()),
+    }
+}
+
+// The words of a line that is not long.
+fn words_of(alloc: Global, line: &[u8]) -> Result<Items<Word>, Fail> {
+    if line.len() > 65_536 {
+        return Err("a long line".into());
+    }
+    Ok(split_words(alloc, line)?)
+}
+
+fn message_of_line(alloc: Global, line: &[u8]) -> Result<Message, Fail> {
+    let words = words_of(alloc, line)?;
+    Ok(read_message(alloc, words.as_slice())?)
+}
+
+fn line_fault(alloc: Global, line: &[u8]) -> Result<Option<ReadFault>, Fail> {
+    let words = words_of(alloc, line)?;
+    Ok(read_message(alloc, words.as_slice()).err())
+}
+
+// The two numbers and the two texts.
+fn has_numbers_and_texts(rt: &impl Abort, message: &Message) {
+    same(rt, long_in(message, b"result", 0), Some(3), "a number");
+    same(rt, long_in(message, b"result", 1), Some(-4), "another");
+    same(rt, text_in(message, b"t", 0), Some("x y"), "a text");
+    same(rt, text_in(message, b"t", 1), Some("z"), "another text");
+}
+
+// The two messages, of which the first has a number.
+fn has_messages(rt: &impl Abort, message: &Message) -> Result<(), Fail> {
+    let first = message_in(message, 0)?;
+    same(rt, first.what(), Code(42), "the code of the first");
+    same(rt, long_in(first, b"n", 0), Some(1), "its number");
+    let second = message_in(message, 1)?;
+    same(rt, second.what(), Code(0x6120_6220), "that of the second");
+    Ok(())
+}
+
+#[test]
+fn messages_are_read(rt: HostRuntime) -> Result<(), Fail> {
+    let message = message_of_line(
+        rt.alloc(),
+        b"'RPLY'  result=LONG:3,-4\t t=\"x y\",CSTR:\"z\" m=MSGG:{0x0000002a \t n=1},MSGG:{'a b '}",
+    )?;
+    let told = (message.what(), message.count_names());
+    same(&rt, told, (Code::REPLY, 3), "the message");
+    has_numbers_and_texts(&rt, &message);
+    has_messages(&rt, &message)
+}
+
+#[test]
+fn a_code_alone_is_a_message(rt: HostRuntime) -> Result<(), Fail> {
+    let message = message_of_line(rt.alloc(), b"'ping'")?;
+    assert_eq!(rt; message.count_names(), 0);
+    Ok(())
+}
+
+#[test]
+fn no_words_are_no_message(rt: HostRuntime) {
+    let fault = read_message(rt.alloc(), &[]).err();
+    assert_eq!(rt; fault, Some(ReadFault::BadValue));
+}
+
+// How many values the text writes.
+fn count_in(alloc: Global, text: &[u8]) -> Result<usize, ReadFault> {
+    Ok(read_values(alloc, text)?.len())
+}
+
+#[test]
+fn values_with_commas_are_read(rt: HostRuntime) {
+    assert_eq!(rt; count_in(rt.alloc(), b"1,2,LONG:3"), Ok(3));
+}
+
+#[test]
+fn fields_are_split_at_the_first_sign(rt: HostRuntime) {
+    let parts = Some((b"a".as_slice(), b"b=c".as_slice()));
+    same(&rt, split_field(b"a=b=c"), parts, "a=b=c");
+    same(&rt, split_field(b"=b"), None, "=b");
+    same(&rt, split_field(b"a"), None, "a");
+}
+
+#[test]
+fn texts_of_no_message_are_refused(rt: HostRuntime) {
+    let rows: [&[u8]; 26] = [
+        b"MSGG:{ 'abcd'}",
+        b"MSGG:{'abcd' }",
+        b"MSGG:{'abcd'",
+        b"MSGG:{'abcd'}}",
+        b"MSGG:{'abcd'} ",
+        b"{'abcd'}",
+        b"MSGG:{'abcde'}",
+        b"MSGG:{abcd}",
+        b"MSGG:{0X00000001}",
+        b"MSGG:{0x0000000A}",
+        b"MSGG:{'abcd' x}",
+        b"MSGG:{'abcd' x=}",
+        b"MSGG:{'abcd' =1}",
+        b"MSGG:{'abcd' x =1}",
+        b"MSGG:{'abcd' x= 1}",
+        b"MSGG:{'abcd' x=1,}",
+        b"MSGG:{'abcd' x=,1}",
+        b"MSGG:{'abcd' x=1,true}",
+        b"MSGG:{'abcd' x=1, 2}",
+        b"MSGG:{'abcd' x=1 x=2}",
+        b"MSGG:{'abcd' x=1 x=true}",
+        b"MSGG:{'abcd' x!=1}",
+        b"MSGG:{'abcd' x=$y}",
+        b"MSGG:{'abcd' x=[1]}",
+        b"MSGG:{'abcd' x=MSGG:{'efgh' y}}",
+        b"MSGG:{'abcd'y=1}",
+    ];
+    for text in rows {
+        let fault = value_fault(rt.alloc(), text);
+        assert_eq!(rt; fault, Some(ReadFault::BadValue), "at {text:?}");
+    }
+}
+
+// The kind of what is read.
+fn kind_read(alloc: Global, text: &[u8]) -> Result<Kind, ReadFault> {
+    Ok(read_value(alloc, text)?.kind())
+}
+
+// A text of so many bytes, in quotes.
+fn quoted(alloc: Global, length: usize) -> Result<Bytes, ReadFault> {
+    let mut text = Bytes::new(alloc);
+    text.push(b'"')?;
+    for _ in 0..length {
+        text.push(b'x')?;
+    }
+    text.push(b'"')?;
+    Ok(text)
+}
+
+fn kind_quoted(alloc: Global, length: usize) -> Result<Kind, ReadFault> {
+    kind_read(alloc, quoted(alloc, length)?.as_slice())
+}
+
+// A field `a` with a text of 1,025 bytes, and this behind it.
+fn behind_a_long_text(alloc: Global, rest: &[u8]) -> Result<Kind, ReadFault> {
+    let mut text = Bytes::new(alloc);
+    text.extend(b"MSGG:{'abcd' a=")?;
+    text.extend(quoted(alloc, 1025)?.as_slice())?;
+    text.extend(rest)?;
+    kind_read(alloc, text.as_slice())
+}
+
+#[test]
+fn texts_are_limited(rt: HostRuntime) {
+    let alloc = rt.alloc();
+    same(&rt, kind_quoted(alloc, 1024), Ok(Kind::Text), "1024 bytes");
+    let limit = Err(ReadFault::Limit);
+    same(&rt, kind_quoted(alloc, 1025), limit, "1025 bytes");
+    // the rest of the word is tested all the same
+    let read = behind_a_long_text(alloc, b" b=1}");
+    same(&rt, read, limit, "another name");
+    let read = behind_a_long_text(alloc, b" a=1}");
+    same(&rt, read, Err(ReadFault::BadValue), "the same name");
+}
+
+// Messages in one another, so many, with this in the last one.
+fn kind_nested(alloc: Global, levels: usize, inner: &[u8]) -> Result<Kind, ReadFault> {
+    kind_read(alloc, nested(alloc, levels, inner)?.as_slice())
+}
+
+// A message in so many others, with this in the last one.
+fn nested(alloc: Global, levels: usize, inner: &[u8]) -> Result<Bytes, ReadFault> {
+    let mut text = Bytes::new(alloc);
+    for _ in 0..levels {
+        text.extend(b"MSGG:{'abcd' m=")?;
+    }
+    text.extend(inner)?;
+    for _ in 0..levels {
+        text.extend(b"}")?;
+    }
+    Ok(text)
+}
+
+#[test]
+fn depth_is_limited(rt: HostRuntime) {
+    let alloc = rt.alloc();
+    let deepest = kind_nested(alloc, 16, b"1");
+    same(&rt, deepest, Ok(Kind::Message), "16 messages");
+    let deeper = kind_nested(alloc, 17, b"1");
+    same(&rt, deeper, Err(ReadFault::Limit), "17 messages");
+    let faulty = kind_nested(alloc, 16, b"x");
+    same(&rt, faulty, Err(ReadFault::BadValue), "no value");
+}
+
+// So many numbers with commas between them, and this behind them.
+fn count_numbers(alloc: Global, count: usize, rest: &[u8]) -> Result<usize, ReadFault> {
+    let mut text = Bytes::new(alloc);
+    text.extend(b"1")?;
+    for _ in 1..count {
+        text.extend(b",1")?;
+    }
+    text.extend(rest)?;
+    count_in(alloc, text.as_slice())
+}
+
+#[test]
+fn values_are_limited(rt: HostRuntime) {
+    let alloc = rt.alloc();
+    same(&rt, count_numbers(alloc, 255, b""), Ok(255), "255 values");
+    let more = count_numbers(alloc, 256, b"");
+    same(&rt, more, Err(ReadFault::Limit), "256 values");
+    let other = count_numbers(alloc, 256, b",true");
+    same(&rt, other, Err(ReadFault::BadValue), "another kind");
+}
+
+// A line with 64 fields, and this behind them.
+fn with_64_fields(alloc: Global, rest: &[u8]) -> Result<Bytes, Fail> {
+    let mut line = Bytes::new(alloc);
+    line.extend(b"'abcd'")?;
+    for i in b'0'..b'8' {
+        for j in b'0'..b'8' {
+            line.extend(&[b' ', b'f', i, j, b'=', b'1'])?;
+        }
+    }
+    line.extend(rest)?;
+    Ok(line)
+}
+
+#[test]
+fn sixty_four_fields_are_read(rt: HostRuntime) -> Result<(), Fail> {
+    let line = with_64_fields(rt.alloc(), b"")?;
+    let message = message_of_line(rt.alloc(), line.as_slice())?;
+    assert_eq!(rt; message.count_names(), 64);
+    Ok(())
+}
+
+// What is answered where this stands behind 64 fields.
+fn fault_behind(alloc: Global, rest: &[u8]) -> Result<Option<ReadFault>, Fail> {
+    line_fault(alloc, with_64_fields(alloc, rest)?.as_slice())
+}
+
+#[test]
+fn fields_are_limited(rt: HostRuntime) -> Result<(), Fail> {
+    for (more, fault) in [
+        (" g=1", ReadFault::Limit),
+        (" g=x", ReadFault::BadValue),
+        (" f00=1", ReadFault::Limit),
+    ] {
+        let answer = fault_behind(rt.alloc(), more.as_bytes())?;
+        same(&rt, answer, Some(fault), more);
+    }
+    Ok(())
+}
