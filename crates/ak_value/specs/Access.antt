@@ -1,5 +1,5 @@
 -- What a command does to the elements of a property, what it answers, and why it is refused.
-use Rattle.std.specs.Prelude.{◌≡◌, ◌≢◌, ℕ, pos, ◌+◌, ◌==◌, ◌&&◌, ◌||◌, Bool, true, false, nat_lt, if◌then◌else◌, List, [], ◌∷◌, ◌++◌, length, map, codes, Option, None, Some, Result, Ok, Err}
+use Rattle.std.specs.Prelude.{◌≡◌, ◌≢◌, ℕ, pos, ◌==◌, ◌||◌, Bool, true, false, if◌then◌else◌, List, [], ◌∷◌, length, map, codes, Option, None, Some, Result, Ok, Err}
 use Rattle.ak_base.specs.Code.{code_of}
 use Rattle.ak_message.specs.declared.kind.Kind.{Kind}
 use Rattle.ak_message.specs.declared.kind.Kind.TheVariants as k
@@ -11,7 +11,8 @@ use Rattle.ak_message.specs.Message.{ValueData, FieldData, MessageData, text_val
 use Rattle.ak_message.specs.Fields.{field_named, found_in}
 use Rattle.ak_value.specs.declared.fault.ElementFault.{ElementFault}
 use Rattle.ak_value.specs.declared.fault.ElementFault.TheVariants as fault
-use Rattle.ak_value.specs.Elements.{ElementData, ElementsData}
+use Rattle.ak_value.specs.Elements.{ElementData, ElementsData, with_last}
+pub use Rattle.ak_value.specs.Elements.{has_room}
 use Rattle.ak_value.specs.Choice.{Part, part_of, elements_in, with_part, chosen}
 
 -- the elements after a command, and the values that it answers, if it answers any
@@ -101,15 +102,7 @@ count e = answered e (int32_value (pos (length e.list)) ∷ [])
 
 -- a new last one, with the next id, which is answered
 abbrev pub create : ElementsData → List ℕ → ValueData → Accessed
-create e name value =
-    record {
-      elements = record e { list = e.list ++ (record { name = name; id = e.next_id; value = value }) ∷ []; next_id = e.next_id + 1 };
-      values = Some (int32_value (pos e.next_id) ∷ []);
-    }
-
--- there are fewer than 64 elements, and an id is left
-abbrev pub has_room : ElementsData → Bool
-has_room e = nat_lt (length e.list) 64 && nat_lt e.next_id 2147483647
+create e name value = record { elements = with_last e name value; values = Some (int32_value (pos e.next_id) ∷ []) }
 
 -- what is made of it, unless it is refused
 abbrev pub then_do : {A B : Type 0} → Result A ElementFault → (A → Result B ElementFault) → Result B ElementFault

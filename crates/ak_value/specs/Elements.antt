@@ -1,5 +1,5 @@
 -- The elements of a property: what contracts see of them, and what is always true of them.
-use Rattle.std.specs.Prelude.{◌≡◌, ℕ, ◌+◌, ◌<◌, ◌≤◌, nat_lt, if◌then◌else◌, List, [], ◌∷◌, length, All, AllPairs, Option, None, Some, refl}
+use Rattle.std.specs.Prelude.{◌≡◌, ℕ, ◌+◌, ◌<◌, ◌≤◌, Bool, ◌&&◌, nat_lt, if◌then◌else◌, List, [], ◌∷◌, ◌++◌, length, All, AllPairs, Option, None, Some, refl}
 use Rattle.std.specs.Coded.{Coded, code_by, coded×, coded_list, coded_ℕ}
 use Rattle.ak_message.specs.declared.kind.Kind.{Kind}
 use Rattle.ak_message.specs.Kind.{is_same_kind, coded_kind}
@@ -37,6 +37,21 @@ numbered id (x ∷ xs) = (record { name = x.0; id = id; value = x.1 }) ∷ numbe
 -- the described elements have the ids from 1 on
 abbrev pub described : Kind → List (List ℕ × ValueData) → ElementsData
 described kind xs = record { kind = kind; list = numbered 1 xs; next_id = length xs + 1 }
+
+-- ---- one more element
+-- there are fewer than 64 elements, and an id is left
+abbrev pub has_room : ElementsData → Bool
+has_room e = nat_lt (length e.list) 64 && nat_lt e.next_id 2147483647
+
+-- another kind, and then that there is no room
+abbrev pub add_fault : ElementsData → Kind → Option ElementFault
+add_fault e kind =
+    if is_same_kind e.kind kind then (if has_room e then None else Some fault.ElementLimit) else Some fault.BadType
+
+-- a new last one, with the next id
+abbrev pub with_last : ElementsData → List ℕ → ValueData → ElementsData
+with_last e name value =
+    record e { list = e.list ++ (record { name = name; id = e.next_id; value = value }) ∷ []; next_id = e.next_id + 1 }
 
 -- ---- the first element
 abbrev pub first_value : List ElementData → Option ValueData

@@ -5,13 +5,13 @@ ghost use Rattle.ak_message.specs.Seen.{value_of};
 ghost use Rattle.ak_message.specs.Specifier.{at_of};
 ghost use Rattle.ak_value.specs.declared.fault.ElementFault.{ElementFault};
 ghost use Rattle.ak_value.specs.declared.fault.ElementFault.TheVariants as fault;
-ghost use Rattle.ak_value.specs.Access.{access_of, on_chosen, get, set_chosen, count, delete, create_last, data_of, name_of, has_form, has_room, Refuses, with_value};
+ghost use Rattle.ak_value.specs.Access.{access_of, on_chosen, get, set_chosen, count, delete, create_last, data_of, name_of, has_form, Refuses, with_value};
 ghost use Rattle.ak_value.specs.Choice.{elements_in, with_part};
 ghost use Rattle.ak_value.specs.Elements.{ElementData};
 ghost use Rattle.ak_value.specs.Seen.{answer_of, element_of, elements_of_list, part_seen};
 
 use crate::choice::{Part, chosen};
-use crate::elements::{ELEMENT_LIMIT, Element, Elements, ID_LIMIT};
+use crate::elements::{Element, Elements, push_element};
 use crate::fault::ElementFault;
 use ak_base::{Code, Items, NoMemory, Text};
 use ak_message::{AtRef, FindFault, Kind, Message, Value};
@@ -145,13 +145,6 @@ impl Elements {
         remove_from(&mut self.list, part);
         Ok(None)
     }
-
-    // Whether one more element may be created.
-    fn has_room(&self) -> bool
-        ensures { result ≡ has_room self.now }
-    {
-        self.list.len() < ELEMENT_LIMIT && self.next_id < ID_LIMIT
-    }
 }
 
 // One 32-bit number.
@@ -221,8 +214,7 @@ fn push_copy(list: &mut Vec<Element>, name: Text, id: u32, value: &Value) -> Res
     ensures err { OnErr result (elements_of_list list.new.items ≡ elements_of_list list.old.items) }
 {
     let value = value.try_clone(*list.allocator())?;
-    list.push(Element { name, id, value })?;
-    Ok(())
+    push_element(list, name, id, value)
 }
 
 fn copied(alloc: Global, elements: &[Element]) -> Result<Items<Value>, NoMemory>

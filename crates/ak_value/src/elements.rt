@@ -1,7 +1,7 @@
-ghost use Rattle.std.specs.Prelude.{◌≡◌, ◌≤◌, length, Err, All, IfOk, IfSome, IfNone, IsOk, OnOk, OnErr, option_map};
+ghost use Rattle.std.specs.Prelude.{◌≡◌, ◌≤◌, [], ◌∷◌, ◌++◌, length, Err, All, IfOk, IfSome, IfNone, IsOk, IsOkUnless, OnOk, OnErr, option_map};
 ghost use Rattle.ak_message.specs.Message.{kind_of};
 ghost use Rattle.ak_message.specs.Seen.{value_of};
-ghost use Rattle.ak_value.specs.Elements.{described, first_value, set_first_fault, with_first};
+ghost use Rattle.ak_value.specs.Elements.{described, has_room, add_fault, with_last, first_value, set_first_fault, with_first};
 ghost use Rattle.ak_value.specs.Seen.{element_of, elements_of_list, pairs_of};
 
 use crate::fault::ElementFault;
@@ -71,6 +71,34 @@ impl Elements {
             list: elements,
             next_id,
         })
+    }
+
+    /// Adds an element at the end, with the next id; one without a name has the empty one. `BadType` where the
+    /// value is of another kind, and then `ElementLimit` where there are 64 elements or no id is left. An
+    /// `Err` changes nothing, and the name and the value are dropped.
+    pub fn add(&mut self, name: Text, value: Value) -> Result<(), ElementFault>
+        ensures refused { IfSome (add_fault self.old (kind_of (value_of value))) (λ f. result ≡ Err f) }
+        ensures only { IfNone (add_fault self.old (kind_of (value_of value))) (IsOkUnless result ElementFault.NoMemory) }
+        ensures ok { OnOk result (self.new ≡ with_last self.old name (value_of value)) }
+        ensures err { OnErr result (self.new ≡ self.old) }
+    {
+        if self.kind != value.kind() {
+            return Err(ElementFault::BadType);
+        }
+        if !self.has_room() {
+            return Err(ElementFault::ElementLimit);
+        }
+        let id = self.next_id;
+        push_element(&mut self.list, name, id, value)?;
+        self.next_id = id + 1;
+        Ok(())
+    }
+
+    // Whether one more element may be created.
+    pub(crate) fn has_room(&self) -> bool
+        ensures { result ≡ has_room self.now }
+    {
+        self.list.len() < ELEMENT_LIMIT && self.next_id < ID_LIMIT
     }
 
     /// Equal elements, with the same ids and the same next one.
@@ -149,4 +177,19 @@ fn copied(alloc: Global, elements: &[Element]) -> Result<Vec<Element>, NoMemory>
         copies.push(element.try_clone(alloc)?)?;
     }
     Ok(copies)
+}
+
+// Adds an element. After an `Err` the elements are seen as they were.
+pub(crate) fn push_element(
+    list: &mut Vec<Element>,
+    name: Text,
+    id: u32,
+    value: Value,
+) -> Result<(), NoMemory>
+    ensures ok { OnOk result (elements_of_list list.new.items
+        ≡ elements_of_list list.old.items ++ (record { name = name; id = id; value = value_of value }) ∷ []) }
+    ensures err { OnErr result (elements_of_list list.new.items ≡ elements_of_list list.old.items) }
+{
+    list.push(Element { name, id, value })?;
+    Ok(())
 }

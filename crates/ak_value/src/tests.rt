@@ -497,6 +497,62 @@ fn each_form_deletes(rt: HostRuntime) -> Result<(), Fail> {
     Ok(())
 }
 
+// Adds a number under that name.
+fn add_number(
+    alloc: Global,
+    elements: &mut Elements,
+    name: &[u8],
+    number: i32,
+) -> Result<Result<(), ElementFault>, Fail> {
+    let name = Text::from_bytes(alloc, name)?;
+    Ok(elements.add(name, Value::Int32(number)))
+}
+
+#[test]
+fn elements_are_added(rt: HostRuntime) -> Result<(), Fail> {
+    let alloc = rt.alloc();
+    let mut elements = none_yet(alloc)?;
+    let names: [(&[u8], i32); 3] = [(b"a", 10), (b"", 20), (b"a", 30)];
+    for (name, number) in names {
+        let added = add_number(alloc, &mut elements, name, number)?;
+        same(&rt, number, added, Ok(()));
+    }
+    let other = elements.add(Text::from_bytes(alloc, b"b")?, Value::Bool(true));
+    same(&rt, "kind", other, Err(BadType));
+    consist(
+        &rt,
+        "added",
+        &elements,
+        &[("a", 1, 10), ("", 2, 20), ("a", 3, 30)],
+    );
+    let rows = [
+        (Code::DELETE, Id(3), Bare, Nothing),
+        (Code::CREATE, Name("d"), Number(40), Numbers(&[4])),
+    ];
+    are_answered(&rt, alloc, "elements", &mut elements, &rows)?;
+    let added = add_number(alloc, &mut elements, b"e", 50)?;
+    same(&rt, "last", added, Ok(()));
+    consist(
+        &rt,
+        "then",
+        &elements,
+        &[("a", 1, 10), ("", 2, 20), ("d", 4, 40), ("e", 5, 50)],
+    );
+    Ok(())
+}
+
+#[test]
+fn added_elements_are_limited(rt: HostRuntime) -> Result<(), Fail> {
+    let alloc = rt.alloc();
+    let mut elements = all_that_fit(&rt, alloc)?;
+    let added = add_number(alloc, &mut elements, b"", 7)?;
+    same(&rt, "more", added, Err(ElementLimit));
+    let other = elements.add(Text::from_bytes(alloc, b"")?, Value::Bool(true));
+    same(&rt, "kind", other, Err(BadType));
+    same(&rt, "len", elements.len(), 64);
+    Ok(())
+}
+
 // As many elements as there may be.
 fn all_that_fit(rt: &impl Abort, alloc: Global) -> Result<Elements, Fail> {
     let mut elements = none_yet(alloc)?;
