@@ -19,6 +19,7 @@ IsWork (work.Turns threads) = (1 ≤ threads) × (threads ≤ 8)
 IsWork work.LongTurn = Unit {0}
 IsWork (work.Port shape) = IsPortShape shape
 IsWork work.Ask = Unit {0}
+IsWork (work.Describe apps) = (1 ≤ apps) × (apps ≤ 16)
 
 abbrev pub status_of : BenchFault → ℕ
 status_of fault.Refused = 5

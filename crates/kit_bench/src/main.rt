@@ -10,9 +10,12 @@
 //! while another one takes them, and prints `port CAPACITY WRITERS N taken T`, where T is how many were taken.
 //! `kit_bench ask N` has one thread ask another N times, and prints `ask N replies R`, where R is how many replies
 //! came. `bench/ports` times both.
+//! `kit_bench describe APPS N` reads N times the lines of so many applications, each with 8 loopers of 64 handlers
+//! and 64 KiB long, and prints `describe APPS N loopers L`, where L is how many loopers were read. `bench/descriptions`
+//! times it.
 //!
 //! NAME is `ask`, `reply`, `deep` or `raw`, HANDLERS is 1 to 64, FILTERS is 0 to 32, THREADS and WRITERS are 1 to 8,
-//! CAPACITY is 1 to 1,000, and N is 1 to 10,000,000. At other words it prints how it is used, and ends with status 1. The status is 4 where the line
+//! CAPACITY is 1 to 1,000, APPS is 1 to 16, and N is 1 to 10,000,000. At other words it prints how it is used, and ends with status 1. The status is 4 where the line
 //! cannot be written, 5 where a message or a handler is refused, which happens to none of these, and 6 where memory
 //! runs out.
 #![tactic(auto)]
@@ -22,6 +25,7 @@ ghost use Rattle.kit_bench.specs.Order.{IsShape, IsWork, status_of};
 ghost use Rattle.kit_bench.specs.Ports.{IsPortShape};
 
 mod asks;
+mod descriptions;
 mod fault;
 mod held;
 mod port_seats;
@@ -31,12 +35,14 @@ mod samples;
 mod tally;
 mod turns;
 
+use ak_describe::APP_LIMIT;
 use ak_filter::FILTER_LIMIT;
 use ak_flatten::{flatten, unflatten};
 use ak_handler::HANDLER_LIMIT;
 use ak_message::Message;
 use ak_port::CAPACITY_LIMIT;
 use asks::count_replies;
+use descriptions::loopers_read;
 use fault::BenchFault;
 use ports::{PortShape, count_taken};
 use routes::{Shape, deliveries};
@@ -70,6 +76,8 @@ enum Work {
     Port(PortShape),
     /// Questions that are answered.
     Ask,
+    /// Lines of so many applications that are read.
+    Describe(u32),
 }
 
 /// What the words ask for.
@@ -129,6 +137,9 @@ fn read_work(words: &[String]) -> Option<Work>
             Some(Work::Port(read_port(capacity.as_str(), writers.as_str())?))
         }
         [first] if first.as_str() == "ask" => Some(Work::Ask),
+        [first, apps] if first.as_str() == "describe" => {
+            Some(Work::Describe(read_number(apps.as_str(), 1, APP_LIMIT as u32)?))
+        }
         _ => None,
     }
 }
@@ -185,7 +196,7 @@ fn checksum(alloc: Global, sample: Sample, rounds: u32) -> Result<u64, BenchFaul
 
 fn print_usage(rt: &impl Print) -> io::Result<()> {
     println!(rt;
-        "usage: kit_bench flat ask|reply|deep|raw N\n       kit_bench route HANDLERS FILTERS N\n       kit_bench turn THREADS|wait N\n       kit_bench port CAPACITY WRITERS N\n       kit_bench ask N"
+        "usage: kit_bench flat ask|reply|deep|raw N\n       kit_bench route HANDLERS FILTERS N\n       kit_bench turn THREADS|wait N\n       kit_bench port CAPACITY WRITERS N\n       kit_bench ask N\n       kit_bench describe APPS N"
     )
 }
 
@@ -273,6 +284,13 @@ fn time_asks<R: Print + AllocGlobal + Threads + Wait + Sync>(rt: &R, asks: u32) 
     }
 }
 
+fn time_descriptions(rt: &(impl Print + AllocGlobal), apps: u32, rounds: u32) -> u8 {
+    match loopers_read(rt.alloc(), apps, rounds) {
+        Ok(count) => written(println!(rt; "describe {apps} {rounds} loopers {count}"), 0),
+        Err(fault) => faulted(fault),
+    }
+}
+
 fn main(rt: HostRuntime) -> ExitCode {
     let status = match given_order(&rt) {
         Ok(Some(order)) => match order.work {
@@ -282,6 +300,7 @@ fn main(rt: HostRuntime) -> ExitCode {
             Work::LongTurn => time_wait(&rt, order.rounds),
             Work::Port(shape) => time_port(&rt, shape, order.rounds),
             Work::Ask => time_asks(&rt, order.rounds),
+            Work::Describe(apps) => time_descriptions(&rt, apps, order.rounds),
         },
         Ok(None) => written(print_usage(&rt), 1),
         Err(_) => 6,

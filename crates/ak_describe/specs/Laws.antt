@@ -1,0 +1,38 @@
+-- What holds of all lines: what is read is what they describe, and what is told is their first fault.
+use Rattle.std.specs.Prelude.{◌≡◌, ◌↔◌, ◌⊎◌, ℕ, List, Ok, Err}
+use Rattle.ak_base.specs.declared.ending.RefusalKind.{RefusalKind}
+use Rattle.ak_message.specs.declared.line.Line.{Line}
+use Rattle.ak_describe.specs.declared.described.AppText.{AppText}
+use Rattle.ak_describe.specs.declared.fault.DescribeFault.{DescribeFault}
+use Rattle.ak_describe.specs.declared.fault.DescribeFault.TheVariants as answer
+use Rattle.ak_describe.specs.Description.{description}
+use Rattle.ak_describe.specs.Describes.{Describes, FirstFault}
+use Rattle.ak_describe.specs.Pass.{Refusal}
+
+-- exactly what lines describe is read of them
+abbrev pub DescribedIsRead : Type 0
+DescribedIsRead = (lines : List Line) (apps : List AppText) → (description lines ≡ Ok apps) ↔ Describes lines apps
+
+-- exactly their first fault is told of them
+abbrev pub FirstFaultIsTold : Type 0
+FirstFaultIsTold = (lines : List Line) (r : Refusal) → (description lines ≡ Err r) ↔ FirstFault lines r.line r.kind
+
+-- ---- lines describe applications, or have a first fault, and not both; what they describe is one, and so is their first fault
+abbrev pub OneOfBoth : Type 0
+OneOfBoth = (lines : List Line) → ((apps : List AppText) × Describes lines apps) ⊎ ((r : Refusal) × FirstFault lines r.line r.kind)
+
+abbrev pub NotBoth : Type 0
+NotBoth = (lines : List Line) (apps : List AppText) (r : Refusal) → Describes lines apps → FirstFault lines r.line r.kind → ⊥
+
+abbrev pub OneDescription : Type 0
+OneDescription = (lines : List Line) (apps others : List AppText) → Describes lines apps → Describes lines others → apps ≡ others
+
+abbrev pub OneFirstFault : Type 0
+OneFirstFault =
+    (lines : List Line) (number other : ℕ) (kind another : RefusalKind) → FirstFault lines number kind → FirstFault lines other another
+    → (number ≡ other) × (kind ≡ another)
+
+-- a refusal is the first fault
+abbrev pub IsFirstFault : List Line → DescribeFault → Type 0
+IsFirstFault lines (answer.Refused line kind) = FirstFault lines line kind
+IsFirstFault lines answer.NoMemory = Unit {0}

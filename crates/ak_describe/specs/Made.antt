@@ -1,0 +1,110 @@
+-- Values in a line: of what passes a limit nothing is kept.
+use Rattle.std.specs.Prelude.{ℕ, Bool, true, ◌&&◌, ◌==◌, nat_le, if◌then◌else◌, is_none, List, [], ◌∷◌, length, Option, Some, None, option_map}
+use Rattle.std.specs.List.{starts_with}
+use Rattle.ak_message.specs.declared.kind.Kind.{Kind}
+use Rattle.ak_message.specs.declared.kind.Kind.TheVariants as k
+use Rattle.ak_message.specs.Kind.{is_same_kind}
+use Rattle.ak_message.specs.Message.{ValueData, bool_value, int8_value, int16_value, int32_value, int64_value, uint8_value, uint16_value, uint32_value, uint64_value, text_value, message_value, messenger_value, raw_value}
+use Rattle.ak_message.specs.Message as message
+use Rattle.ak_message.specs.Payload.{where_true}
+use Rattle.ak_message.specs.Reading as reading
+use Rattle.ak_message.specs.Words.{◌>>=◌}
+use Rattle.ak_flatten.specs.Spelling.{value_bytes}
+use Rattle.ak_action.specs.declared.number.Number.{Number}
+use Rattle.ak_action.specs.Number.{number_of, number_kind}
+use Rattle.ak_action.specs.Values.{ValuesData, one_value, with_last, depth_fault, push_fault}
+
+-- ---- texts
+abbrev pub text_bytes : ValueData → Option (List ℕ)
+text_bytes (text_value bytes) = Some bytes
+text_bytes (bool_value _) = None
+text_bytes (int8_value _) = None
+text_bytes (int16_value _) = None
+text_bytes (int32_value _) = None
+text_bytes (int64_value _) = None
+text_bytes (uint8_value _) = None
+text_bytes (uint16_value _) = None
+text_bytes (uint32_value _) = None
+text_bytes (uint64_value _) = None
+text_bytes (message_value _ _ _) = None
+text_bytes (messenger_value _) = None
+text_bytes (raw_value _) = None
+
+abbrev pub text_in : reading.Got → Option (List ℕ)
+text_in g = g.value >>= text_bytes
+
+-- a text in quotes
+abbrev pub quoted_from : List ℕ → Option (Option (List ℕ))
+quoted_from word = option_map text_in (reading.text_from word)
+
+-- ---- one value
+-- the value that a word writes
+abbrev pub value_from : List ℕ → Option (Option ValueData)
+value_from word = option_map (λ (g : reading.Got). g.value) (reading.read_value word)
+
+abbrev pub begins_as : ℕ → List ℕ → Bool
+begins_as letter word = starts_with ◌==◌ word (letter ∷ [])
+
+-- the kind of a value that passes a limit, by the first letter: `M` for messages, `R` for raw values, or else a text
+abbrev pub kind_over : List ℕ → Kind
+kind_over word = if begins_as 77 word then k.Message else if begins_as 82 word then k.Raw else k.Text
+
+abbrev pub kind_read : Option ValueData → List ℕ → Kind
+kind_read None word = kind_over word
+kind_read (Some v) word = message.kind_of v
+
+-- a value of that kind
+unfoldable pub value_of_kind : Kind → List ℕ → Option (Option ValueData)
+value_of_kind kind word = reading.read_value word >>= λ g. where_true (is_same_kind g.kind kind) g.value
+
+-- the same for words of bytes, where the first letter tells the kind of what passes a limit
+unfoldable pub value_by_letter : Kind → List ℕ → Option (Option ValueData)
+value_by_letter kind word = value_from word >>= λ v. where_true (is_same_kind (kind_read v word) kind) v
+
+-- a number of that kind, which no limit is for
+abbrev pub number_of_kind : Kind → ValueData → Option Number
+number_of_kind kind v = number_of v >>= λ n. where_true (is_same_kind (number_kind n) kind) n
+
+unfoldable pub number_from : Kind → List ℕ → Option Number
+number_from kind word = value_from word >>= λ v. v >>= number_of_kind kind
+
+-- ---- values of a field
+-- with one value more, where a field can hold it
+abbrev pub with_value : Option ValuesData → ValueData → Option ValuesData
+with_value None v = where_true (is_none (depth_fault v)) (one_value v)
+with_value (Some vs) v = where_true (is_none (push_fault vs v)) (with_last vs v)
+
+unfoldable pub values_of : Option ValuesData → List ValueData → Option (Option ValuesData)
+values_of all [] = Some all
+values_of all (v ∷ vs) = with_value all v >>= λ more. values_of (Some more) vs
+
+abbrev pub values_kept : Option (List ValueData) → Option (Option ValuesData)
+values_kept None = Some None
+values_kept (Some vs) = values_of None vs
+
+unfoldable pub values_from : List ℕ → Option (Option ValuesData)
+values_from text = option_map (λ (g : reading.GotValues). g.values) (reading.read_values text) >>= values_kept
+
+-- ---- one value alone, of any kind
+-- whether it is no message of over 4,096 bytes
+abbrev pub is_short : ValueData → Bool
+is_short (message_value what fields popped) = nat_le (length (value_bytes (message_value what fields popped))) 4096
+is_short (bool_value _) = true
+is_short (int8_value _) = true
+is_short (int16_value _) = true
+is_short (int32_value _) = true
+is_short (int64_value _) = true
+is_short (uint8_value _) = true
+is_short (uint16_value _) = true
+is_short (uint32_value _) = true
+is_short (uint64_value _) = true
+is_short (text_value _) = true
+is_short (messenger_value _) = true
+is_short (raw_value _) = true
+
+-- a message that is too long, or that no message can hold, passes a limit
+abbrev pub one_kept : ValueData → Option ValuesData
+one_kept v = where_true (is_short v && is_none (depth_fault v)) (one_value v)
+
+unfoldable pub one_from : List ℕ → Option (Option ValuesData)
+one_from word = option_map (λ (v : Option ValueData). v >>= one_kept) (value_from word)

@@ -1,0 +1,196 @@
+//! Values, and what of them passes a limit.
+
+ghost use Rattle.std.specs.Prelude.{◌≡◌, None, Some, option_map};
+ghost use Rattle.ak_message.specs.Seen.{value_of};
+ghost use Rattle.ak_describe.specs.Answers.{Gives};
+ghost use Rattle.ak_describe.specs.Faults as faults;
+ghost use Rattle.ak_describe.specs.Made as reads;
+ghost use Rattle.ak_describe.specs.Seen.{values_seen};
+
+use crate::fault::FormFault;
+use ak_action::{Number, Values, ValuesFault};
+use ak_base::Text;
+use ak_flatten::{FLAT_LIMIT, flat_len};
+use ak_message::{Kind, ReadFault, Value, read_quoted, read_value, read_values};
+use std::alloc::Global;
+
+/// What was read, or `None` where it passes a limit.
+fn kept<T>(read: Result<T, ReadFault>) -> Result<Option<T>, FormFault>
+    ensures { result ≡ faults.kept read }
+{
+    match read {
+        Ok(got) => Ok(Some(got)),
+        Err(ReadFault::Limit) => Ok(None),
+        Err(ReadFault::BadValue) => Err(FormFault::BadValue),
+        Err(ReadFault::NoMemory) => Err(FormFault::NoMemory),
+    }
+}
+
+/// A text in quotes.
+pub(crate) fn quoted_from(alloc: Global, word: &[u8]) -> Result<Option<Text>, FormFault>
+    ensures { Gives (λ t. t) result (reads.quoted_from word.now) }
+{
+    kept(read_quoted(alloc, word))
+}
+
+// The value that a word writes.
+fn value_from(alloc: Global, word: &[u8]) -> Result<Option<Value>, FormFault>
+    ensures { Gives (option_map value_of) result (reads.value_from word.now) }
+{
+    kept(read_value(alloc, word))
+}
+
+/// A value of that kind, which is not the one of messages.
+#[tactic(auto, unfolding(crate::specs::Made::value_of_kind))]
+pub(crate) fn value_of_kind(
+    alloc: Global,
+    kind: Kind,
+    word: &[u8],
+) -> Result<Option<Value>, FormFault>
+    ensures { Gives (option_map value_of) result (reads.value_of_kind kind word.now) }
+{
+    let value = value_from(alloc, word)?;
+    if kind_read(&value, word) == kind {
+        Ok(value)
+    } else {
+        Err(FormFault::BadValue)
+    }
+}
+
+// The kind of what a word writes.
+fn kind_read(value: &Option<Value>, word: &[u8]) -> Kind
+    ensures { result ≡ reads.kind_read (option_map value_of value.now) word.now }
+{
+    match value {
+        Some(value) => value.kind(),
+        None => kind_over(word),
+    }
+}
+
+// The kind of a value that passes a limit, by the first letter: a text, a raw value or a message.
+fn kind_over(word: &[u8]) -> Kind
+    ensures { result ≡ reads.kind_over word.now }
+{
+    if word.starts_with(b"M") {
+        Kind::Message
+    } else if word.starts_with(b"R") {
+        Kind::Raw
+    } else {
+        Kind::Text
+    }
+}
+
+/// The values of a field, all of one kind.
+#[tactic(auto, unfolding(crate::specs::Made::values_from))]
+pub(crate) fn values_from(alloc: Global, text: &[u8]) -> Result<Option<Values>, FormFault>
+    ensures { Gives (λ v. v) result (reads.values_from text.now) }
+{
+    match kept(read_values(alloc, text))? {
+        Some(values) => values_of(alloc, values),
+        None => Ok(None),
+    }
+}
+
+// Values that one field may hold.
+#[tactic(auto, unfolding(crate::specs::Made::values_of))]
+fn values_of(alloc: Global, values: Vec<Value>) -> Result<Option<Values>, FormFault>
+    ensures { Gives (λ v. v) result (reads.values_of None (values_seen values.items)) }
+{
+    let mut all = None;
+    for value in values {
+        all = Some(with_value(alloc, all, value)?);
+    }
+    Ok(all)
+}
+
+fn with_value(alloc: Global, values: Option<Values>, value: Value) -> Result<Values, FormFault>
+    ensures { Gives (λ v. v) result (reads.with_value values (value_of value)) }
+{
+    match values {
+        Some(mut values) => {
+            held(values.push(value))?;
+            Ok(values)
+        }
+        None => held(Values::one(alloc, value)),
+    }
+}
+
+fn held<T>(outcome: Result<T, ValuesFault>) -> Result<T, FormFault>
+    ensures { result ≡ faults.held outcome }
+{
+    match outcome {
+        Ok(got) => Ok(got),
+        Err(ValuesFault::NoMemory) => Err(FormFault::NoMemory),
+        Err(ValuesFault::BadType | ValuesFault::ValueLimit | ValuesFault::TooDeep) => Err(
+            FormFault::BadValue,
+        ),
+    }
+}
+
+/// One value alone, of any kind.
+#[tactic(auto, unfolding(crate::specs::Made::one_from))]
+pub(crate) fn one_from(alloc: Global, word: &[u8]) -> Result<Option<Values>, FormFault>
+    ensures { Gives (λ v. v) result (reads.one_from word.now) }
+{
+    match value_from(alloc, word)? {
+        Some(value) => one_kept(alloc, value),
+        None => Ok(None),
+    }
+}
+
+// The value, where it is no message that is too long or that no message can hold.
+fn one_kept(alloc: Global, value: Value) -> Result<Option<Values>, FormFault>
+    ensures { Gives (λ v. v) result (Some (reads.one_kept (value_of value))) }
+{
+    if !is_short(&value) {
+        return Ok(None);
+    }
+    match Values::one(alloc, value) {
+        Ok(values) => Ok(Some(values)),
+        Err(fault) => not_kept(fault),
+    }
+}
+
+// No message can hold the value, unless memory ran out.
+fn not_kept(fault: ValuesFault) -> Result<Option<Values>, FormFault>
+    ensures { result ≡ faults.not_kept fault }
+{
+    match fault {
+        ValuesFault::NoMemory => Err(FormFault::NoMemory),
+        ValuesFault::BadType | ValuesFault::ValueLimit | ValuesFault::TooDeep => Ok(None),
+    }
+}
+
+fn is_short(value: &Value) -> bool
+    ensures { result ≡ reads.is_short (value_of value.now) }
+{
+    match value {
+        Value::Message(message) => flat_len(message) <= FLAT_LIMIT as u64,
+        _ => true,
+    }
+}
+
+/// A number of that kind.
+#[tactic(auto, unfolding(crate::specs::Made::number_from))]
+pub(crate) fn number_from(alloc: Global, kind: Kind, word: &[u8]) -> Result<Number, FormFault>
+    ensures { Gives (λ n. n) result (reads.number_from kind word.now) }
+{
+    let Some(value) = value_from(alloc, word)? else {
+        return Err(FormFault::BadValue);
+    };
+    match number_of_kind(kind, &value) {
+        Some(number) => Ok(number),
+        None => Err(FormFault::BadValue),
+    }
+}
+
+fn number_of_kind(kind: Kind, value: &Value) -> Option<Number>
+    ensures { result ≡ reads.number_of_kind kind (value_of value.now) }
+{
+    let number = Number::of(value)?;
+    if number.kind() == kind {
+        Some(number)
+    } else {
+        None
+    }
+}

@@ -1,0 +1,48 @@
+//! Reads the lines that describe applications. `read_description` answers each application with the plans of
+//! its loopers, or the first line with a fault, and of its faults the first kind: what may not stand there, a
+//! value that is none, a name given again, a limit. Where no line has one of these, names are looked up: each
+//! has to be there, handlers lead back to none, and an ask goes to what is described later.
+//! Nothing here waits, and nothing is shared.
+#![tactic(auto)]
+
+ghost use Rattle.std.specs.Prelude.{IfOk, IfErr};
+ghost use Rattle.ak_describe.specs.Answers.{Answers};
+ghost use Rattle.ak_describe.specs.Describes.{Describes};
+ghost use Rattle.ak_describe.specs.Description.{description};
+ghost use Rattle.ak_describe.specs.Laws.{IsFirstFault};
+ghost use Rattle.ak_describe.specs.Seen.{apps_seen};
+
+mod described;
+mod fault;
+mod first;
+mod form;
+mod keyword;
+mod laws;
+mod named;
+mod parts;
+mod second;
+#[cfg(test)]
+mod tests;
+mod words;
+
+use ak_message::Line;
+pub use described::AppText;
+pub use fault::DescribeFault;
+pub use first::{APP_LIMIT, APP_LOOPER_LIMIT};
+pub use laws::{described_or_faulty, descriptions_are_read};
+use std::alloc::Global;
+
+/// The applications that these lines describe, in order. The lines are those behind the input's first one,
+/// up to those that are no description; any other line is unknown here.
+#[tactic(auto, unfolding(crate::specs::Description::description))]
+pub fn read_description(alloc: Global, lines: &[Line]) -> Result<Vec<AppText>, DescribeFault>
+    ensures answer { Answers apps_seen result (description lines.now) }
+    ensures described { IfOk result (λ apps. Describes lines.now apps.items) }
+    ensures refused { IfErr result (IsFirstFault lines.now) }
+{
+    let pass = first::first_pass(alloc, lines)?;
+    if let Some(fault) = second::second_fault(&pass.apps, &pass.names) {
+        return Err(fault);
+    }
+    Ok(described::described(alloc, pass.apps)?)
+}
