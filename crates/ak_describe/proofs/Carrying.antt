@@ -8,7 +8,7 @@ use Rattle.ak_base.specs.declared.ending.RefusalKind.{RefusalKind}
 use Rattle.ak_base.specs.declared.ending.RefusalKind.TheVariants as refusal
 use Rattle.ak_filter.specs.declared.filter.Filter.{Filter}
 use Rattle.ak_message.specs.declared.kind.Kind.{Kind}
-use Rattle.ak_message.specs.Kind.{is_same_kind, same_kind-is}
+use Rattle.ak_message.specs.Kind.{is_same_kind}
 use Rattle.ak_message.specs.Message.{ValueData, kind_of}
 use Rattle.ak_message.specs.Payload.{where_true}
 use Rattle.ak_message.specs.Words.{◌>>=◌}

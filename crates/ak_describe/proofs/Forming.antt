@@ -214,20 +214,17 @@ module _ (ps : List PropertyParts) where
       let same : record { names = b.names ++ name ∷ []; fields = u.value } ≡ out = same_some (record { names = b.names ++ name ∷ []; fields = u.value }) out u.then_is in
       subst (λ (x : Built). FilledIf x.fields) same (filled_with b.fields t.value g u.value u.is filled given)
 
-  filled_cases : (has few : Bool) (b : Built) (name : List ℕ) (g : Option Given) (out : Built) → (if has then None else if few then named_too b name g else Some (record { names = b.names; fields = None })) ≡ Some out
+  filled_cases : (has : Bool) (b : Built) (name : List ℕ) (g : Option Given) (out : Built) → (if has then None else named_too b name g) ≡ Some out
       → FilledIf b.fields → ((x : Given) → g ≡ Some x → Fitting x) → FilledIf out.fields
-  filled_cases true few b name g out e filled given = absurd cc
-  filled_cases false true b name g out e filled given = filled_too b name g out e filled given
-  filled_cases false false b name g out e filled given =
-      let same : record { names = b.names; fields = None } ≡ out = same_some (record { names = b.names; fields = None }) out e in
-      subst (λ (x : Built). FilledIf x.fields) same (λ fs is. absurd cc)
+  filled_cases true b name g out e filled given = absurd cc
+  filled_cases false b name g out e filled given = filled_too b name g out e filled given
 
   filled_behind : (b : Built) (word : List ℕ) (out : Built) → field_behind ps b word ≡ Some out → FilledIf b.fields → FilledIf out.fields
   unfolding field_behind
   filled_behind b word out e filled =
       let t = bound (field_split word) (λ field. given_from ps field.1 >>= λ g. field_added b field.0 g) out e in
       let u = bound (given_from ps t.value.1) (λ g. field_added b t.value.0 g) out t.then_is in
-      filled_cases (has_name b.names t.value.0) (ltb (length b.names) 64) b t.value.0 u.value out u.then_is filled
+      filled_cases (has_name b.names t.value.0) b t.value.0 u.value out u.then_is filled
       (λ x is. given_fits t.value.1 x (u.is ∙ ap (λ (g : Option Given). Some g) is))
 
   all_filled : (b : Built) (words : List (List ℕ)) (out : Built) → fields_behind ps b words ≡ Some out → FilledIf b.fields → FilledIf out.fields

@@ -1,5 +1,5 @@
 -- The further words of the lines of actions, for a handler with these properties. None of what passes a limit is kept.
-use Rattle.std.specs.Prelude.{ℕ, Bool, true, false, ◌==◌, nat_lt, nat_le, if◌then◌else◌, List, [], ◌∷◌, ◌++◌, length, codes, Option, Some, None, option_map}
+use Rattle.std.specs.Prelude.{ℕ, Bool, true, false, ◌==◌, nat_le, if◌then◌else◌, List, [], ◌∷◌, ◌++◌, length, codes, Option, Some, None, option_map}
 use Rattle.std.specs.List.{list_any}
 use Rattle.std.specs.Str.{bytes_eq}
 use Rattle.ak_base.specs.declared.app_word.AppWord.{AppWord}
@@ -94,7 +94,7 @@ unfoldable pub set_given : List PropertyParts → List ℕ → Option (Option Gi
 set_given properties word = copied_from properties word >>= λ copied. copied_or copied (one_from word)
 
 -- ---- the message of an action: a code, and then a field in each word
--- the names of the first 64 fields, and the fields where they pass no limit
+-- the names of the fields, and the fields where they pass no limit
 pub record Built : Type 0 where
   pub names : List (List ℕ)
   pub fields : Option (List TemplateField)
@@ -122,12 +122,9 @@ named_too b name g = do
   fields ← with_field b.fields n g
   Some (record { names = b.names ++ name ∷ []; fields = fields })
 
--- its name has to be a new one; a field behind the 64th is left out
+-- its name has to be a new one
 abbrev pub field_added : Built → List ℕ → Option Given → Option Built
-field_added b name g =
-    if has_name b.names name then None
-    else if nat_lt (length b.names) 64 then named_too b name g
-    else Some (record { names = b.names; fields = None })
+field_added b name g = if has_name b.names name then None else named_too b name g
 
 unfoldable pub field_behind : List PropertyParts → Built → List ℕ → Option Built
 field_behind properties b word = do

@@ -1,5 +1,5 @@
 -- What the parts of applications come to.
-use Rattle.std.specs.Prelude.{ℕ, ◌≤◌, List, length, map, All}
+use Rattle.std.specs.Prelude.{◌≤◌, List, length, map, All}
 use Rattle.ak_property.specs.declared.table.PropertyRow.{PropertyRow}
 use Rattle.ak_value.specs.Elements.{ElementsData}
 use Rattle.ak_action.specs.declared.plan.PlanParts.{PlanParts}

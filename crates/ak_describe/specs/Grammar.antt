@@ -208,10 +208,10 @@ pub record SaysField (properties : List PropertyParts) (word : List ℕ) (f : Fi
   pub name_is : is_word f.name ≡ true
   pub given_is : IsGiven properties text f.content
 
--- the names of the first 64 fields differ from each other and from all others
+-- no two fields have one name
 abbrev pub NamesDiffer : List FieldText → Type 0
 NamesDiffer fields =
-    (i j : ℕ) (d : FieldText) → i < j → j < length fields → i < 64 → (slice_index_or fields i d).name ≢ (slice_index_or fields j d).name
+    (i j : ℕ) (d : FieldText) → i < j → j < length fields → (slice_index_or fields i d).name ≢ (slice_index_or fields j d).name
 
 abbrev pub with_given : List ℕ → List TemplateField → Option Given → Option (List TemplateField)
 with_given name others None = None

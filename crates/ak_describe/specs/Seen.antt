@@ -54,7 +54,7 @@ values_seen values = map value_of values
 
 -- what is read of a message
 abbrev pub built_of : Building → Built
-built_of b = record { names = map seen b.names.items; fields = b.fields }
+built_of b = record { names = map seen b.names.keys; fields = b.fields }
 
 -- ---- parts, with their lists
 abbrev pub property_seen : Bor PropertyParts → PropertyParts

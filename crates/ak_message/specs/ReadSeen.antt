@@ -34,7 +34,7 @@ abbrev pub got_values_of : ReadValues → GotValues
 got_values_of r = record { kind = r.kind; values = option_map (λ vs. map value_of vs.items) r.values }
 
 abbrev pub built_of : Building → Built
-built_of b = record { names = map seen b.names.items; message = b.message }
+built_of b = record { names = map seen b.names.keys; message = b.message }
 
 abbrev pub pair_of : Bor (List ℕ) × Bor (List ℕ) → List ℕ × List ℕ
 pair_of x = (x.0.now, x.1.now)

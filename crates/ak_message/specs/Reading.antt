@@ -135,7 +135,7 @@ field_split word = do
   place ← equals_in word
   where_true (is_word (take place word)) (take place word, drop (place + 1) word)
 
--- a message as far as it is read: the names of its fields, the first 64 of them, and itself where it passes no limit
+-- a message as far as it is read: the names of its fields, and itself where it passes no limit
 pub record Built : Type 0 where
   pub names : List (List ℕ)
   pub message : Option MessageData
@@ -162,12 +162,9 @@ values_added message name (text ∷ texts) kind m = do
   fitting ← where_true (fits kind v.kind) v
   values_added message name texts (Some fitting.kind) (with_value m name fitting.value)
 
--- a field begins, and its name has to be a new one; of more than 64 fields the message is not kept
+-- a field begins, and its name has to be a new one
 abbrev pub field_begun : Built → List ℕ → Option Built
-field_begun b name =
-    if nat_lt (length b.names) 64 then
-    where_true (not (list_any (λ other. bytes_eq other name) b.names)) (record { names = b.names ++ name ∷ []; message = b.message })
-    else Some (record { names = b.names; message = None })
+field_begun b name = where_true (not (list_any (bytes_eq name) b.names)) (record { names = b.names ++ name ∷ []; message = b.message })
 
 unfoldable pub field_behind : (List ℕ → Option Got) → Built → List ℕ → Option Built
 field_behind message b word = do

@@ -1,8 +1,6 @@
 //! Reads values, fields and messages in an input. Messages in messages are read as deep as they may stand.
 
 ghost use Rattle.std.specs.Prelude.{◌≡◌, ◌≢◌, ◌<◌, ◌≤◌, length, map, filter, None, Some, Err, option_map, IfSome, IfOk, OnErr};
-ghost use Rattle.std.specs.List.{list_any};
-ghost use Rattle.std.specs.Str.{bytes_eq};
 ghost use Rattle.ak_message.specs.ReadSeen.{Gives, GivesValue, GivesText, GivesMessage, GivesValues, seen, pair_of, got_of, got_values_of, built_of};
 ghost use Rattle.ak_message.specs.Reading as reads;
 ghost use Rattle.ak_message.specs.Seen.{value_of};
@@ -12,13 +10,14 @@ ghost use Rattle.ak_message.specs.Payload.{kind_before};
 use crate::fault::AddFault;
 use crate::kind::Kind;
 use crate::line::Word;
-use crate::message::{DEPTH_LIMIT, FIELD_LIMIT, Message, VALUE_LIMIT, Value};
+use crate::message::{DEPTH_LIMIT, Message, VALUE_LIMIT, Value};
 use crate::payload;
 use crate::pieces::{Separator, braced, pieces_of};
 use crate::quoted::{raw_from, unquoted};
 use crate::read_fault::ReadFault;
 use crate::words::is_utf8;
 use ak_base::{Code, NoMemory, Raw, RawFault, Text, TextFault, is_word};
+use indexmap::IndexSet;
 use std::alloc::Global;
 
 /// What a text is read as: its kind, and the value where it passes no limit.
@@ -35,11 +34,10 @@ struct ReadValues {
     values: Option<Vec<Value>>,
 }
 
-/// A message as far as it is read: the names of its fields, the first 64 of them, and the message itself
-/// where it passes no limit.
+/// A message as far as it is read: the names of its fields, and the message itself where it passes no limit.
 #[derive(Drop)]
 struct Building<'a> {
-    names: Vec<&'a [u8]>,
+    names: IndexSet<&'a [u8]>,
     message: Option<Message>,
 }
 
@@ -360,7 +358,7 @@ fn message_of(alloc: Global, levels: u32, words: &[&[u8]]) -> Result<Option<Mess
         return Err(ReadFault::BadValue);
     };
     let mut building = Building {
-        names: Vec::new(alloc),
+        names: IndexSet::new(alloc),
         message: Some(Message::new(alloc, what)),
     };
     for word in fields {
@@ -405,17 +403,11 @@ fn begin<'a>(building: Building<'a>, name: &'a [u8]) -> Result<Building<'a>, Rea
     ensures { Gives built_of result (reads.field_begun (built_of building.entry) name.now) }
 {
     let Building { mut names, message } = building;
-    if names.len() >= FIELD_LIMIT {
-        return Ok(Building {
-            names,
-            message: None,
-        });
+    if names.insert(name)? {
+        Ok(Building { names, message })
+    } else {
+        Err(ReadFault::BadValue)
     }
-    if has_name(&names, name) {
-        return Err(ReadFault::BadValue);
-    }
-    names.push(name)?;
-    Ok(Building { names, message })
 }
 
 // The message with the values of these texts, all of one kind, added under that name.
@@ -562,12 +554,6 @@ impl ReadValues {
             values: joined(values, value)?,
         })
     }
-}
-
-fn has_name(names: &[&[u8]], name: &[u8]) -> bool
-    ensures { result ≡ list_any (λ other. bytes_eq other name.now) (map seen names.now) }
-{
-    names.iter().any(|other| *other == name)
 }
 
 #[cfg(test)]

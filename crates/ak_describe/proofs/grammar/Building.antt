@@ -1,9 +1,9 @@
 -- Fields are built one after another: their names differ as the grammar says, and what is built is what all of them make.
-use Rattle.std.proofs.Common.{◌≡◌, ◌≢◌, ◌⊎◌, inl, inr, ℕ, zero, suc, ◌+◌, ◌<◌, ◌≤◌, Bool, true, false, ◌&&◌, cond, leb, ltb, List, [], ◌∷◌, ◌++◌, length, map, get_or, take, Option, Some, None, refl, sym, ap, ap₂, subst, ◌∙◌, append_assoc, append-nil, arith}
+use Rattle.std.proofs.Common.{◌≡◌, ◌≢◌, ◌⊎◌, inl, inr, ℕ, zero, suc, ◌+◌, ◌<◌, ◌≤◌, Bool, true, false, ◌&&◌, cond, leb, ltb, List, [], ◌∷◌, ◌++◌, length, map, get_or, Option, Some, None, refl, sym, ap, ap₂, subst, ◌∙◌, append_assoc, append-nil, arith}
 use Rattle.std.specs.List.{list_any}
 use Rattle.std.specs.Str.{bytes_eq}
 use Rattle.std.proofs.lemmas.Bool.{lt-ltb, le-ltb, le-leb, lt-leb, or_parts, or_from, false_from_ne_true, cases_lt}
-use Rattle.std.proofs.lemmas.List.{length-append, length-map, length-take, map-append, take_all, take-append-le, get_or_at, get_or_append_left}
+use Rattle.std.proofs.lemmas.List.{length-append, length-map, map-append, get_or_at, get_or_append_left}
 use Rattle.std.proofs.lemmas.Option.{same_Some}
 use Rattle.std.proofs.lemmas.Slice.Eq.{bytes_eq-Decides}
 use Rattle.ak_base.specs.declared.code.Code.{Code}
@@ -13,6 +13,7 @@ use Rattle.ak_message.specs.Words.{◌>>=◌}
 use Rattle.ak_action.specs.declared.template.Given.{Given}
 use Rattle.ak_action.specs.declared.template.Template.{Template}
 use Rattle.ak_action.specs.declared.template.TemplateFault.{TemplateFault}
+use Rattle.ak_action.specs.declared.template.TemplateFault.TheVariants as fault
 use Rattle.ak_action.specs.declared.template.TemplateField.{TemplateField}
 use Rattle.ak_action.specs.Template as template
 use Rattle.ak_action.specs.Template.{add_fault}
@@ -30,7 +31,7 @@ kept_fields fs = cond (leb (length fs) 64) (all_fields fs) None
 
 -- what is built of them
 abbrev pub built : List FieldText → Built
-built fs = record { names = take 64 (field_names fs); fields = kept_fields fs }
+built fs = record { names = field_names fs; fields = kept_fields fs }
 
 abbrev pub AreNamed : List FieldText → Type 0
 AreNamed [] = Unit {0}
@@ -106,60 +107,65 @@ abbrev some_built : List (List ℕ) → Option (List TemplateField) → Option B
 some_built names fields = Some (record { names = names; fields = fields })
 
 -- where there is room
-room_added : (done : List FieldText) (f : FieldText) → is_word f.name ≡ true → has_name (take 64 (field_names done)) f.name ≡ false → length done < 64
-    → cond (ltb (length (take 64 (field_names done))) 64) (named_too (built done) f.name f.content) (some_built (take 64 (field_names done)) None) ≡ Some (built (done ++ f ∷ []))
-room_added done f word new room =
+room_added : (done : List FieldText) (f : FieldText) → is_word f.name ≡ true → has_name (field_names done) f.name ≡ false → length done < 64
+    → named_too (built done) f.name f.content ≡ Some (built (done ++ f ∷ []))
+room_added done f word fresh room =
     let many : length (field_names done) ≡ length done = length-map done (λ (g : FieldText). g.name) in
     let more : length (done ++ f ∷ []) ≡ length done + 1 = omega (arith, length-append done (f ∷ [])) in
-    let whole : take 64 (field_names done) ≡ field_names done = take_all 64 (field_names done) (omega (arith, many, room)) in
-    let few : ltb (length (take 64 (field_names done))) 64 ≡ true = lt-ltb (length (take 64 (field_names done))) 64 (omega (arith, ap length whole, many, room)) in
     let kept : kept_fields done ≡ all_fields done = ap (λ (t : Bool). cond t (all_fields done) None) (le-leb (length done) 64 (omega (arith, room))) in
-    let fresh : has_name (field_names done) f.name ≡ false = subst (λ (ns : List (List ℕ)). has_name ns f.name ≡ false) whole new in
     let adds : with_field (kept_fields done) f.name f.content ≡ Some (with_last (all_fields done) f.name f.content) =
     ap (λ (o : Option (List TemplateField)). with_field o f.name f.content) kept
     ∙ with_again (all_fields done) (field_names done) f.name f.content word fresh (omega (arith, many, room)) (all_fields-names done) in
-    let append : field_names (done ++ f ∷ []) ≡ field_names done ++ f.name ∷ [] = map-append (λ (g : FieldText). g.name) done (f ∷ []) in
-    let fits : length (field_names (done ++ f ∷ [])) ≤ 64 = omega (arith, length-map (done ++ f ∷ []) (λ (g : FieldText). g.name), more, room) in
-    let names : take 64 (field_names done) ++ f.name ∷ [] ≡ take 64 (field_names (done ++ f ∷ [])) =
-    ap (λ (ns : List (List ℕ)). ns ++ f.name ∷ []) whole ∙ sym append ∙ sym (take_all 64 (field_names (done ++ f ∷ [])) fits) in
+    let names : field_names done ++ f.name ∷ [] ≡ field_names (done ++ f ∷ []) = sym (map-append (λ (g : FieldText). g.name) done (f ∷ [])) in
     let fields : with_last (all_fields done) f.name f.content ≡ kept_fields (done ++ f ∷ []) =
     sym (all_fields-push done f) ∙ ap (λ (t : Bool). cond t (all_fields (done ++ f ∷ [])) None) (sym (le-leb (length (done ++ f ∷ [])) 64 (omega (arith, more, room)))) in
-    ap (λ (t : Bool). cond t (named_too (built done) f.name f.content) (some_built (take 64 (field_names done)) None)) few
-    ∙ named_again (built done) f.name f.content (with_last (all_fields done) f.name f.content) word adds
-    ∙ ap₂ some_built names fields
+    named_again (built done) f.name f.content (with_last (all_fields done) f.name f.content) word adds ∙ ap₂ some_built names fields
 
--- where 64 are built
-full_added : (done : List FieldText) (f : FieldText) → 64 ≤ length done
-    → cond (ltb (length (take 64 (field_names done))) 64) (named_too (built done) f.name f.content) (some_built (take 64 (field_names done)) None) ≡ Some (built (done ++ f ∷ []))
-full_added done f full =
+-- a 65th field passes the limit
+none_again : (o : Option (List TemplateField)) (names : List (List ℕ)) (name : List ℕ) (content : Option Given) → is_word name ≡ true → has_name names name ≡ false → 64 ≤ length names → HasNames o names
+    → with_field o name content ≡ Some None
+none_again None names name content word new full h = refl
+none_again (Some gs) names name None word new full h = refl
+none_again (Some gs) names name (Some g) word new full h =
+    let same = h gs refl in
+    let fresh : template.has_name gs name ≡ false =
+    sym (any-map (λ (t : TemplateField). t.name) (λ (other : List ℕ). bytes_eq other name) gs) ∙ ap (list_any (λ (other : List ℕ). bytes_eq other name)) same ∙ new in
+    let many : ltb (length gs) 64 ≡ false = le-ltb (length gs) 64 (omega (arith, length-map gs (λ (t : TemplateField). t.name), ap length same, full)) in
+    let fault : add_fault gs name ≡ Some fault.FieldLimit = rw (word, fresh, many) refl in
+    ap (λ (e : Option TemplateFault). field_kept e (gs ++ template_field name g ∷ [])) fault
+
+none_kept : (few : Bool) (o : Option (List TemplateField)) (name : List ℕ) (content : Option Given) → with_field o name content ≡ Some None → with_field (cond few o None) name content ≡ Some None
+none_kept true o name content h = h
+none_kept false o name content h = refl
+
+full_added : (done : List FieldText) (f : FieldText) → is_word f.name ≡ true → has_name (field_names done) f.name ≡ false → 64 ≤ length done
+    → named_too (built done) f.name f.content ≡ Some (built (done ++ f ∷ []))
+full_added done f word fresh full =
     let many : length (field_names done) ≡ length done = length-map done (λ (g : FieldText). g.name) in
     let more : length (done ++ f ∷ []) ≡ length done + 1 = omega (arith, length-append done (f ∷ [])) in
-    let all : ltb (length (take 64 (field_names done))) 64 ≡ false = le-ltb (length (take 64 (field_names done))) 64 (omega (arith, length-take 64 (field_names done), many, full)) in
-    let append : field_names (done ++ f ∷ []) ≡ field_names done ++ f.name ∷ [] = map-append (λ (g : FieldText). g.name) done (f ∷ []) in
-    let names : take 64 (field_names done) ≡ take 64 (field_names (done ++ f ∷ [])) =
-    sym (ap (take 64) append ∙ take-append-le 64 (field_names done) (f.name ∷ []) (omega (arith, many, full))) in
+    let adds : with_field (kept_fields done) f.name f.content ≡ Some None =
+    none_kept (leb (length done) 64) (all_fields done) f.name f.content (none_again (all_fields done) (field_names done) f.name f.content word fresh (omega (arith, many, full)) (all_fields-names done)) in
+    let names : field_names done ++ f.name ∷ [] ≡ field_names (done ++ f ∷ []) = sym (map-append (λ (g : FieldText). g.name) done (f ∷ [])) in
     let fields : ◌≡◌ {A = Option (List TemplateField)} None (kept_fields (done ++ f ∷ [])) =
     ap (λ (t : Bool). cond t (all_fields (done ++ f ∷ [])) None) (sym (lt-leb (length (done ++ f ∷ [])) 64 (omega (arith, more, full)))) in
-    ap (λ (t : Bool). cond t (named_too (built done) f.name f.content) (some_built (take 64 (field_names done)) None)) all ∙ ap₂ some_built names fields
+    named_again (built done) f.name f.content None word adds ∙ ap₂ some_built names fields
 
 added_one : (done : List FieldText) (f : FieldText) → is_word f.name ≡ true
-    → field_added (built done) f.name f.content ≡ cond (has_name (take 64 (field_names done)) f.name) None (Some (built (done ++ f ∷ [])))
-added_one done f word = by_use (has_name (take 64 (field_names done)) f.name) refl where
-  by_room : has_name (take 64 (field_names done)) f.name ≡ false → (length done < 64) ⊎ (64 ≤ length done)
-      → cond (ltb (length (take 64 (field_names done))) 64) (named_too (built done) f.name f.content) (some_built (take 64 (field_names done)) None) ≡ Some (built (done ++ f ∷ []))
+    → field_added (built done) f.name f.content ≡ cond (has_name (field_names done) f.name) None (Some (built (done ++ f ∷ [])))
+added_one done f word = by_use (has_name (field_names done) f.name) refl where
+  by_room : has_name (field_names done) f.name ≡ false → (length done < 64) ⊎ (64 ≤ length done) → named_too (built done) f.name f.content ≡ Some (built (done ++ f ∷ []))
   by_room is (inl room) = room_added done f word is room
-  by_room is (inr full) = full_added done f full
+  by_room is (inr full) = full_added done f word is full
 
-  by_use : (used : Bool) → has_name (take 64 (field_names done)) f.name ≡ used
-      → cond used None (cond (ltb (length (take 64 (field_names done))) 64) (named_too (built done) f.name f.content) (some_built (take 64 (field_names done)) None))
-      ≡ cond used None (Some (built (done ++ f ∷ [])))
+  by_use : (used : Bool) → has_name (field_names done) f.name ≡ used
+      → cond used None (named_too (built done) f.name f.content) ≡ cond used None (Some (built (done ++ f ∷ [])))
   by_use true is = refl
   by_use false is = by_room is (cases_lt (length done) 64)
 
--- ---- all fields: each name is none of the first 64 before it
+-- ---- all fields: each name is none of those before it
 abbrev pub NewNames : List FieldText → List FieldText → Type 0
 NewNames done [] = Unit {0}
-NewNames done (f ∷ fs) = (has_name (take 64 (field_names done)) f.name ≡ false) × NewNames (done ++ f ∷ []) fs
+NewNames done (f ∷ fs) = (has_name (field_names done) f.name ≡ false) × NewNames (done ++ f ∷ []) fs
 
 abbrev built_of : List FieldText → Option Built
 built_of fs = Some (built fs)
@@ -174,88 +180,85 @@ added_again (f ∷ fs) done named new =
 pub added_takes : (fs done : List FieldText) (c : Built) → AreNamed fs → added_all (built done) fs ≡ Some c → NewNames done fs × (c ≡ built (done ++ fs))
 added_takes [] done c named e = let same = same_Some (built done) c e in (tt, sym same ∙ ap built (sym (append-nil done)))
 added_takes (f ∷ fs) done c named e =
-    by_use (has_name (take 64 (field_names done)) f.name) refl
+    by_use (has_name (field_names done) f.name) refl
     (ap (λ (o : Option Built). o >>= λ more. added_all more fs) (sym (added_one done f named.0)) ∙ e)
     (λ rest. added_takes fs (done ++ f ∷ []) c named.1 rest) where
-      by_use : (used : Bool) → has_name (take 64 (field_names done)) f.name ≡ used
+      by_use : (used : Bool) → has_name (field_names done) f.name ≡ used
           → (cond used None (Some (built (done ++ f ∷ []))) >>= λ more. added_all more fs) ≡ Some c
           → (added_all (built (done ++ f ∷ [])) fs ≡ Some c → NewNames (done ++ f ∷ []) fs × (c ≡ built ((done ++ f ∷ []) ++ fs)))
-          → ((has_name (take 64 (field_names done)) f.name ≡ false) × NewNames (done ++ f ∷ []) fs) × (c ≡ built (done ++ f ∷ fs))
+          → ((has_name (field_names done) f.name ≡ false) × NewNames (done ++ f ∷ []) fs) × (c ≡ built (done ++ f ∷ fs))
       by_use true is e later = absurd cc
       by_use false is e later = let h = later e in ((is, h.0), h.1 ∙ ap built (append_assoc done (f ∷ []) fs))
 
 -- ---- by places: no name is one of those before it
-abbrev Fresh : ℕ → List FieldText → List ℕ → Type 0
-Fresh n done name = (i : ℕ) (d : FieldText) → i < n → i < length done → (get_or done i d).name ≢ name
+abbrev Fresh : List FieldText → List ℕ → Type 0
+Fresh done name = (i : ℕ) (d : FieldText) → i < length done → (get_or done i d).name ≢ name
 
-fresh_differs : (done : List FieldText) (n : ℕ) (name : List ℕ) → has_name (take n (field_names done)) name ≡ false → Fresh n done name
-fresh_differs [] n name h i d low within = absurd (omega arith)
-fresh_differs (f ∷ done) zero name h i d low within = absurd (omega arith)
-fresh_differs (f ∷ done) (suc n) name h zero d low within =
-    let parts = or_parts (bytes_eq f.name name) (has_name (take n (field_names done)) name) h in
+fresh_differs : (done : List FieldText) (name : List ℕ) → has_name (field_names done) name ≡ false → Fresh done name
+fresh_differs [] name h i d within = absurd (omega arith)
+fresh_differs (f ∷ done) name h zero d within =
+    let parts = or_parts (bytes_eq f.name name) (has_name (field_names done) name) h in
     λ same. absurd (let yes : bytes_eq f.name name ≡ true = (bytes_eq-Decides f.name name).1 same in let no : bytes_eq f.name name ≡ false = parts.0 in cc)
-fresh_differs (f ∷ done) (suc n) name h (suc i) d low within =
-    let parts = or_parts (bytes_eq f.name name) (has_name (take n (field_names done)) name) h in
-    fresh_differs done n name parts.1 i d (omega arith) (omega arith)
+fresh_differs (f ∷ done) name h (suc i) d within =
+    let parts = or_parts (bytes_eq f.name name) (has_name (field_names done) name) h in
+    fresh_differs done name parts.1 i d (omega arith)
 
-differs_fresh : (done : List FieldText) (n : ℕ) (name : List ℕ) → Fresh n done name → has_name (take n (field_names done)) name ≡ false
-differs_fresh [] zero name h = refl
-differs_fresh [] (suc n) name h = refl
-differs_fresh (f ∷ done) zero name h = refl
-differs_fresh (f ∷ done) (suc n) name h =
-    let first : bytes_eq f.name name ≡ false = false_from_ne_true (bytes_eq f.name name) (λ t. h zero f (omega arith) (omega arith) ((bytes_eq-Decides f.name name).0 t)) in
-    or_from (bytes_eq f.name name) (has_name (take n (field_names done)) name) first (differs_fresh done n name (λ i d low within. h (suc i) d (omega arith) (omega arith)))
+differs_fresh : (done : List FieldText) (name : List ℕ) → Fresh done name → has_name (field_names done) name ≡ false
+differs_fresh [] name h = refl
+differs_fresh (f ∷ done) name h =
+    let first : bytes_eq f.name name ≡ false = false_from_ne_true (bytes_eq f.name name) (λ t. h zero f (omega arith) ((bytes_eq-Decides f.name name).0 t)) in
+    or_from (bytes_eq f.name name) (has_name (field_names done) name) first (differs_fresh done name (λ i d within. h (suc i) d (omega arith)))
 
 abbrev Differ : List FieldText → List FieldText → Type 0
-Differ done fs = (i j : ℕ) (d : FieldText) → i < j → length done ≤ j → j < length (done ++ fs) → i < 64 → (get_or (done ++ fs) i d).name ≢ (get_or (done ++ fs) j d).name
+Differ done fs = (i j : ℕ) (d : FieldText) → i < j → length done ≤ j → j < length (done ++ fs) → (get_or (done ++ fs) i d).name ≢ (get_or (done ++ fs) j d).name
 
 -- the first one behind, and those behind it
-first_differs : (f : FieldText) (fs done : List FieldText) → Fresh 64 done f.name → (i j : ℕ) (d : FieldText) → i < j → j ≡ length done → i < 64 → (get_or (done ++ f ∷ fs) i d).name ≢ (get_or (done ++ f ∷ fs) j d).name
-first_differs f fs done h i j d lt at low =
+first_differs : (f : FieldText) (fs done : List FieldText) → Fresh done f.name → (i j : ℕ) (d : FieldText) → i < j → j ≡ length done → (get_or (done ++ f ∷ fs) i d).name ≢ (get_or (done ++ f ∷ fs) j d).name
+first_differs f fs done h i j d lt at =
     let here : get_or (done ++ f ∷ fs) j d ≡ f = get_or_at done f fs d j (sym at) in
     let before : get_or (done ++ f ∷ fs) i d ≡ get_or done i d = get_or_append_left done (f ∷ fs) d i (omega arith) in
-    λ same. h i d low (omega arith) (ap (λ (g : FieldText). g.name) (sym before) ∙ same ∙ ap (λ (g : FieldText). g.name) here)
+    λ same. h i d (omega arith) (ap (λ (g : FieldText). g.name) (sym before) ∙ same ∙ ap (λ (g : FieldText). g.name) here)
 
 later_differs : (f : FieldText) (fs done : List FieldText) → Differ (done ++ f ∷ []) fs
-    → (i j : ℕ) (d : FieldText) → i < j → length done < j → j < length (done ++ f ∷ fs) → i < 64 → (get_or (done ++ f ∷ fs) i d).name ≢ (get_or (done ++ f ∷ fs) j d).name
-later_differs f fs done h i j d lt past within low =
+    → (i j : ℕ) (d : FieldText) → i < j → length done < j → j < length (done ++ f ∷ fs) → (get_or (done ++ f ∷ fs) i d).name ≢ (get_or (done ++ f ∷ fs) j d).name
+later_differs f fs done h i j d lt past within =
     let all : (done ++ f ∷ []) ++ fs ≡ done ++ f ∷ fs = append_assoc done (f ∷ []) fs in
-    let differ = h i j d lt (omega (arith, length-append done (f ∷ []))) (omega (arith, ap length all)) low in
+    let differ = h i j d lt (omega (arith, length-append done (f ∷ []))) (omega (arith, ap length all)) in
     subst (λ (gs : List FieldText). (get_or gs i d).name ≢ (get_or gs j d).name) all differ
 
-differ_at : (f : FieldText) (fs done : List FieldText) → Fresh 64 done f.name → Differ (done ++ f ∷ []) fs → Differ done (f ∷ fs)
-differ_at f fs done first rest i j d lt past within low = by_place (cases_lt (length done) j) where
+differ_at : (f : FieldText) (fs done : List FieldText) → Fresh done f.name → Differ (done ++ f ∷ []) fs → Differ done (f ∷ fs)
+differ_at f fs done first rest i j d lt past within = by_place (cases_lt (length done) j) where
   by_place : (length done < j) ⊎ (j ≤ length done) → (get_or (done ++ f ∷ fs) i d).name ≢ (get_or (done ++ f ∷ fs) j d).name
-  by_place (inl more) = later_differs f fs done rest i j d lt more within low
-  by_place (inr here) = first_differs f fs done first i j d lt (omega arith) low
+  by_place (inl more) = later_differs f fs done rest i j d lt more within
+  by_place (inr here) = first_differs f fs done first i j d lt (omega arith)
 
 new_differ : (fs done : List FieldText) → NewNames done fs → Differ done fs
-new_differ [] done new i j d lt past within low = absurd (omega (arith, length-append done []))
-new_differ (f ∷ fs) done new i j d lt past within low =
-    differ_at f fs done (fresh_differs done 64 f.name new.0) (new_differ fs (done ++ f ∷ []) new.1) i j d lt past within low
+new_differ [] done new i j d lt past within = absurd (omega (arith, length-append done []))
+new_differ (f ∷ fs) done new i j d lt past within =
+    differ_at f fs done (fresh_differs done f.name new.0) (new_differ fs (done ++ f ∷ []) new.1) i j d lt past within
 
-first_new : (f : FieldText) (fs done : List FieldText) → Differ done (f ∷ fs) → Fresh 64 done f.name
-first_new f fs done h i d low within =
+first_new : (f : FieldText) (fs done : List FieldText) → Differ done (f ∷ fs) → Fresh done f.name
+first_new f fs done h i d within =
     let here : get_or (done ++ f ∷ fs) (length done) d ≡ f = get_or_at done f fs d (length done) refl in
     let before : get_or (done ++ f ∷ fs) i d ≡ get_or done i d = get_or_append_left done (f ∷ fs) d i within in
-    let differ = h i (length done) d within (omega arith) (omega (arith, length-append done (f ∷ fs))) low in
+    let differ = h i (length done) d within (omega arith) (omega (arith, length-append done (f ∷ fs))) in
     λ same. differ (ap (λ (g : FieldText). g.name) before ∙ same ∙ ap (λ (g : FieldText). g.name) (sym here))
 
 rest_new : (f : FieldText) (fs done : List FieldText) → Differ done (f ∷ fs) → Differ (done ++ f ∷ []) fs
-rest_new f fs done h i j d lt past within low =
+rest_new f fs done h i j d lt past within =
     let all : (done ++ f ∷ []) ++ fs ≡ done ++ f ∷ fs = append_assoc done (f ∷ []) fs in
-    let differ = h i j d lt (omega (arith, length-append done (f ∷ []))) (omega (arith, ap length all)) low in
+    let differ = h i j d lt (omega (arith, length-append done (f ∷ []))) (omega (arith, ap length all)) in
     subst (λ (gs : List FieldText). (get_or gs i d).name ≢ (get_or gs j d).name) (sym all) differ
 
 differ_new : (fs done : List FieldText) → Differ done fs → NewNames done fs
 differ_new [] done h = tt
-differ_new (f ∷ fs) done h = (differs_fresh done 64 f.name (first_new f fs done h), differ_new fs (done ++ f ∷ []) (rest_new f fs done h))
+differ_new (f ∷ fs) done h = (differs_fresh done f.name (first_new f fs done h), differ_new fs (done ++ f ∷ []) (rest_new f fs done h))
 
 pub names_new : (fields : List FieldText) → NamesDiffer fields → NewNames [] fields
-names_new fields h = differ_new fields [] (λ i j d lt past within low. h i j d lt within low)
+names_new fields h = differ_new fields [] (λ i j d lt past within. h i j d lt within)
 
 pub new_names : (fields : List FieldText) → NewNames [] fields → NamesDiffer fields
-new_names fields new i j d lt within low = new_differ fields [] new i j d lt (omega arith) within low
+new_names fields new i j d lt within = new_differ fields [] new i j d lt (omega arith) within
 
 -- ---- the template of all fields
 abbrev some_template : Code → List TemplateField → Bool → Option Template

@@ -1,15 +1,8 @@
 -- What a line says is what is read of it.
 use Rattle.std.proofs.Common.{◌≡◌, ◌≢◌, ◌↔◌, ℕ, Bool, true, false, List, [], ◌∷◌, codes, Option, Some, None, IfSome, option_map, refl, sym, ap, subst, ◌∙◌}
-use Rattle.ak_base.specs.declared.code.Code.{Code}
-use Rattle.ak_filter.specs.declared.filter.Filter.{Filter}
-use Rattle.ak_message.specs.declared.kind.Kind.{Kind}
 use Rattle.ak_message.specs.declared.kind.Kind.TheVariants as k
 use Rattle.ak_message.specs.Message.{ValueData}
-use Rattle.ak_action.specs.declared.action.Action.{Action}
 use Rattle.ak_action.specs.declared.action.Action.TheVariants as action
-use Rattle.ak_describe.specs.declared.form.heads.AppForm.{AppForm}
-use Rattle.ak_describe.specs.declared.form.heads.LooperForm.{LooperForm}
-use Rattle.ak_describe.specs.declared.form.property.PropertyForm.{PropertyForm}
 use Rattle.ak_describe.specs.declared.keyword.Keyword.{Keyword}
 use Rattle.ak_describe.specs.declared.keyword.Keyword.TheVariants as key
 use Rattle.ak_describe.specs.declared.parts.PropertyParts.{PropertyParts}

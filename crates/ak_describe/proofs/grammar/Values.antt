@@ -145,9 +145,7 @@ value_shallow most kind (Some m) name None h fine = tt
 value_shallow most kind (Some m) name (Some v) h fine = added_shallow most (add_fault m.fields name v) m name v h fine.shallow
 
 begun_shallow : (most : ℕ) (b : reading.Built) (name : List ℕ) → Shallow most b.message → IfSome (field_begun b name) (λ (c : reading.Built). Shallow most c.message)
-begun_shallow most b name h =
-    some_if (λ (c : reading.Built). Shallow most c.message) (ltb (length b.names) 64) _ (Some (record { names = b.names; message = None }))
-    (some_if (λ (c : reading.Built). Shallow most c.message) _ (Some (record { names = b.names ++ name ∷ []; message = b.message })) None h tt) tt
+begun_shallow most b name h = some_if (λ (c : reading.Built). Shallow most c.message) _ (Some (record { names = b.names ++ name ∷ []; message = b.message })) None h tt
 
 module _ (most : ℕ) (message : List ℕ → Option Got) (fine : (text : List ℕ) → IfSome (message text) (IsFine most)) where
   values_shallow : (texts : List (List ℕ)) (name : List ℕ) (kind : Option Kind) (m : Option MessageData) → Shallow most m → IfSome (values_added message name texts kind m) (Shallow most)

@@ -14,7 +14,8 @@ use crate::words::{code_at, name_of};
 use ak_action::{Given, Template, TemplateFault, TemplateField, TemplateFields, Values};
 use ak_base::{Code, NoMemory, Text};
 use ak_flatten::{FLAT_LIMIT, flat_len};
-use ak_message::{FIELD_LIMIT, Message, Word, split_field};
+use ak_message::{Message, Word, split_field};
+use indexmap::IndexSet;
 use std::alloc::Global;
 
 /// The template, for a handler with these properties. `None` where it passes a limit.
@@ -28,7 +29,7 @@ pub(crate) fn template_form(
 {
     let (what, words) = code_at(words)?;
     let begun = Building {
-        names: Vec::new(alloc),
+        names: IndexSet::new(alloc),
         fields: Some(TemplateFields::new(alloc)),
     };
     let Building { names: _, fields } = with_fields(alloc, properties, begun, words)?;
@@ -38,10 +39,10 @@ pub(crate) fn template_form(
     }
 }
 
-// What is read of the fields: the names of the first 64, and the fields where they pass no limit.
+// What is read of the fields: their names, and the fields where they pass no limit.
 #[derive(Drop)]
 struct Building<'a> {
-    names: Vec<&'a [u8]>,
+    names: IndexSet<&'a [u8]>,
     fields: Option<TemplateFields>,
 }
 
@@ -79,7 +80,7 @@ fn field<'a>(
     add(alloc, building, name, given)
 }
 
-// Its name has to be a new one. A field behind the 64th is left out.
+// Its name has to be a new one.
 fn add<'a>(
     alloc: Global,
     building: Building<'a>,
@@ -88,39 +89,13 @@ fn add<'a>(
 ) -> Result<Building<'a>, FormFault>
     ensures { Gives built_of result (reads.field_added (built_of building.entry) name.now given) }
 {
-    let Building { names, fields } = building;
-    if has_name(&names, name) {
+    let Building { mut names, fields } = building;
+    if !names.insert(name)? {
         return Err(FormFault::BadValue);
     }
-    if names.len() >= FIELD_LIMIT {
-        return Ok(Building {
-            names,
-            fields: None,
-        });
-    }
-    name_too(alloc, Building { names, fields }, name, given)
-}
-
-// The name and the field, where it passes no limit.
-fn name_too<'a>(
-    alloc: Global,
-    building: Building<'a>,
-    name: &'a [u8],
-    given: Option<Given>,
-) -> Result<Building<'a>, FormFault>
-    ensures { Gives built_of result (reads.named_too (built_of building.entry) name.now given) }
-{
-    let Building { mut names, fields } = building;
     let text = name_of(alloc, name)?;
     let fields = with_field(fields, text, given)?;
-    names.push(name)?;
     Ok(Building { names, fields })
-}
-
-fn has_name(names: &[&[u8]], name: &[u8]) -> bool
-    ensures { result ≡ reads.has_name (map seen names.now) name.now }
-{
-    names.iter().any(|other| *other == name)
 }
 
 // The fields and one more, where they and it pass no limit.

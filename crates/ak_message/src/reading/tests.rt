@@ -473,7 +473,14 @@ fn fields_are_limited(rt: HostRuntime) -> Result<(), Fail> {
     for (more, fault) in [
         (" g=1", ReadFault::Limit),
         (" g=x", ReadFault::BadValue),
-        (" f00=1", ReadFault::Limit),
+        (" f00=1", ReadFault::BadValue),
+        (" f77=1", ReadFault::BadValue),
+        (" g=1 h=1 i=1", ReadFault::Limit),
+        (" g=1 f00=1", ReadFault::BadValue),
+        (" g=1 g=1", ReadFault::BadValue),
+        (" g=1 h=1 g=2 i=1", ReadFault::BadValue),
+        (" g=MSGG:{'abcd' f00=1 f01=1}", ReadFault::Limit),
+        (" g=MSGG:{'abcd' f00=1 f00=1}", ReadFault::BadValue),
     ] {
         let answer = fault_behind(rt.alloc(), more.as_bytes())?;
         same(&rt, answer, Some(fault), more);
