@@ -26,6 +26,7 @@ pub mod Outcomes
 pub mod PartsKept
 pub mod Passing
 pub mod Pigeons
+pub mod Placed
 pub mod Places
 pub mod Reading
 pub mod RowLines

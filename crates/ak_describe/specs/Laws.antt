@@ -1,13 +1,15 @@
 -- What holds of all lines: what is read is what they describe, and what is told is their first fault.
-use Rattle.std.specs.Prelude.{◌≡◌, ◌↔◌, ◌⊎◌, ℕ, List, Ok, Err}
+use Rattle.std.specs.Prelude.{◌≡◌, ◌↔◌, ◌⊎◌, ℕ, List, All, Some, Ok, Err, slice_get}
 use Rattle.ak_base.specs.declared.ending.RefusalKind.{RefusalKind}
 use Rattle.ak_message.specs.declared.line.Line.{Line}
 use Rattle.ak_describe.specs.declared.described.AppText.{AppText}
 use Rattle.ak_describe.specs.declared.fault.DescribeFault.{DescribeFault}
 use Rattle.ak_describe.specs.declared.fault.DescribeFault.TheVariants as answer
+use Rattle.ak_describe.specs.declared.named.Named.{Named}
 use Rattle.ak_describe.specs.Description.{description}
-use Rattle.ak_describe.specs.Describes.{Describes, FirstFault}
-use Rattle.ak_describe.specs.Pass.{Refusal}
+use Rattle.ak_describe.specs.Describes.{Follow, IsAt, Describes, FirstFault}
+use Rattle.ak_describe.specs.Parts.{RowData, LooperData, AppData}
+use Rattle.ak_describe.specs.Pass.{State, Refusal, nothing_read}
 
 -- exactly what lines describe is read of them
 abbrev pub DescribedIsRead : Type 0
@@ -31,6 +33,14 @@ abbrev pub OneFirstFault : Type 0
 OneFirstFault =
     (lines : List Line) (number other : ℕ) (kind another : RefusalKind) → FirstFault lines number kind → FirstFault lines other another
     → (number ≡ other) × (kind ≡ another)
+
+-- ---- where a name stands there is a handler
+abbrev pub HasPlace : List AppData → Named → Type 0
+HasPlace apps n = (a : AppData) × (l : LooperData) × (r : RowData) × IsAt apps n a l × (slice_get l.rows n.row ≡ Some r)
+
+-- each name that lines give to be found later stands in a handler that they give
+abbrev pub NamesHavePlaces : Type 0
+NamesHavePlaces = (lines : List Line) (s : State) → Follow nothing_read lines s → All (HasPlace s.apps) s.names
 
 -- a refusal is the first fault
 abbrev pub IsFirstFault : List Line → DescribeFault → Type 0

@@ -16,3 +16,8 @@ pub fn described_or_faulty()
     ensures one_description { law.OneDescription }
     ensures one_fault { law.OneFirstFault }
 {}
+
+/// Each name that lines give to be found by others stands in a handler that they give.
+pub fn names_have_places()
+    ensures { law.NamesHavePlaces }
+{}

@@ -29,7 +29,7 @@ use ak_message::Line;
 pub use described::AppText;
 pub use fault::DescribeFault;
 pub use first::{APP_LIMIT, APP_LOOPER_LIMIT};
-pub use laws::{described_or_faulty, descriptions_are_read};
+pub use laws::{described_or_faulty, descriptions_are_read, names_have_places};
 use std::alloc::Global;
 
 /// The applications that these lines describe, in order. The lines are those behind the input's first one,
