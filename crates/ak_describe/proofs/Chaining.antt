@@ -42,9 +42,6 @@ module _ (rows : List PlanRow) where
   pub ends_before : (place : ℕ) → Ends (next_place rows place) → Ends (Some place)
   ends_before place e = record { steps = suc e.steps; is = e.is }
 
-  pub ends_behind : (place : ℕ) → Ends (Some place) → Ends (next_place rows place)
-  ends_behind place e = record { steps = e.steps; is = after_more e.steps (suc e.steps) (Some place) e.is (omega arith) }
-
   -- ---- a chain that comes back does not end
   once_less : (n p place : ℕ) → place_after rows (suc p) (Some place) ≡ Some place → place_after rows n (Some place) ≡ None → suc p ≤ n → place_after rows (n - suc p) (Some place) ≡ None
   once_less n p place back e le =

@@ -1,5 +1,5 @@
 -- What the actions in lines say of the properties of their handler, and what stays so where there are more.
-use Rattle.std.proofs.Common.{◌≡◌, ◌∙◌, ℕ, Bool, true, false, ◌&&◌, cond, if◌then◌else◌, eqb, ltb, List, [], ◌∷◌, ◌++◌, length, Option, None, Some, option_map, bytes_eq, Ok, is_none, nat_le, inl, inr, ⊎_elim, ◌⊎◌, eq-eqb, refl, sym, ap, subst}
+use Rattle.std.proofs.Common.{◌≡◌, ◌∙◌, ℕ, Bool, true, false, ◌&&◌, cond, if◌then◌else◌, eqb, List, [], ◌∷◌, ◌++◌, length, Option, None, Some, option_map, bytes_eq, Ok, is_none, nat_le, inl, inr, ⊎_elim, ◌⊎◌, eq-eqb, refl, sym, ap, subst}
 use Rattle.std.specs.List.{list_all}
 use Rattle.std.proofs.lemmas.Bool.{and_from, and_parts, or_left, or_right}
 use Rattle.std.proofs.lemmas.List.Folds.{list_all-append}

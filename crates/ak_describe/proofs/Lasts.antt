@@ -1,10 +1,9 @@
 -- The last word of a line, and the last one of a list as contracts see it.
-use Rattle.std.proofs.Common.{◌≡◌, ℕ, ◌-◌, List, [], ◌∷◌, ◌++◌, length, map, Option, Some, None, Result, Ok, Err, refl, ap, sym, ◌∙◌}
+use Rattle.std.proofs.Common.{◌≡◌, ℕ, ◌-◌, List, [], ◌∷◌, ◌++◌, length, map, Some, Result, Ok, Err, refl, ap, sym, ◌∙◌}
 use Rattle.std.specs.Prelude.{slice_get, slice_set, option_map}
 use Rattle.std.proofs.lemmas.List.{map-append, length-map, map-set}
 use Rattle.std.proofs.lemmas.Option.{slice_get-map}
 use Rattle.ak_base.specs.declared.ending.RefusalKind.{RefusalKind}
-use Rattle.ak_base.specs.declared.ending.RefusalKind.TheVariants as refusal
 use Rattle.ak_message.specs.declared.line.Word.{Word}
 use Rattle.ak_describe.specs.Pass.{last_item, with_item, on_item, on_last}
 use Rattle.ak_describe.specs.Words.{texts, behind_first, last_of}
@@ -21,9 +20,6 @@ last_word words front w e =
 -- ---- the last one of a list
 pub last_item-map : {A B : Type 0} (f : A → B) (xs : List A) → last_item (map f xs) ≡ option_map f (last_item xs)
 last_item-map f xs = ap (λ (n : ℕ). slice_get (map f xs) (n - 1)) (length-map xs f) ∙ slice_get-map f xs (length xs - 1)
-
-pub on_last-none : {A B C : Type 0} (f : A → B) (change : B → Result (B × C) RefusalKind) (xs : List A) → last_item xs ≡ None → on_last change (map f xs) ≡ Err refusal.UnknownLine
-on_last-none f change xs e = ap (on_item change (map f xs)) (last_item-map f xs ∙ ap (option_map f) e)
 
 pub on_last-some : {A B C : Type 0} (f : A → B) (change : B → Result (B × C) RefusalKind) (xs : List A) (x : A) → last_item xs ≡ Some x → on_last change (map f xs) ≡ with_item (map f xs) (change (f x))
 on_last-some f change xs x e = ap (on_item change (map f xs)) (last_item-map f xs ∙ ap (option_map f) e)

@@ -1,5 +1,5 @@
 -- The places that are kept of next handlers lead as the handlers do that have theirs by then.
-use Rattle.std.proofs.Common.{◌≡◌, ◌≢◌, ◌∙◌, ℕ, zero, suc, ◌+◌, ◌-◌, ◌<◌, ◌≤◌, if◌then◌else◌, eq-eqb, Bool, true, false, not, cond, ltb, eqb, List, [], ◌∷◌, ◌++◌, length, map, take, drop, set, Option, None, Some, option_map, option_and_then, slice_get, refl, sym, ap, subst, ⊎_elim, arith, get_or-set_other, get_or-set_same, eqb-true, ne_eqb}
+use Rattle.std.proofs.Common.{◌≡◌, ◌≢◌, ◌∙◌, ℕ, zero, suc, ◌+◌, ◌-◌, ◌<◌, ◌≤◌, if◌then◌else◌, eq-eqb, Bool, true, false, cond, ltb, eqb, List, [], ◌∷◌, ◌++◌, length, map, take, drop, set, Option, None, Some, option_map, option_and_then, slice_get, refl, sym, ap, subst, ⊎_elim, arith, get_or-set_other, get_or-set_same, eqb-true, ne_eqb}
 use Rattle.std.specs.List.{position_or_len}
 use Rattle.std.specs.Str.{bytes_eq}
 use Rattle.std.proofs.lemmas.Bool.{cases_eq, cases_lt}
@@ -64,9 +64,6 @@ is_called name r = bytes_eq r.name name
 
 abbrev is_planned : List ℕ → PlanRow → Bool
 is_planned name r = bytes_eq r.name name
-
-abbrev first_place : Bool → ℕ → ℕ
-first_place b n = cond (not b) (suc n) 0
 
 place_bare : (rows : List RowData) (name : List ℕ) → position_or_len (is_planned name) (map without_next (plan_rows rows)) ≡ position_or_len (is_called name) rows
 place_bare [] name = refl

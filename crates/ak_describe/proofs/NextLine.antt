@@ -103,9 +103,6 @@ module _ (apps : List AppData) (o : Opened apps) where
       let more : 1 < length o.looper.rows = leb-false (length o.looper.rows) 1 (not-true (is_before_handlers o.looper) both.0) in
       (omega arith, none_is o.row.next (sym (ap lacks_next o.row_is) ∙ both.1))
 
-  rows_open : slice_get apps (app_place apps) ≡ Some o.app
-  rows_open = o.app_is
-
   -- what is there before
   pub next_before : o.row.next ≡ None → next_at apps (app_place apps) looper_place row_place ≡ None
   next_before none =

@@ -18,10 +18,6 @@ follow_read (line ∷ lines) s left h f =
     ap (λ (r : Result State RefusalKind). then_read (at_line line.number r) (others lines)) (line_adds s line f.0 h f.1)
     ∙ follow_read lines f.0 left (adds_fits s line f.0 h f.1) f.2
 
-pub follow_fits : (lines : List Line) (s left : State) → StateFits s → Follow s lines left → StateFits left
-follow_fits [] s left h f = subst StateFits f h
-follow_fits (line ∷ lines) s left h f = follow_fits lines f.0 left (adds_fits s line f.0 h f.1) f.2
-
 -- what one line leads to, among others
 behind_added : (s next : State) (line : Line) (lines : List Line) (r : Result State Refusal) → read_line s line ≡ Ok next → after_lines s (line ∷ lines) ≡ r → after_lines next lines ≡ r
 behind_added s next line lines r e h = sym (ap (λ (x : Result State RefusalKind). then_read (at_line line.number x) (others lines)) e) ∙ h

@@ -59,9 +59,6 @@ opened_by apps l (Some a) is e = record { app = a; is_app = is; is_looper = e }
 pub opened_parts : (apps : List AppData) (l : LooperData) → open_looper apps ≡ Some l → Opened apps l
 opened_parts apps l e = opened_by apps l (last_item apps) refl e
 
-pub opened_is : (apps : List AppData) (l : LooperData) → Opened apps l → open_looper apps ≡ Some l
-opened_is apps l o = ap (λ (a : Option AppData). last_item (loopers_in a)) o.is_app ∙ o.is_looper
-
 pub open_row_is : (s : State) (l : LooperData) (r : RowData) → open_looper s.apps ≡ Some l → last_item l.rows ≡ Some r → open_row s ≡ Some r
 open_row_is s l r is e = ap (λ (o : Option LooperData). last_item (rows_in o)) is ∙ e
 

@@ -7,7 +7,7 @@ pub mod Dests
 pub mod Fields
 pub mod Filters
 pub mod Heads
-pub mod Keywords
+pub mod Hooks
 pub mod Kinds
 pub mod Messages
 pub mod Numbers

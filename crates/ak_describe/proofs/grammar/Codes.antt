@@ -95,8 +95,6 @@ byte_at text all i = by_place (cases_lt i (length text)) where
   by_place (inr past) = rw (get_or_past text i 0 past) (omega arith)
 
 -- ---- the law
-abbrev some_code : Code → Option Code
-some_code code = Some code
 
 code_again_is : (word : List ℕ) (code : Code) → WritesCode word code → code_of word ≡ Some code
 code_again_is word code h = ap (option_map coded) (code_again word code.0 h)

@@ -85,9 +85,6 @@ app_word_again word (app.Name name) is =
     some_app a = Some a
 app_word_again word (app.Path path) is = absurd is
 
-pub app_word_is_read : (word : List ℕ) (a : AppWord) → SaysAppWord word a ↔ (app_word_of word ≡ Some a)
-app_word_is_read word a = (λ is. app_word_again word a is, λ e. app_word_takes word a e)
-
 -- ---- `self`, `looper NAME`, `handler NAME`, `app APP`
 abbrev IsDest : List (List ℕ) → Dest → List (List ℕ) → Type 0
 IsDest words d rest = (part : List (List ℕ)) × (words ≡ part ++ rest) × SaysDest part d

@@ -59,9 +59,6 @@ side_begins sides.Any part rest P is here there = subst (λ (ps : List (List ℕ
 side_begins sides.Local part rest P is here there = subst (λ (ps : List (List ℕ)). P (ps ++ rest)) (sym is) (there (codes "local" ∷ rest))
 side_begins sides.Remote part rest P is here there = subst (λ (ps : List (List ℕ)). P (ps ++ rest)) (sym is) (there (codes "remote" ∷ rest))
 
-pub source_at_is_read : (words : List (List ℕ)) (side : SourceIs) (rest : List (List ℕ)) → NotFirst (codes "from") rest → ((part : List (List ℕ)) × (words ≡ part ++ rest) × IsSide side part) ↔ (source_at words ≡ Some (side, rest))
-source_at_is_read words side rest none = (λ is. ap source_at is.1 ∙ side_again is.0 side rest none is.2, λ e. side_takes words side rest e)
-
 -- ---- `[by WAY]`
 abbrev way_word : DeliveryIs → List ℕ
 way_word ways.Any = []
@@ -100,9 +97,6 @@ way_begins : (way : DeliveryIs) (part rest : List (List ℕ)) (P : List (List �
 way_begins ways.Any part rest P is here there = subst (λ (ps : List (List ℕ)). P (ps ++ rest)) (sym is) here
 way_begins ways.Dropped part rest P is here there = subst (λ (ps : List (List ℕ)). P (ps ++ rest)) (sym is) (there (codes "dropped" ∷ rest))
 way_begins ways.Programmed part rest P is here there = subst (λ (ps : List (List ℕ)). P (ps ++ rest)) (sym is) (there (codes "programmed" ∷ rest))
-
-pub delivery_at_is_read : (words : List (List ℕ)) (way : DeliveryIs) (rest : List (List ℕ)) → NotFirst (codes "by") rest → ((part : List (List ℕ)) × (words ≡ part ++ rest) × IsWay way part) ↔ (delivery_at words ≡ Some (way, rest))
-delivery_at_is_read words way rest none = (λ is. ap delivery_at is.1 ∙ way_again is.0 way rest none is.2, λ e. way_takes words way rest e)
 
 -- ---- `skip`, or `pass [to NAME] [as CODE]`
 abbrev filter_with : Option Code → SourceIs → DeliveryIs → Passing → Filter

@@ -1,7 +1,7 @@
 -- Words in order, and the parts of a line that may be left out, are read as they are written. A part is read where the words behind
 -- it do not begin with what would be taken for it.
-use Rattle.std.proofs.Common.{◌≡◌, ◌↔◌, ℕ, Bool, true, List, [], ◌∷◌, ◌++◌, Option, Some, None, refl, sym, ap, subst, ◌∙◌, inl, inr, ⊎_elim, arith}
-use Rattle.std.specs.Prelude.{codes, option_map}
+use Rattle.std.proofs.Common.{◌≡◌, ℕ, Bool, true, List, [], ◌∷◌, ◌++◌, Option, Some, None, refl, sym, ap, subst, ◌∙◌, inl, inr, ⊎_elim, arith}
+use Rattle.std.specs.Prelude.{option_map}
 use Rattle.std.specs.List.{AllZip}
 use Rattle.std.specs.Str.{bytes_eq}
 use Rattle.std.proofs.lemmas.List.{append-nil}
@@ -11,7 +11,7 @@ use Rattle.ak_base.specs.declared.code.Code.{Code}
 use Rattle.ak_message.specs.Payload.{where_true}
 use Rattle.ak_message.specs.Words.{◌>>=◌}
 use Rattle.ak_message.proofs.WordLaws.{bind_some, cond_some, some_is}
-use Rattle.ak_describe.specs.Forms.{code_found, code_behind, name_found, name_behind, commands_at, form_of, forms_at, text_found, text_behind}
+use Rattle.ak_describe.specs.Forms.{code_found, code_behind, name_found, name_behind, form_of, text_found, text_behind}
 use Rattle.ak_describe.specs.Grammar.{IsName, IsPart, AreParts, IsTextPart, WritesCode, WritesNumber, WritesText}
 use Rattle.ak_describe.specs.Made.{quoted_from}
 use Rattle.ak_describe.specs.Words.{first_of, behind, ends, code_at, code_of, name_at, name_of, many_from, many, filled, some_behind}
@@ -163,14 +163,6 @@ name_part_takes key words x rest e = part_takes name_of IsName key words x rest 
 pub name_part_again : (key : List ℕ) (part : List (List ℕ)) (x : Option (List ℕ)) (rest : List (List ℕ)) → NotFirst key rest → IsPart key IsName x part → name_behind (part ++ rest) key ≡ read_as x rest
 name_part_again key part x rest none is = name_found-is (part ++ rest) (behind (part ++ rest) key) ∙ part_again name_of IsName key part x rest name_again none is
 
-pub code_behind_is_read : (key : List ℕ) (words : List (List ℕ)) (x : Option Code) (rest : List (List ℕ)) → NotFirst key rest → ((part : List (List ℕ)) × (words ≡ part ++ rest) × IsPart key WritesCode x part) ↔ (code_behind words key ≡ Some (x, rest))
-code_behind_is_read key words x rest none =
-    (λ is. ap (λ (ws : List (List ℕ)). code_behind ws key) is.1 ∙ code_part_again key is.0 x rest none is.2, λ e. code_part_takes key words x rest e)
-
-pub name_behind_is_read : (key : List ℕ) (words : List (List ℕ)) (x : Option (List ℕ)) (rest : List (List ℕ)) → NotFirst key rest → ((part : List (List ℕ)) × (words ≡ part ++ rest) × IsPart key IsName x part) ↔ (name_behind words key ≡ Some (x, rest))
-name_behind_is_read key words x rest none =
-    (λ is. ap (λ (ws : List (List ℕ)). name_behind ws key) is.1 ∙ name_part_again key is.0 x rest none is.2, λ e. name_part_takes key words x rest e)
-
 -- ---- one or more behind a key
 abbrev AreTaken : {A : Type 0} → (List ℕ → A → Type 0) → List (List ℕ) → List A × List (List ℕ) → Type 0
 AreTaken Writes words got = (texts : List (List ℕ)) × (words ≡ texts ++ got.1) × AllZip Writes texts got.0
@@ -233,16 +225,6 @@ form_takes word n e = number_takes 1 7 word n (omega arith) e
 pub form_again : (word : List ℕ) (n : ℕ) → WritesNumber 1 7 word n → form_of word ≡ Some n
 form_again word n is = number_again 1 7 word n (omega arith) is
 
-pub commands_at_is_read : (words : List (List ℕ)) (xs : List Code) (rest : List (List ℕ)) → NotFirst (codes "commands") rest → IsStop code_of rest
-    → ((part : List (List ℕ)) × (words ≡ part ++ rest) × AreParts (codes "commands") WritesCode xs part) ↔ (commands_at words ≡ Some (xs, rest))
-commands_at_is_read words xs rest none stop =
-    (λ is. ap commands_at is.1 ∙ parts_again code_of WritesCode (codes "commands") is.0 xs rest code_again_of none stop is.2, λ e. parts_take code_of WritesCode (codes "commands") words xs rest code_takes e)
-
-pub forms_at_is_read : (words : List (List ℕ)) (xs : List ℕ) (rest : List (List ℕ)) → NotFirst (codes "forms") rest → IsStop form_of rest
-    → ((part : List (List ℕ)) × (words ≡ part ++ rest) × AreParts (codes "forms") (WritesNumber 1 7) xs part) ↔ (forms_at words ≡ Some (xs, rest))
-forms_at_is_read words xs rest none stop =
-    (λ is. ap forms_at is.1 ∙ parts_again form_of (WritesNumber 1 7) (codes "forms") is.0 xs rest form_again none stop is.2, λ e. parts_take form_of (WritesNumber 1 7) (codes "forms") words xs rest form_takes e)
-
 -- ---- a text behind a key
 pub text_part_takes : (key : List ℕ) (words : List (List ℕ)) (text : Option (List ℕ)) (rest : List (List ℕ)) → text_behind words key ≡ read_as text rest → (part : List (List ℕ)) × (words ≡ part ++ rest) × IsTextPart key text part
 text_part_takes key words text rest e = by_key (behind words key) refl e where
@@ -278,7 +260,3 @@ text_begins key text part rest P is here there =
 -- the same of the last part
 pub text_begins_all : (key : List ℕ) (text : Option (List ℕ)) (part : List (List ℕ)) (P : List (List ℕ) → Type 0) → IsTextPart key text part → P [] → ((more : List (List ℕ)) → P (key ∷ more)) → P part
 text_begins_all key text part P is here there = subst (λ (ws : List (List ℕ)). P ws) (append-nil part) (text_begins key text part [] P is here there)
-
-pub text_behind_is_read : (key : List ℕ) (words : List (List ℕ)) (text : Option (List ℕ)) (rest : List (List ℕ)) → NotFirst key rest → ((part : List (List ℕ)) × (words ≡ part ++ rest) × IsTextPart key text part) ↔ (text_behind words key ≡ Some (text, rest))
-text_behind_is_read key words text rest none =
-    (λ is. ap (λ (ws : List (List ℕ)). text_behind ws key) is.1 ∙ text_part_again key is.0 text rest none is.2, λ e. text_part_takes key words text rest e)

@@ -14,7 +14,7 @@ use Rattle.ak_describe.specs.Says.{Form, says_app, says_looper, says_hook, says_
 use Rattle.ak_describe.specs.Words.{only_name, only_code}
 use Rattle.ak_describe.proofs.grammar.Heads.{app_is_read, looper_is_read, name_is_read, code_is_read}
 use Rattle.ak_describe.proofs.grammar.Filters.{filter_is_read}
-use Rattle.ak_describe.proofs.grammar.Keywords.{hook_is_read}
+use Rattle.ak_describe.proofs.grammar.Hooks.{hook_is_read}
 use Rattle.ak_describe.proofs.grammar.Properties.{property_is_read, element_is_read}
 use Rattle.ak_describe.proofs.grammar.Actions.{reply_is_read, post_is_read, ask_is_read, set_is_read, added_is_read, bare_is_read}
 
