@@ -1,0 +1,15 @@
+//! The public calls of the lower crates, made as a program above would make them: texts and codes, sources and sinks,
+//! messages and their flat texts, filters, handlers, specifiers, property tables and elements. There is nothing here but
+//! tests. They stand apart from those crates, since a crate with tests of its own is proved twice.
+#![tactic(auto)]
+
+#[cfg(test)]
+mod compare;
+#[cfg(test)]
+mod kinds;
+#[cfg(test)]
+mod message_texts;
+#[cfg(test)]
+mod messages;
+#[cfg(test)]
+mod words;
