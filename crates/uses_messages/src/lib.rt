@@ -6,6 +6,12 @@
 #[cfg(test)]
 mod compare;
 #[cfg(test)]
+mod cut_texts;
+#[cfg(test)]
+mod flat_texts;
+#[cfg(test)]
+mod items;
+#[cfg(test)]
 mod kinds;
 #[cfg(test)]
 mod message_texts;
