@@ -10,6 +10,8 @@ mod cut_texts;
 #[cfg(test)]
 mod flat_texts;
 #[cfg(test)]
+mod handlers;
+#[cfg(test)]
 mod items;
 #[cfg(test)]
 mod kinds;
