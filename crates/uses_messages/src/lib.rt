@@ -8,6 +8,8 @@ mod compare;
 #[cfg(test)]
 mod cut_texts;
 #[cfg(test)]
+mod elements;
+#[cfg(test)]
 mod flat_texts;
 #[cfg(test)]
 mod handlers;
