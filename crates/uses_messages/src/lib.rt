@@ -22,4 +22,6 @@ mod message_texts;
 #[cfg(test)]
 mod messages;
 #[cfg(test)]
+mod specifiers;
+#[cfg(test)]
 mod words;
