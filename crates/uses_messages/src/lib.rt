@@ -22,6 +22,8 @@ mod message_texts;
 #[cfg(test)]
 mod messages;
 #[cfg(test)]
+mod outside;
+#[cfg(test)]
 mod properties;
 #[cfg(test)]
 mod specifiers;
