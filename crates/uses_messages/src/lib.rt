@@ -12,6 +12,8 @@ mod cut_texts;
 #[cfg(test)]
 mod elements;
 #[cfg(test)]
+mod filters;
+#[cfg(test)]
 mod flat_texts;
 #[cfg(test)]
 mod handlers;
