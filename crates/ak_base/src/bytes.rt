@@ -88,38 +88,3 @@ impl Bytes {
         self.items.as_slice()
     }
 }
-
-#[cfg(test)]
-mod tests {
-    use super::*;
-    use std::test::Fail;
-
-    #[test]
-    fn grows_and_is_overwritten(rt: HostRuntime) -> Result<(), Fail> {
-        let mut out = Bytes::new(rt.alloc());
-        out.push(b'a')?;
-        out.extend(b"bc")?;
-        out.extend(b"")?;
-        assert_eq!(rt; out.as_slice(), b"abc".as_slice());
-        out.overwrite(1, b"xy");
-        assert_eq!(rt; (out.as_slice(), out.len()), (b"axy".as_slice(), 3));
-        Ok(())
-    }
-
-    #[test]
-    fn is_cleared(rt: HostRuntime) -> Result<(), Fail> {
-        let mut out = Bytes::new(rt.alloc());
-        out.extend(b"axy")?;
-        out.clear();
-        assert_eq!(rt; out.as_slice(), b"".as_slice());
-        Ok(())
-    }
-
-    #[test]
-    fn grows_past_its_capacity(rt: HostRuntime) -> Result<(), Fail> {
-        let mut out = Bytes::with_capacity(rt.alloc(), 2)?;
-        out.extend(b"abc")?;
-        assert_eq!(rt; out.as_slice(), b"abc".as_slice());
-        Ok(())
-    }
-}

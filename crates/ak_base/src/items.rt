@@ -36,17 +36,3 @@ impl<T> Items<T> {
         self.items.as_slice()
     }
 }
-
-#[cfg(test)]
-mod tests {
-    use super::*;
-    use std::test::Fail;
-
-    #[test]
-    fn holds_a_vec(rt: HostRuntime) -> Result<(), Fail> {
-        let items = Items::from_vec(vec![in rt.alloc(); 3u8, 1, 2]?);
-        assert_eq!(rt; items.as_slice(), [3, 1, 2].as_slice());
-        assert_eq!(rt; items.into_vec().as_slice(), [3, 1, 2].as_slice());
-        Ok(())
-    }
-}

@@ -76,24 +76,3 @@ impl Raw {
         self.bytes.as_slice()
     }
 }
-
-#[cfg(test)]
-mod tests {
-    use super::*;
-    use std::test::Fail;
-
-    #[test]
-    fn raw_values_have_at_most_1024_bytes(rt: HostRuntime) -> Result<(), Fail> {
-        let long = vec![in rt.alloc(); 0xff; 1025]?;
-        let raw = Raw::from_bytes(rt.alloc(), &long[..1024])?;
-        assert_eq!(rt; raw.as_bytes(), &long[..1024]);
-        assert_eq!(rt; raw.try_clone()?.as_bytes(), raw.as_bytes());
-        Ok(())
-    }
-
-    #[test]
-    fn a_raw_value_of_1025_bytes_is_refused(rt: HostRuntime) {
-        let fault = Raw::from_bytes(rt.alloc(), &[0xff; 1025]).err();
-        assert_eq!(rt; fault, Some(RawFault::TooLong));
-    }
-}

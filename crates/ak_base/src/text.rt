@@ -96,35 +96,3 @@ impl Text {
         self.text.as_str()
     }
 }
-
-#[cfg(test)]
-mod tests {
-    use super::*;
-    use std::test::Fail;
-
-    #[test]
-    fn takes_texts(rt: HostRuntime) -> Result<(), Fail> {
-        let long = [b'x'; 1025];
-        let text = Text::from_bytes(rt.alloc(), &long[..1024])?;
-        assert_eq!(rt; text.as_bytes(), &long[..1024]);
-        let copy = Text::from_bytes(rt.alloc(), "p\u{e9}".as_bytes())?.try_clone()?;
-        let told = ("p\u{e9}", [b'p', 0xc3, 0xa9].as_slice());
-        assert_eq!(rt; (copy.as_str(), copy.as_bytes()), told);
-        Ok(())
-    }
-
-    #[test]
-    fn refuses_bytes(rt: HostRuntime) {
-        let long = [b'x'; 1025];
-        let long_and_bad = [0xff; 1025];
-        let rows: [(&[u8], TextFault); 4] = [
-            (&long, TextFault::TooLong),
-            (&long_and_bad, TextFault::TooLong),
-            (&[0xff, 0], TextFault::NotUtf8),
-            (&[0x41, 0], TextFault::Zero),
-        ];
-        for (bytes, fault) in rows {
-            assert_eq!(rt; Text::from_bytes(rt.alloc(), bytes).err(), Some(fault));
-        }
-    }
-}

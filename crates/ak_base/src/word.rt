@@ -24,29 +24,3 @@ fn are_word_bytes(b: &[u8]) -> bool
 {
     b.iter().all(|byte| is_word_byte(*byte))
 }
-
-#[cfg(test)]
-mod tests {
-    use super::*;
-
-    #[test]
-    fn tells_words(rt: HostRuntime) {
-        let longest = [b'a'; 64];
-        let longer = [b'a'; 65];
-        let rows: [(&[u8], bool); 9] = [
-            (b"a", true),
-            (b"a/b-c_d.e:f", true),
-            (b"Az09", true),
-            (&longest, true),
-            (&longer, false),
-            (b"", false),
-            (b"a b", false),
-            (b"a\"b", false),
-            (&[0xc3, 0xa9], false),
-        ];
-        for (bytes, wanted) in rows {
-            assert_eq!(rt; is_word(bytes), wanted, "at {bytes:?}");
-        }
-        assert_eq!(rt; (is_word_byte(b'/'), is_word_byte(b'@')), (true, false));
-    }
-}

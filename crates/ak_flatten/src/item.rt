@@ -237,6 +237,3 @@ fn read_again(alloc: Global, flat: &[u8]) -> Result<Message, NoMemory>
         }
     }
 }
-
-#[cfg(test)]
-mod tests;

@@ -19,8 +19,3 @@ pub use laws::{one_spelling, spelled_or_faulty, written_is_read};
 pub use length::flat_len;
 pub use reading::unflatten;
 pub use writing::{FLAT_LIMIT, flatten};
-
-#[cfg(test)]
-mod cuts;
-#[cfg(test)]
-mod tests;

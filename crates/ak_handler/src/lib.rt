@@ -9,8 +9,6 @@ mod laws;
 mod next;
 mod rows;
 mod set;
-#[cfg(test)]
-mod tests;
 
 pub use fault::HandlerFault;
 pub use laws::{chains_are_whole, tokens_are_never_used_again};

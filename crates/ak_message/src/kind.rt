@@ -44,29 +44,3 @@ impl Kind {
         Code(u32::from_be_bytes(*letters))
     }
 }
-
-#[cfg(test)]
-mod tests {
-    use super::*;
-
-    #[test]
-    fn codes_are_four_letters(rt: HostRuntime) {
-        for (kind, code) in [
-            (Kind::Bool, 0x424f_4f4c),
-            (Kind::Int8, 0x4259_5445),
-            (Kind::Int16, 0x5348_5254),
-            (Kind::Int32, 0x4c4f_4e47),
-            (Kind::Int64, 0x4c4c_4e47),
-            (Kind::UInt8, 0x5542_5954),
-            (Kind::UInt16, 0x5553_4854),
-            (Kind::UInt32, 0x554c_4e47),
-            (Kind::UInt64, 0x554c_4c47),
-            (Kind::Text, 0x4353_5452),
-            (Kind::Message, 0x4d53_4747),
-            (Kind::Messenger, 0x4d53_4e47),
-            (Kind::Raw, 0x5241_5754),
-        ] {
-            assert_eq!(rt; kind.code(), Code(code));
-        }
-    }
-}

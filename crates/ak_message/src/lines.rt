@@ -180,6 +180,3 @@ fn is_silent(line: &[u8]) -> bool
     }
     true
 }
-
-#[cfg(test)]
-mod tests;

@@ -448,6 +448,3 @@ impl Field {
         Ok(())
     }
 }
-
-#[cfg(test)]
-mod tests;

@@ -555,6 +555,3 @@ impl ReadValues {
         })
     }
 }
-
-#[cfg(test)]
-mod tests;

@@ -179,6 +179,3 @@ impl Begun {
         Ok(Begun { word, marks })
     }
 }
-
-#[cfg(test)]
-mod tests;

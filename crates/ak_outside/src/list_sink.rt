@@ -71,26 +71,3 @@ impl Sink for ListSink {
         SinkWrite::Wrote(piece.len())
     }
 }
-
-#[cfg(test)]
-mod tests {
-    use super::*;
-    use std::test::Fail;
-
-    #[test]
-    fn keeps_what_is_written(rt: HostRuntime) -> Result<(), Fail> {
-        let mut sink = ListSink::new(rt.alloc(), vec![in rt.alloc(); 2, 3]?);
-        assert!(rt; sink.written().is_empty());
-        let rows = [
-            (b"ab".as_slice(), SinkWrite::Wrote(2), b"ab".as_slice()),
-            (b"c", SinkWrite::Failed, b"ab"),
-            (b"d", SinkWrite::Failed, b"ab"),
-            (b"efg", SinkWrite::Wrote(3), b"abefg"),
-        ];
-        for (piece, want, kept) in rows {
-            let wrote = sink.write(piece);
-            assert_eq!(rt; (wrote, sink.written()), (want, kept), "at {piece:?}");
-        }
-        Ok(())
-    }
-}

@@ -67,30 +67,3 @@ impl Source for TextSource {
         SourceRead::Read(n)
     }
 }
-
-#[cfg(test)]
-mod tests {
-    use super::*;
-    use std::test::Fail;
-
-    #[test]
-    fn gives_its_text(rt: HostRuntime) -> Result<(), Fail> {
-        let mut bytes = Bytes::new(rt.alloc());
-        bytes.extend(b"hello")?;
-        let mut source = TextSource::new(bytes, vec![in rt.alloc(); 1, 3]?);
-        let rows = [
-            (SourceRead::Failed, b"..".as_slice()),
-            (SourceRead::Read(2), b"he".as_slice()),
-            (SourceRead::Failed, b"he".as_slice()),
-            (SourceRead::Read(2), b"ll".as_slice()),
-            (SourceRead::Read(1), b"ol".as_slice()),
-            (SourceRead::Read(0), b"ol".as_slice()),
-        ];
-        let mut buf = *b"..";
-        for (want, kept) in rows {
-            let read = source.read(&mut buf);
-            assert_eq!(rt; (read, buf.as_slice()), (want, kept));
-        }
-        Ok(())
-    }
-}

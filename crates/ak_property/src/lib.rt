@@ -12,6 +12,3 @@ pub use handler_row::HandlerRow;
 pub use laws::{rows_fit_as_told, the_first_fitting_row_is_found};
 pub use suites::suite_message;
 pub use table::{PropertyRow, PropertyTable, ROW_LIMIT, RowFault};
-
-#[cfg(test)]
-mod tests;

@@ -16,6 +16,3 @@ pub use laws::{
 pub use popping::{left, pop};
 pub use reading::{BadScript, current};
 pub use writing::add_specifier;
-
-#[cfg(test)]
-mod tests;

@@ -14,6 +14,3 @@ pub use fault::ElementFault;
 pub use laws::{
     chosen_lie_within, ids_are_never_used_again, one_cause_a_refusal, reverse_counts_from_the_end,
 };
-
-#[cfg(test)]
-mod tests;

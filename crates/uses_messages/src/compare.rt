@@ -7,8 +7,8 @@ use std::process::Abort;
 pub(crate) fn same<T: PartialEq + Debug + Copy>(
     rt: &impl Abort,
     label: impl Debug + Copy,
-    got: T,
     told: T,
+    wanted: T,
 ) {
-    assert_eq!(rt; got, told, "at {label:?}");
+    assert_eq!(rt; told, wanted, "at {label:?}");
 }

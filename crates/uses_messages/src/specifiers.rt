@@ -1,15 +1,14 @@
-use super::*;
+// The specifiers of a message: added, read and popped.
+
+use crate::compare::same;
+use crate::messages::{number, words};
+use AddFault::{BadType, FieldLimit};
 use ak_base::{Code, Text};
 use ak_message::{AddFault, At, AtRef, Kind, Message, Specifier, Value};
+use ak_specifier::{BadScript, add_specifier, current, left, pop};
 use std::alloc::Global;
-use std::fmt::Debug;
 use std::process::Abort;
 use std::test::Fail;
-
-// The two are the same.
-fn same<T: PartialEq + Debug + Copy>(rt: &impl Abort, label: impl Debug + Copy, got: T, told: T) {
-    assert_eq!(rt; got, told, "at {label:?}");
-}
 
 // What a specifier says beside its form and its property: `index`, `range`, `id` and `name`.
 type Said<'a> = (Option<i32>, Option<i32>, Option<i32>, Option<&'a str>);
@@ -91,20 +90,6 @@ fn add_letters(
     Ok(message.add(b"specifiers", Value::from_message(alloc, specifier)?)?)
 }
 
-fn number_at(message: &Message, name: &[u8]) -> Option<i32> {
-    match message.find(name, Kind::Int32, 0) {
-        Ok(Value::Int32(number)) => Some(*number),
-        _ => None,
-    }
-}
-
-fn words_at<'a>(message: &'a Message, name: &[u8]) -> Option<&'a str> {
-    match message.find(name, Kind::Text, 0) {
-        Ok(Value::Text(text)) => Some(text.as_str()),
-        _ => None,
-    }
-}
-
 fn said(at: AtRef<'_>) -> (u32, Said<'_>) {
     match at {
         AtRef::Direct => (1, (None, None, None, None)),
@@ -141,33 +126,37 @@ fn with_form(alloc: Global, form: u32) -> Result<Message, Fail> {
 fn forms_are_read_back(rt: HostRuntime) -> Result<(), Fail> {
     for row in FORMS {
         let message = with_form(rt.alloc(), row.0)?;
-        same(&rt, row, left(&message), 1);
-        same(&rt, row, read(&message), Ok(("p", row)));
+        same(
+            &rt,
+            row.0,
+            (left(&message), read(&message)),
+            (1, Ok(("p", row))),
+        );
     }
     Ok(())
 }
 
-// The message of a specifier has that form, the property `p`, and says that.
-fn is_written(rt: &impl Abort, written: &Message, form: u32, said: Said<'_>) {
-    let numbers = (
-        number_at(written, b"index"),
-        number_at(written, b"range"),
-        number_at(written, b"id"),
-        words_at(written, b"name"),
+// The form and the property of a specifier's message, and what it says.
+type Written<'a> = (Code, Option<&'a str>, Said<'a>);
+
+fn written(message: &Message) -> Result<Written<'_>, Fail> {
+    let Value::Message(specifier) = message.find(b"specifiers", Kind::Message, 0)? else {
+        return Err("no message".into());
+    };
+    let said = (
+        number(specifier, b"index", 0),
+        number(specifier, b"range", 0),
+        number(specifier, b"id", 0),
+        words(specifier, b"name", 0),
     );
-    same(rt, form, written.what(), Code(form));
-    same(rt, form, words_at(written, b"property"), Some("p"));
-    same(rt, form, numbers, said);
+    Ok((specifier.what(), words(specifier, b"property", 0), said))
 }
 
 #[test]
 fn forms_are_written(rt: HostRuntime) -> Result<(), Fail> {
     for (form, said) in FORMS {
         let message = with_form(rt.alloc(), form)?;
-        match message.find(b"specifiers", Kind::Message, 0)? {
-            Value::Message(written) => is_written(&rt, written, form, said),
-            _ => assert!(rt; false),
-        }
+        same(&rt, form, written(&message)?, (Code(form), Some("p"), said));
     }
     Ok(())
 }
@@ -177,7 +166,7 @@ fn first_values_count_and_other_fields_do_not(rt: HostRuntime) -> Result<(), Fai
     for row in FORMS {
         let mut message = Message::new(rt.alloc(), Code(1));
         add_letters(rt.alloc(), &mut message, row.0, b"xpqijrsnmdey")?;
-        same(&rt, row, read(&message), Ok(("p", row)));
+        same(&rt, row.0, read(&message), Ok(("p", row)));
     }
     Ok(())
 }
@@ -222,37 +211,34 @@ fn behind_an_index(alloc: Global, form: u32, letters: &[u8]) -> Result<Message, 
     Ok(message)
 }
 
-// The specifier of that form is refused behind an index, and popped as any other.
-fn is_refused(rt: &impl Abort, message: &mut Message, form: u32) {
-    same(rt, ("form", form), left(message), 2);
-    same(rt, ("form", form), read(message), Err(BadScript));
-    same(rt, ("form", form), pop(message), Ok(()));
-    same(rt, ("form", form), index(message), Some(3));
+type Popped = Result<(), BadScript>;
+
+// How many are left, whether the current one is badly formed, the answer where it is popped, and the index that is
+// current then.
+fn popped(message: &mut Message) -> (u32, bool, Popped, Option<i32>) {
+    let before = left(message);
+    let is_refused = current(message).is_err();
+    let answer = pop(message);
+    (before, is_refused, answer, index(message))
 }
 
 #[test]
 fn badly_formed_specifiers_are_refused(rt: HostRuntime) -> Result<(), Fail> {
     for &(form, letters) in &BADLY_FORMED {
         let mut message = behind_an_index(rt.alloc(), form, letters)?;
-        is_refused(&rt, &mut message, form);
+        let wanted = (2, true, Ok(()), Some(3));
+        same(&rt, (form, letters), popped(&mut message), wanted);
     }
     Ok(())
 }
 
-// The message has no specifier that is left.
-fn none_is_left(rt: &impl Abort, label: &str, message: &mut Message) {
-    same(rt, label, left(message), 0);
-    same(rt, label, read(message), Err(BadScript));
-    same(rt, label, pop(message), Err(BadScript));
+// How many are left, the index that is current, and the answer where it is popped.
+fn index_popped(message: &mut Message) -> (u32, Option<i32>, Popped) {
+    (left(message), index(message), pop(message))
 }
 
-fn are_indexes(rt: &impl Abort, message: &mut Message, rows: [(u32, i32); 3]) {
-    for (more, n) in rows {
-        same(rt, ("left", n), left(message), more);
-        same(rt, ("index", n), index(message), Some(n));
-        same(rt, ("pop", n), pop(message), Ok(()));
-    }
-}
+// The message has no specifier that is left: 0 of them, none is read, and none is popped.
+const NONE_LEFT: (u32, bool, Popped, Option<i32>) = (0, true, Err(BadScript), None);
 
 // The indexes 0, 1 and 2 behind what the message has.
 fn add_indexes(alloc: Global, message: &mut Message) -> Result<(), Fail> {
@@ -262,19 +248,24 @@ fn add_indexes(alloc: Global, message: &mut Message) -> Result<(), Fail> {
     Ok(())
 }
 
+// How many are popped, how many are left, and the index that is current.
+fn told_of(message: &Message) -> (u32, u32, Option<i32>) {
+    (message.popped(), left(message), index(message))
+}
+
 #[test]
 fn the_last_one_is_current(rt: HostRuntime) -> Result<(), Fail> {
-    let alloc = rt.alloc();
-    let mut message = Message::new(alloc, Code(1));
-    none_is_left(&rt, "before", &mut message);
-    add_indexes(alloc, &mut message)?;
-    are_indexes(&rt, &mut message, [(3, 2), (2, 1), (1, 0)]);
-    none_is_left(&rt, "after", &mut message);
+    let mut message = Message::new(rt.alloc(), Code(1));
+    same(&rt, "before", popped(&mut message), NONE_LEFT);
+    add_indexes(rt.alloc(), &mut message)?;
+    for n in [2u32, 1, 0] {
+        let wanted = (n + 1, Some(n as i32), Ok(()));
+        same(&rt, n, index_popped(&mut message), wanted);
+    }
+    same(&rt, "after", popped(&mut message), NONE_LEFT);
     same(&rt, "popped", message.popped(), 3);
-    add_index(alloc, &mut message, 7)?;
-    same(&rt, "popped then", message.popped(), 0);
-    same(&rt, "left", left(&message), 4);
-    same(&rt, "index", index(&message), Some(7));
+    add_index(rt.alloc(), &mut message, 7)?;
+    same(&rt, "then", told_of(&message), (0, 4, Some(7)));
     Ok(())
 }
 
@@ -283,16 +274,23 @@ fn added(alloc: Global, message: &mut Message) -> Result<Result<(), AddFault>, F
     Ok(add_specifier(alloc, message, specifier(alloc, 1)?))
 }
 
+// What is answered where a specifier is added, how many names there are then, and the number.
+fn added_to_number(
+    alloc: Global,
+    message: &mut Message,
+) -> Result<(Result<(), AddFault>, u32, Option<i32>), Fail> {
+    let answer = added(alloc, message)?;
+    let five = number(message, b"specifiers", 0);
+    Ok((answer, message.count_names(), five))
+}
+
 #[test]
 fn another_kind_is_refused(rt: HostRuntime) -> Result<(), Fail> {
-    let alloc = rt.alloc();
-    let mut message = Message::new(alloc, Code(1));
+    let mut message = Message::new(rt.alloc(), Code(1));
     message.add(b"specifiers", Value::Int32(5))?;
-    none_is_left(&rt, "a number", &mut message);
-    let answer = added(alloc, &mut message)?;
-    same(&rt, "add", answer, Err(AddFault::BadType));
-    same(&rt, "count_names", message.count_names(), 1);
-    same(&rt, "number", number_at(&message, b"specifiers"), Some(5));
+    same(&rt, "a number", popped(&mut message), NONE_LEFT);
+    let told = added_to_number(rt.alloc(), &mut message)?;
+    same(&rt, "add", told, (Err(BadType), 1, Some(5)));
     Ok(())
 }
 
@@ -307,14 +305,11 @@ fn all_that_fit(alloc: Global) -> Result<Message, Fail> {
 
 #[test]
 fn specifiers_are_limited(rt: HostRuntime) -> Result<(), Fail> {
-    let alloc = rt.alloc();
-    let mut message = all_that_fit(alloc)?;
-    same(&rt, "pop", pop(&mut message), Ok(()));
-    let answer = added(alloc, &mut message)?;
-    same(&rt, "add", answer, Err(AddFault::FieldLimit));
-    same(&rt, "popped", message.popped(), 1);
-    same(&rt, "left", left(&message), 254);
-    same(&rt, "index", index(&message), Some(253));
+    let mut message = all_that_fit(rt.alloc())?;
+    let popped = pop(&mut message);
+    let told = (popped, added(rt.alloc(), &mut message)?, told_of(&message));
+    let wanted = (Ok(()), Err(FieldLimit), (1, 254, Some(253)));
+    same(&rt, "pop, add", told, wanted);
     Ok(())
 }
 
@@ -327,26 +322,30 @@ fn with_63_fields(alloc: Global) -> Result<Message, Fail> {
     Ok(message)
 }
 
-// A copy with a field more takes no specifier.
-fn takes_no_more(rt: &impl Abort, alloc: Global, message: &Message) -> Result<(), Fail> {
+// A copy with a field more takes no specifier: what is answered, and how many names and specifiers there are then.
+fn added_to_full(
+    alloc: Global,
+    message: &Message,
+) -> Result<(Result<(), AddFault>, u32, u32), Fail> {
     let mut full = message.try_clone()?;
     full.add(b"more", Value::Int32(1))?;
     let answer = added(alloc, &mut full)?;
-    same(rt, "add", answer, Err(AddFault::FieldLimit));
-    same(rt, "count_names of the full", full.count_names(), 64);
-    same(rt, "left in the full", left(&full), 0);
-    Ok(())
+    Ok((answer, full.count_names(), left(&full)))
 }
 
 #[test]
 fn fields_are_limited(rt: HostRuntime) -> Result<(), Fail> {
-    let alloc = rt.alloc();
-    let mut message = with_63_fields(alloc)?;
-    takes_no_more(&rt, alloc, &message)?;
+    let mut message = with_63_fields(rt.alloc())?;
+    let full = added_to_full(rt.alloc(), &message)?;
+    same(&rt, "full", full, (Err(FieldLimit), 64, 0));
     // The field `specifiers` is the 64th, and then has room for more.
-    add_index(alloc, &mut message, 0)?;
-    add_index(alloc, &mut message, 1)?;
-    same(&rt, "count_names", message.count_names(), 64);
-    same(&rt, "left", left(&message), 2);
+    add_index(rt.alloc(), &mut message, 0)?;
+    add_index(rt.alloc(), &mut message, 1)?;
+    same(
+        &rt,
+        "then",
+        (message.count_names(), left(&message)),
+        (64, 2),
+    );
     Ok(())
 }

@@ -1,8 +1,11 @@
+ghost use Rattle.std.specs.Prelude.{◌≤◌};
+
 // Flat texts that are cut, and flat texts at the limit.
 
-use super::*;
-use crate::tests::{again, lengths, same, same_bytes};
+use crate::compare::same;
+use crate::flat_texts::{again, lengths};
 use ak_base::{Bytes, Code, Text};
+use ak_flatten::{FlatFault, FlatKind, FlattenFault, UnflattenFault, flatten, unflatten};
 use ak_message::{Message, Value};
 use std::alloc::Global;
 use std::process::Abort;
@@ -73,36 +76,54 @@ fn the_whole_is_cut(rt: &impl Abort, alloc: Global) {
     for n in 0..141u32 {
         let cut = &WHOLE[..n as usize];
         let want = last_before(&PLACES, n);
-        same(rt, ("whole", n), cut_at(alloc, cut), want);
+        same(rt, n, cut_at(alloc, cut), want);
     }
 }
 
-fn the_inner_is_cut(rt: &impl Abort, alloc: Global) -> Result<(), Fail> {
+// Where a message with so many bytes of the one in the whole is cut, with another message around it.
+fn inner_cut_at(alloc: Global, n: u16) -> Result<Option<u32>, Fail>
+    requires { n ≤ 47 }
+{
     let inner = &WHOLE[61..108];
+    let cut = around(alloc, n, &inner[..n as usize])?;
+    Ok(cut_at(alloc, cut.as_slice()))
+}
+
+// The same of the message in that one, with two around it.
+fn innermost_cut_at(alloc: Global, n: u16) -> Result<Option<u32>, Fail>
+    requires { n ≤ 12 }
+{
+    let innermost = &WHOLE[96..108];
+    let cut = around(alloc, n, &innermost[..n as usize])?;
+    let cut = around(alloc, 21 + n, cut.as_slice())?;
+    Ok(cut_at(alloc, cut.as_slice()))
+}
+
+fn the_inner_is_cut(rt: &impl Abort, alloc: Global) -> Result<(), Fail> {
     for n in 0..47u16 {
-        let cut = around(alloc, n, &inner[..n as usize])?;
         let want = last_before(&INNER_PLACES, 21 + u32::from(n));
-        same(rt, ("inner", n), cut_at(alloc, cut.as_slice()), want);
+        same(rt, n, inner_cut_at(alloc, n)?, want);
     }
     Ok(())
 }
 
 fn the_innermost_is_cut(rt: &impl Abort, alloc: Global) -> Result<(), Fail> {
-    let innermost = &WHOLE[96..108];
     for n in 0..12u16 {
-        let cut = around(alloc, n, &innermost[..n as usize])?;
-        let cut = around(alloc, 21 + n, cut.as_slice())?;
         let want = last_before(&INNERMOST_PLACES, 42 + u32::from(n));
-        same(rt, ("innermost", n), cut_at(alloc, cut.as_slice()), want);
+        same(rt, n, innermost_cut_at(alloc, n)?, want);
     }
     Ok(())
+}
+
+// Whether what is written is read and written again.
+fn is_read_back(alloc: Global, bytes: &[u8]) -> Result<bool, Fail> {
+    Ok(again(alloc, bytes)?.as_slice() == bytes)
 }
 
 #[test]
 fn a_cut_text_is_truncated_at_the_part_that_is_cut(rt: HostRuntime) -> Result<(), Fail> {
     let alloc = rt.alloc();
-    let again = again(alloc, &WHOLE)?;
-    same_bytes(&rt, "again", again.as_slice(), &WHOLE);
+    same(&rt, "again", is_read_back(alloc, &WHOLE)?, true);
     the_whole_is_cut(&rt, alloc);
     the_inner_is_cut(&rt, alloc)?;
     the_innermost_is_cut(&rt, alloc)
@@ -117,31 +138,38 @@ fn three_texts(alloc: Global, long: &[u8]) -> Result<Message, Fail> {
     Ok(message)
 }
 
-// What is written of it, if it is not too long, is read back.
-fn is_read_back(rt: &impl Abort, alloc: Global, message: &Message) -> Result<(), Fail> {
-    if let Ok(bytes) = flatten(alloc, message) {
-        let again = again(alloc, bytes.as_slice())?;
-        same_bytes(rt, "again", again.as_slice(), bytes.as_slice());
+// Whether what is written of it is read back, if it is not too long.
+fn is_written_and_read(alloc: Global, message: &Message) -> Result<bool, Fail> {
+    match flatten(alloc, message) {
+        Ok(bytes) => is_read_back(alloc, bytes.as_slice()),
+        Err(_) => Ok(true),
     }
-    Ok(())
+}
+
+type Lengths = (u64, Result<usize, FlattenFault>);
+
+// The lengths of a message with three texts, and with a fourth one of so many bytes; whether that is read back.
+fn told_of_four(alloc: Global, n: u32) -> Result<([Lengths; 2], bool), Fail>
+    requires { n ≤ 1024 }
+{
+    let long = [b'x'; 1024];
+    let mut message = three_texts(alloc, &long)?;
+    let three = lengths(alloc, &message);
+    let text = Text::from_bytes(alloc, &long[..n as usize])?;
+    message.add(b"t", Value::Text(text))?;
+    let four = lengths(alloc, &message);
+    Ok(([three, four], is_written_and_read(alloc, &message)?))
 }
 
 #[test]
 fn a_flat_text_has_at_most_4096_bytes(rt: HostRuntime) -> Result<(), Fail> {
-    let alloc = rt.alloc();
-    let long = [b'x'; 1024];
-    let mut message = three_texts(alloc, &long)?;
-    same(&rt, "three", lengths(alloc, &message), (3097, Ok(3097)));
     for (n, told) in [
         (997u32, (4096, Ok(4096))),
         (998, (4097, Err(FlattenFault::TooLong))),
         (1024, (4123, Err(FlattenFault::TooLong))),
     ] {
-        let text = Text::from_bytes(alloc, &long[..n as usize])?;
-        message.add(b"t", Value::Text(text))?;
-        same(&rt, n, lengths(alloc, &message), told);
-        is_read_back(&rt, alloc, &message)?;
-        message.remove_data(b"t", 3)?;
+        let wanted = ([(3097, Ok(3097)), told], true);
+        same(&rt, n, told_of_four(rt.alloc(), n)?, wanted);
     }
     Ok(())
 }

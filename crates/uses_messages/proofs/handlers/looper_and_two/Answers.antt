@@ -5,7 +5,7 @@ use Rattle.std.proofs.lemmas.List.Elements.{All-cons}
 use Rattle.std.proofs.lemmas.List.Kept.{AllPairs-cons}
 use Rattle.ak_handler.specs.Changes.{from_rows}
 use Rattle.ak_handler.specs.Handlers.{HandlersData, IsHandlers, IsThere, after_steps}
-use Rattle.ak_handler.proofs.tests.looper_and_two.Goals as goal
+use Rattle.uses_messages.proofs.handlers.looper_and_two.Goals as goal
 
 all_none : {X : Type 0} (P : X → Type 0) → All P []
 all_none P = λ k d lt. absurd (omega arith)

@@ -1,24 +1,13 @@
-use super::*;
+// Messages as flat text, and back.
+
+use crate::compare::same;
+use crate::messages::number;
 use ak_base::{Bytes, Code, NoMemory, Raw, Text};
-use ak_message::{AddFault, Address, Kind, Message, Target, Value};
+use ak_flatten::{FlatFault, FlatKind, FlattenFault, UnflattenFault, flat_len, flatten, unflatten};
+use ak_message::{AddFault, Address, Message, Target, Value};
 use std::alloc::Global;
-use std::fmt::Debug;
 use std::process::Abort;
 use std::test::Fail;
-
-// The two are the same.
-pub(crate) fn same<T: PartialEq + Debug + Copy>(
-    rt: &impl Abort,
-    label: impl Debug + Copy,
-    got: T,
-    told: T,
-) {
-    assert_eq!(rt; got, told, "at {label:?}");
-}
-
-pub(crate) fn same_bytes(rt: &impl Abort, label: &str, got: &[u8], told: &[u8]) {
-    assert_eq!(rt; got, told, "at {label}");
-}
 
 // PGET without fields.
 const QUESTION: [u8; 12] = *b"AKM1PGET\0\0\0\0";
@@ -67,8 +56,7 @@ fn is_written(
     len: u64,
 ) -> Result<(), Fail> {
     let bytes = flatten(alloc, message)?;
-    same_bytes(rt, "flatten", bytes.as_slice(), told);
-    same(rt, ("flat_len", len), flat_len(message), len);
+    same(rt, len, (bytes.as_slice(), flat_len(message)), (told, len));
     Ok(())
 }
 
@@ -81,13 +69,17 @@ fn messages_are_flattened(rt: HostRuntime) -> Result<(), Fail> {
     is_written(&rt, alloc, &reply, &REPLY, 47)
 }
 
+// The same of a message with so many texts of 1,024 bytes.
+fn lengths_of_long(alloc: Global, times: u32) -> Result<(u64, Result<usize, FlattenFault>), Fail> {
+    Ok(lengths(alloc, &long(alloc, times)?))
+}
+
 #[test]
 fn long_messages_are_refused(rt: HostRuntime) -> Result<(), Fail> {
-    let alloc = rt.alloc();
-    let three = lengths(alloc, &long(alloc, 3)?);
-    same(&rt, "three", three, (3097, Ok(3097)));
-    let four = lengths(alloc, &long(alloc, 4)?);
-    same(&rt, "four", four, (4123, Err(FlattenFault::TooLong)));
+    let three = lengths_of_long(rt.alloc(), 3)?;
+    let four = lengths_of_long(rt.alloc(), 4)?;
+    let wanted = [(3097, Ok(3097)), (4123, Err(FlattenFault::TooLong))];
+    same(&rt, "three, four", [three, four], wanted);
     Ok(())
 }
 
@@ -168,29 +160,33 @@ fn alone(alloc: Global, plain: Plain) -> Result<Bytes, Fail> {
 }
 
 // The flat text has one field, which is written so.
-fn has_field(rt: &impl Abort, flat: &[u8], written: &[u8]) {
-    assert_eq!(rt; flat.len(), 12 + written.len());
-    same_bytes(rt, "head", &flat[..12], b"AKM1\0\0\0\x07\0\0\0\x01");
-    same_bytes(rt, "field", &flat[12..], written);
+fn has_field(flat: &[u8], written: &[u8]) -> bool {
+    flat.len() == 12 + written.len()
+        && flat.starts_with(b"AKM1\0\0\0\x07\0\0\0\x01")
+        && flat.ends_with(written)
+}
+
+// Whether the value is written so, and read back.
+fn is_alone(alloc: Global, plain: Plain, written: &[u8]) -> Result<[bool; 2], Fail> {
+    let bytes = alone(alloc, plain)?;
+    let again = again(alloc, bytes.as_slice())?;
+    Ok([
+        has_field(bytes.as_slice(), written),
+        again.as_slice() == bytes.as_slice(),
+    ])
 }
 
 #[test]
 fn values_are_written(rt: HostRuntime) -> Result<(), Fail> {
-    let alloc = rt.alloc();
     for &(plain, written) in &VALUES {
-        let bytes = alone(alloc, plain)?;
-        has_field(&rt, bytes.as_slice(), written);
-        let again = again(alloc, bytes.as_slice())?;
-        same_bytes(&rt, "again", again.as_slice(), bytes.as_slice());
+        same(
+            &rt,
+            written,
+            is_alone(rt.alloc(), plain, written)?,
+            [true; 2],
+        );
     }
     Ok(())
-}
-
-fn number(message: &Message, name: &[u8]) -> Option<i32> {
-    match message.find(name, Kind::Int32, 0) {
-        Ok(Value::Int32(n)) => Some(*n),
-        _ => None,
-    }
 }
 
 // A message's code, how many names it has, and its numbers `result` and `error`.
@@ -201,17 +197,20 @@ fn outline_of(alloc: Global, bytes: &[u8]) -> Result<Outline, Fail> {
     Ok((
         message.what(),
         message.count_names(),
-        number(&message, b"result"),
-        number(&message, b"error"),
+        number(&message, b"result", 0),
+        number(&message, b"error", 0),
     ))
 }
 
 #[test]
 fn flat_texts_are_read(rt: HostRuntime) -> Result<(), Fail> {
     let question = outline_of(rt.alloc(), &QUESTION)?;
-    same(&rt, "question", question, (Code::GET, 0, None, None));
     let reply = outline_of(rt.alloc(), &REPLY)?;
-    same(&rt, "reply", reply, (Code::REPLY, 2, Some(3), Some(0)));
+    let wanted = [
+        (Code::GET, 0, None, None),
+        (Code::REPLY, 2, Some(3), Some(0)),
+    ];
+    same(&rt, "question, reply", [question, reply], wanted);
     Ok(())
 }
 
@@ -229,18 +228,25 @@ fn popped_in(alloc: Global, bytes: &[u8]) -> Result<u32, Fail> {
     Ok(unflatten(alloc, bytes)?.popped())
 }
 
-#[test]
-fn what_is_popped_is_not_written(rt: HostRuntime) -> Result<(), Fail> {
-    let alloc = rt.alloc();
+// What is popped of a message, whether its flat text is the one that was written before, and what is popped of the
+// message that is read.
+fn told_of_popped(alloc: Global) -> Result<(u32, bool, u32), Fail> {
     let mut message = with_one_specifier(alloc)?;
     let bytes = flatten(alloc, &message)?;
     if message.specifiers() >= 1 {
         message.set_popped(1);
     }
-    same(&rt, "popped", message.popped(), 1);
-    let popped = flatten(alloc, &message)?;
-    same_bytes(&rt, "flatten", popped.as_slice(), bytes.as_slice());
-    same(&rt, "unflatten", popped_in(alloc, bytes.as_slice())?, 0);
+    let is_same = flatten(alloc, &message)?.as_slice() == bytes.as_slice();
+    Ok((
+        message.popped(),
+        is_same,
+        popped_in(alloc, bytes.as_slice())?,
+    ))
+}
+
+#[test]
+fn what_is_popped_is_not_written(rt: HostRuntime) -> Result<(), Fail> {
+    same(&rt, "popped", told_of_popped(rt.alloc())?, (1, true, 0));
     Ok(())
 }
 
@@ -265,22 +271,26 @@ fn fault_of(alloc: Global, bytes: &[u8]) -> Option<FlatFault> {
     }
 }
 
-#[test]
-fn messages_stand_16_deep(rt: HostRuntime) -> Result<(), Fail> {
-    let alloc = rt.alloc();
+// Whether 16 messages are read and written again, and the first fault of 17.
+fn told_of_deep(alloc: Global) -> Result<(bool, Option<FlatFault>), Fail> {
     let deepest = nested(alloc, 16)?;
     let again = again(alloc, deepest.as_slice())?;
-    same_bytes(&rt, "deepest", again.as_slice(), deepest.as_slice());
     let deeper = nested(alloc, 17)?;
+    let is_read = again.as_slice() == deepest.as_slice();
+    Ok((is_read, fault_of(alloc, deeper.as_slice())))
+}
+
+#[test]
+fn messages_stand_16_deep(rt: HostRuntime) -> Result<(), Fail> {
     let fault = FlatFault {
         place: 336,
         kind: FlatKind::TooDeep,
     };
     same(
         &rt,
-        "deeper",
-        fault_of(alloc, deeper.as_slice()),
-        Some(fault),
+        "16, 17",
+        told_of_deep(rt.alloc())?,
+        (true, Some(fault)),
     );
     Ok(())
 }

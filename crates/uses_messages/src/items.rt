@@ -1,8 +1,10 @@
-use super::*;
-use crate::fault::{FlatFault, FlatKind};
-use crate::tests::{same, same_bytes};
-use ak_base::{Code, Text};
-use ak_message::Value;
+// Items: what a port holds of a message.
+
+use crate::compare::same;
+use ak_base::{Bytes, Code, Text};
+use ak_flatten::{Duty, FlatFault, FlatKind, FlattenFault, Item, ItemFault, Taken, flatten};
+use ak_message::{Address, Message, Target, Value};
+use std::alloc::Global;
 use std::process::Abort;
 use std::test::Fail;
 
@@ -71,10 +73,21 @@ fn from_flat(alloc: Global, flat: &[u8]) -> Result<Item, Fail> {
     )?)
 }
 
+const PARTS: Outline = (Target::Token(5), 3, true, Duty::Back(SENDER), 1);
+
 fn has_each_part(rt: &impl Abort, label: &str, item: &Item, flat: &[u8]) {
-    let told = (Target::Token(5), 3, true, Duty::Back(SENDER), 1);
-    same(rt, label, parts(item), told);
-    same_bytes(rt, label, item.flat(), flat);
+    same(rt, label, (parts(item), item.flat()), (PARTS, flat));
+}
+
+fn copy_has_each_part(
+    rt: &impl Abort,
+    alloc: Global,
+    item: &Item,
+    flat: &[u8],
+) -> Result<(), Fail> {
+    let copy = item.try_clone(alloc)?;
+    has_each_part(rt, "copy", &copy, flat);
+    Ok(())
 }
 
 #[test]
@@ -83,8 +96,7 @@ fn an_item_has_each_part(rt: HostRuntime) -> Result<(), Fail> {
     let flat = flatten(alloc, &question(alloc, 1)?)?;
     let item = item(alloc, 1)?;
     has_each_part(&rt, "new", &item, flat.as_slice());
-    let copy = item.try_clone(alloc)?;
-    has_each_part(&rt, "copy", &copy, flat.as_slice());
+    copy_has_each_part(&rt, alloc, &item, flat.as_slice())?;
     let again = from_flat(alloc, flat.as_slice())?;
     has_each_part(&rt, "from_flat", &again, flat.as_slice());
     Ok(())
@@ -136,38 +148,55 @@ fn bytes_that_are_no_item_are_refused(rt: HostRuntime) -> Result<(), Fail> {
     Ok(())
 }
 
-#[test]
-fn long_messages_are_no_items(rt: HostRuntime) -> Result<(), Fail> {
-    let alloc = rt.alloc();
+// Why a message with four texts of 1,024 bytes is no item.
+fn fault_of_long(alloc: Global) -> Result<Option<FlattenFault>, Fail> {
     let mut message = Message::new(alloc, Code(1));
     for _ in 0..4 {
         message.add(b"t", Value::Text(Text::from_bytes(alloc, &[b'x'; 1024])?))?;
     }
     let item = Item::new(alloc, Target::Preferred, 0, false, Duty::None, &message);
-    assert_eq!(rt; item.err(), Some(FlattenFault::TooLong));
+    Ok(item.err())
+}
+
+#[test]
+fn long_messages_are_no_items(rt: HostRuntime) -> Result<(), Fail> {
+    same(
+        &rt,
+        "long",
+        fault_of_long(rt.alloc())?,
+        Some(FlattenFault::TooLong),
+    );
     Ok(())
 }
 
 // The item, forwarded with two specifiers popped.
-fn forwarded(rt: &impl Abort, alloc: Global, item: Item) -> Result<Item, Fail> {
+fn forwarded(alloc: Global, item: Item) -> Result<Item, Fail> {
     let message = item.message(alloc)?;
-    assert!(rt; item.popped() <= 2);
-    assert!(rt; message.specifiers() >= 2);
+    if item.popped() > 2 || message.specifiers() < 2 {
+        return Err("more are popped, or fewer are there".into());
+    }
     Ok(item.forwarded(2))
+}
+
+// Its parts, and how many specifiers of its message are popped.
+fn told_of_forwarded(alloc: Global, item: Item) -> Result<(Outline, u32), Fail> {
+    let forwarded = forwarded(alloc, item)?;
+    let popped = forwarded.message(alloc)?.popped();
+    Ok((parts(&forwarded), popped))
+}
+
+fn taken(alloc: Global) -> Result<Taken, Fail> {
+    Ok(Taken {
+        position: 7,
+        item: item(alloc, 1)?.with_duty(Duty::Slot(6)),
+    })
 }
 
 #[test]
 fn forwarded_it_is_for_the_looper(rt: HostRuntime) -> Result<(), Fail> {
-    let alloc = rt.alloc();
-    let taken = Taken {
-        position: 7,
-        item: item(alloc, 1)?.with_duty(Duty::Slot(6)),
-    };
-    let Taken { position, item } = taken;
-    same(&rt, "position", position, 7);
-    let forwarded = forwarded(&rt, alloc, item)?;
-    let told = (Target::Token(0), 3, true, Duty::Slot(6), 2);
-    same(&rt, "parts", parts(&forwarded), told);
-    same(&rt, "message", forwarded.message(alloc)?.popped(), 2);
+    let Taken { position, item } = taken(rt.alloc())?;
+    let told = (position, told_of_forwarded(rt.alloc(), item)?);
+    let parts = (Target::Token(0), 3, true, Duty::Slot(6), 2);
+    same(&rt, "forwarded", told, (7, (parts, 2)));
     Ok(())
 }

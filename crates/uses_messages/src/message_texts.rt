@@ -1,15 +1,15 @@
-use super::*;
-use crate::address::{Address, Target};
-use crate::words::split_words;
-use ak_base::{Bytes, Items};
-use std::fmt::Debug;
+// Values, fields and messages that are read from their texts.
+
+use crate::compare::same;
+use crate::messages::{number, words};
+use ak_base::{Bytes, Code, Items};
+use ak_message::{
+    Address, Kind, Message, ReadFault, Target, Value, Word, read_message, read_quoted, read_value,
+    read_values, split_field, split_words,
+};
+use std::alloc::Global;
 use std::process::Abort;
 use std::test::Fail;
-
-// The two are the same.
-fn same<T: PartialEq + Debug + Copy>(rt: &impl Abort, got: T, told: T, label: &str) {
-    assert_eq!(rt; got, told, "at {label}");
-}
 
 // The number of a value that is one, and 1 for true.
 fn number_of(value: &Value) -> Option<i128> {
@@ -70,7 +70,7 @@ fn numbers_are_read(rt: HostRuntime) {
         ),
     ] {
         let read = number_read(rt.alloc(), text.as_bytes());
-        same(&rt, read, Ok((kind, Some(number))), text);
+        same(&rt, text, read, Ok((kind, Some(number))));
     }
 }
 
@@ -89,7 +89,7 @@ fn addresses_are_read(rt: HostRuntime) {
         ("MSNG:7.18446744073709551615", 7, Target::Token(u64::MAX)),
     ] {
         let read = address_read(rt.alloc(), text.as_bytes());
-        same(&rt, read, Ok(Some(Address { looper, target })), text);
+        same(&rt, text, read, Ok(Some(Address { looper, target })));
     }
 }
 
@@ -100,6 +100,12 @@ fn bytes_of(value: &Value) -> Option<&[u8]> {
         Value::Raw(raw) => Some(raw.as_bytes()),
         _ => None,
     }
+}
+
+fn reads_bytes(rt: &impl Abort, alloc: Global, text: &[u8], wanted: &[u8]) -> Result<(), Fail> {
+    let value = read_value(alloc, text)?;
+    same(rt, text, bytes_of(&value), Some(wanted));
+    Ok(())
 }
 
 #[test]
@@ -115,8 +121,7 @@ fn texts_and_raw_values_are_read(rt: HostRuntime) -> Result<(), Fail> {
         (b"RAWT:41", b"A"),
     ];
     for (text, wanted) in rows {
-        let value = read_value(rt.alloc(), text)?;
-        assert_eq!(rt; bytes_of(&value), Some(wanted), "at {text:?}");
+        reads_bytes(&rt, rt.alloc(), text, wanted)?;
     }
     Ok(())
 }
@@ -124,7 +129,7 @@ fn texts_and_raw_values_are_read(rt: HostRuntime) -> Result<(), Fail> {
 #[test]
 fn texts_in_quotes_are_read(rt: HostRuntime) -> Result<(), Fail> {
     let text = read_quoted(rt.alloc(), b"\"x\\\"y\"")?;
-    assert_eq!(rt; text.as_bytes(), b"x\"y".as_slice());
+    same(&rt, "x", text.as_str(), "x\"y");
     Ok(())
 }
 
@@ -136,7 +141,7 @@ fn quoted_fault(alloc: Global, word: &[u8]) -> Option<ReadFault> {
 fn words_without_quotes_are_refused(rt: HostRuntime) {
     for word in [b"x".as_slice(), b"CSTR:\"x\"", b"\"x", b"1"] {
         let fault = quoted_fault(rt.alloc(), word);
-        assert_eq!(rt; fault, Some(ReadFault::BadValue), "at {word:?}");
+        same(&rt, word, fault, Some(ReadFault::BadValue));
     }
 }
 
@@ -210,21 +215,7 @@ fn texts_of_no_value_are_refused(rt: HostRuntime) {
     ];
     for text in rows {
         let fault = value_fault(rt.alloc(), text);
-        assert_eq!(rt; fault, Some(ReadFault::BadValue), "at {text:?}");
-    }
-}
-
-fn text_in<'a>(message: &'a Message, name: &[u8], index: u32) -> Option<&'a str> {
-    match message.find(name, Kind::Text, index) {
-        Ok(Value::Text(text)) => Some(text.as_str()),
-        _ => None,
-    }
-}
-
-fn long_in(message: &Message, name: &[u8], index: u32) -> Option<i32> {
-    match message.find(name, Kind::Int32, index) {
-        Ok(Value::Int32(number)) => Some(*number),
-        _ => None,
+        same(&rt, text, fault, Some(ReadFault::BadValue));
     }
 }
 
@@ -253,22 +244,23 @@ fn line_fault(alloc: Global, line: &[u8]) -> Result<Option<ReadFault>, Fail> {
     Ok(read_message(alloc, words.as_slice()).err())
 }
 
-// The two numbers and the two texts.
-fn has_numbers_and_texts(rt: &impl Abort, message: &Message) {
-    same(rt, long_in(message, b"result", 0), Some(3), "a number");
-    same(rt, long_in(message, b"result", 1), Some(-4), "another");
-    same(rt, text_in(message, b"t", 0), Some("x y"), "a text");
-    same(rt, text_in(message, b"t", 1), Some("z"), "another text");
+// Its code and how many names it has, its two numbers `result` and its two texts `t`.
+type Told<'a> = (Code, u32, [Option<i32>; 2], [Option<&'a str>; 2]);
+
+fn told(message: &Message) -> Told<'_> {
+    (
+        message.what(),
+        message.count_names(),
+        [number(message, b"result", 0), number(message, b"result", 1)],
+        [words(message, b"t", 0), words(message, b"t", 1)],
+    )
 }
 
-// The two messages, of which the first has a number.
-fn has_messages(rt: &impl Abort, message: &Message) -> Result<(), Fail> {
+// The code of the first message in it and the number in that one, and the code of the second.
+fn told_of_inner(message: &Message) -> Result<(Code, Option<i32>, Code), Fail> {
     let first = message_in(message, 0)?;
-    same(rt, first.what(), Code(42), "the code of the first");
-    same(rt, long_in(first, b"n", 0), Some(1), "its number");
     let second = message_in(message, 1)?;
-    same(rt, second.what(), Code(0x6120_6220), "that of the second");
-    Ok(())
+    Ok((first.what(), number(first, b"n", 0), second.what()))
 }
 
 #[test]
@@ -277,23 +269,33 @@ fn messages_are_read(rt: HostRuntime) -> Result<(), Fail> {
         rt.alloc(),
         b"'RPLY'  result=LONG:3,-4\t t=\"x y\",CSTR:\"z\" m=MSGG:{0x0000002a \t n=1},MSGG:{'a b '}",
     )?;
-    let told = (message.what(), message.count_names());
-    same(&rt, told, (Code::REPLY, 3), "the message");
-    has_numbers_and_texts(&rt, &message);
-    has_messages(&rt, &message)
+    let wanted = (
+        Code::REPLY,
+        3,
+        [Some(3), Some(-4)],
+        [Some("x y"), Some("z")],
+    );
+    same(&rt, "the message", told(&message), wanted);
+    let wanted = (Code(42), Some(1), Code(0x6120_6220));
+    same(&rt, "its messages", told_of_inner(&message)?, wanted);
+    Ok(())
+}
+
+// How many names the message of a line has.
+fn names_in(alloc: Global, line: &[u8]) -> Result<u32, Fail> {
+    Ok(message_of_line(alloc, line)?.count_names())
 }
 
 #[test]
 fn a_code_alone_is_a_message(rt: HostRuntime) -> Result<(), Fail> {
-    let message = message_of_line(rt.alloc(), b"'ping'")?;
-    assert_eq!(rt; message.count_names(), 0);
+    same(&rt, "'ping'", names_in(rt.alloc(), b"'ping'")?, 0);
     Ok(())
 }
 
 #[test]
 fn no_words_are_no_message(rt: HostRuntime) {
     let fault = read_message(rt.alloc(), &[]).err();
-    assert_eq!(rt; fault, Some(ReadFault::BadValue));
+    same(&rt, "no words", fault, Some(ReadFault::BadValue));
 }
 
 // How many values the text writes.
@@ -303,15 +305,25 @@ fn count_in(alloc: Global, text: &[u8]) -> Result<usize, ReadFault> {
 
 #[test]
 fn values_with_commas_are_read(rt: HostRuntime) {
-    assert_eq!(rt; count_in(rt.alloc(), b"1,2,LONG:3"), Ok(3));
+    same(
+        &rt,
+        "1,2,LONG:3",
+        count_in(rt.alloc(), b"1,2,LONG:3"),
+        Ok(3),
+    );
 }
 
 #[test]
 fn fields_are_split_at_the_first_sign(rt: HostRuntime) {
     let parts = Some((b"a".as_slice(), b"b=c".as_slice()));
-    same(&rt, split_field(b"a=b=c"), parts, "a=b=c");
-    same(&rt, split_field(b"=b"), None, "=b");
-    same(&rt, split_field(b"a"), None, "a");
+    let rows: [(&[u8], Option<(&[u8], &[u8])>); 3] = [
+        (b"a=b=c", parts),
+        (b"=b", None),
+        (b"a", None),
+    ];
+    for (word, wanted) in rows {
+        same(&rt, word, split_field(word), wanted);
+    }
 }
 
 #[test]
@@ -346,7 +358,7 @@ fn texts_of_no_message_are_refused(rt: HostRuntime) {
     ];
     for text in rows {
         let fault = value_fault(rt.alloc(), text);
-        assert_eq!(rt; fault, Some(ReadFault::BadValue), "at {text:?}");
+        same(&rt, text, fault, Some(ReadFault::BadValue));
     }
 }
 
@@ -382,14 +394,16 @@ fn behind_a_long_text(alloc: Global, rest: &[u8]) -> Result<Kind, ReadFault> {
 #[test]
 fn texts_are_limited(rt: HostRuntime) {
     let alloc = rt.alloc();
-    same(&rt, kind_quoted(alloc, 1024), Ok(Kind::Text), "1024 bytes");
+    let told = [
+        kind_quoted(alloc, 1024),
+        kind_quoted(alloc, 1025),
+        // the rest of the word is tested all the same
+        behind_a_long_text(alloc, b" b=1}"),
+        behind_a_long_text(alloc, b" a=1}"),
+    ];
     let limit = Err(ReadFault::Limit);
-    same(&rt, kind_quoted(alloc, 1025), limit, "1025 bytes");
-    // the rest of the word is tested all the same
-    let read = behind_a_long_text(alloc, b" b=1}");
-    same(&rt, read, limit, "another name");
-    let read = behind_a_long_text(alloc, b" a=1}");
-    same(&rt, read, Err(ReadFault::BadValue), "the same name");
+    let wanted = [Ok(Kind::Text), limit, limit, Err(ReadFault::BadValue)];
+    same(&rt, "1024, 1025, another name, the same", told, wanted);
 }
 
 // Messages in one another, so many, with this in the last one.
@@ -413,12 +427,17 @@ fn nested(alloc: Global, levels: usize, inner: &[u8]) -> Result<Bytes, ReadFault
 #[test]
 fn depth_is_limited(rt: HostRuntime) {
     let alloc = rt.alloc();
-    let deepest = kind_nested(alloc, 16, b"1");
-    same(&rt, deepest, Ok(Kind::Message), "16 messages");
-    let deeper = kind_nested(alloc, 17, b"1");
-    same(&rt, deeper, Err(ReadFault::Limit), "17 messages");
-    let faulty = kind_nested(alloc, 16, b"x");
-    same(&rt, faulty, Err(ReadFault::BadValue), "no value");
+    let told = [
+        kind_nested(alloc, 16, b"1"),
+        kind_nested(alloc, 17, b"1"),
+        kind_nested(alloc, 16, b"x"),
+    ];
+    let wanted = [
+        Ok(Kind::Message),
+        Err(ReadFault::Limit),
+        Err(ReadFault::BadValue),
+    ];
+    same(&rt, "16, 17, no value", told, wanted);
 }
 
 // So many numbers with commas between them, and this behind them.
@@ -435,11 +454,13 @@ fn count_numbers(alloc: Global, count: usize, rest: &[u8]) -> Result<usize, Read
 #[test]
 fn values_are_limited(rt: HostRuntime) {
     let alloc = rt.alloc();
-    same(&rt, count_numbers(alloc, 255, b""), Ok(255), "255 values");
-    let more = count_numbers(alloc, 256, b"");
-    same(&rt, more, Err(ReadFault::Limit), "256 values");
-    let other = count_numbers(alloc, 256, b",true");
-    same(&rt, other, Err(ReadFault::BadValue), "another kind");
+    let told = [
+        count_numbers(alloc, 255, b""),
+        count_numbers(alloc, 256, b""),
+        count_numbers(alloc, 256, b",true"),
+    ];
+    let wanted = [Ok(255), Err(ReadFault::Limit), Err(ReadFault::BadValue)];
+    same(&rt, "255, 256, another kind", told, wanted);
 }
 
 // A line with 64 fields, and this behind them.
@@ -458,8 +479,7 @@ fn with_64_fields(alloc: Global, rest: &[u8]) -> Result<Bytes, Fail> {
 #[test]
 fn sixty_four_fields_are_read(rt: HostRuntime) -> Result<(), Fail> {
     let line = with_64_fields(rt.alloc(), b"")?;
-    let message = message_of_line(rt.alloc(), line.as_slice())?;
-    assert_eq!(rt; message.count_names(), 64);
+    same(&rt, "names", names_in(rt.alloc(), line.as_slice())?, 64);
     Ok(())
 }
 
@@ -483,7 +503,7 @@ fn fields_are_limited(rt: HostRuntime) -> Result<(), Fail> {
         (" g=MSGG:{'abcd' f00=1 f00=1}", ReadFault::BadValue),
     ] {
         let answer = fault_behind(rt.alloc(), more.as_bytes())?;
-        same(&rt, answer, Some(fault), more);
+        same(&rt, more, answer, Some(fault));
     }
     Ok(())
 }

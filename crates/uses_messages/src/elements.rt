@@ -1,24 +1,22 @@
-use crate::elements::{ELEMENT_LIMIT, Element, Elements, ID_LIMIT};
-use crate::fault::ElementFault;
+// The elements of a property.
+
+ghost use Rattle.std.specs.Prelude.{◌≡◌, ◌<◌, ◌∷◌, [], Err, Some, length, pos, IfOk, IsOkUnless, OnOk};
+ghost use Rattle.ak_message.specs.Message.{int32_value, kind_of};
+ghost use Rattle.ak_message.specs.Seen.{value_of};
+ghost use Rattle.ak_value.specs.Seen.{answer_of};
+ghost use Rattle.ak_value.specs.declared.fault.ElementFault.TheVariants as fault;
+
+use crate::compare::same;
 use Answer::{Fault, Nothing, Numbers};
 use Data::{Bare, Number, Words};
 use ElementFault::{BadIndex, BadScript, BadType, BadValue, ElementLimit, NameNotFound};
 use Form::{Direct, Id, Index, Name, Range, Reverse, ReverseRange};
 use ak_base::{Code, Items, Text};
 use ak_message::{AtRef, Kind, Message, Value};
+use ak_value::{ELEMENT_LIMIT, ElementFault, Elements};
 use std::alloc::Global;
-use std::fmt::Debug;
 use std::process::Abort;
 use std::test::Fail;
-
-// The two are the same.
-fn same<T: PartialEq + Debug + Copy>(rt: &impl Abort, label: impl Debug + Copy, got: T, told: T) {
-    assert_eq!(rt; got, told, "at {label:?}");
-}
-
-fn holds(rt: &impl Abort, label: impl Debug + Copy, it_holds: bool) {
-    assert!(rt; it_holds, "does not hold at {label:?}");
-}
 
 // A form in plain data.
 #[derive(Clone, Copy, Debug)]
@@ -42,8 +40,8 @@ enum Data {
 
 // What is answered.
 #[derive(Clone, Copy, Debug)]
-enum Answer {
-    Numbers(&'static [i32]),
+enum Answer<'a> {
+    Numbers(&'a [i32]),
     Nothing,
     Fault(ElementFault),
 }
@@ -70,7 +68,7 @@ fn are_numbers(values: &[Value], numbers: &[i32]) -> bool {
         )| matches!(value, Value::Int32(n) if *n == *number))
 }
 
-fn is_answer(given: &Result<Option<Items<Value>>, ElementFault>, answer: Answer) -> bool {
+fn is_answer(given: &Result<Option<Items<Value>>, ElementFault>, answer: Answer<'_>) -> bool {
     match (given, answer) {
         (Ok(Some(values)), Numbers(numbers)) => are_numbers(values.as_slice(), numbers),
         (Ok(None), Nothing) => true,
@@ -86,7 +84,7 @@ fn answers(
     what: Code,
     form: Form,
     message: &Message,
-    answer: Answer,
+    answer: Answer<'_>,
 ) -> Result<bool, Fail> {
     let text = match form {
         Name(name) => name,
@@ -118,30 +116,14 @@ fn none_yet(alloc: Global) -> Result<Elements, Fail> {
     Ok(Elements::new(alloc, Kind::Int32, Vec::new(alloc))?)
 }
 
-fn is_element(element: &Element, row: (&str, u32, i32)) -> bool {
-    element.name.as_str() == row.0
-        && element.id == row.1
-        && matches!(&element.value, Value::Int32(n) if *n == row.2)
-}
-
-// Whether these are the elements: the name, the id and the number of each.
-fn are(elements: &Elements, rows: &[(&'static str, u32, i32)]) -> bool {
-    elements.list.len() == rows.len()
-        && elements
-            .list
-            .iter()
-            .zip(rows)
-            .all(|(element, row)| is_element(element, *row))
-}
-
 // A command, its form, what its message brings, and what is answered.
-type Row = (Code, Form, Data, Answer);
+type Row<'a> = (Code, Form, Data, Answer<'a>);
 
 // The first row that is not answered so, where the commands are given in this order.
 fn first_wrong(
     alloc: Global,
     elements: &mut Elements,
-    rows: &[Row],
+    rows: &[Row<'_>],
 ) -> Result<Option<usize>, Fail> {
     for (place, (what, form, data, answer)) in rows.iter().enumerate() {
         let message = message(alloc, *data)?;
@@ -156,7 +138,7 @@ fn first_wrong(
 fn first_wrong_form(
     alloc: Global,
     elements: &mut Elements,
-    rows: &[(Form, Answer)],
+    rows: &[(Form, Answer<'_>)],
 ) -> Result<Option<usize>, Fail> {
     let message = message(alloc, Bare)?;
     for (place, (form, answer)) in rows.iter().enumerate() {
@@ -167,14 +149,81 @@ fn first_wrong_form(
     Ok(None)
 }
 
+// An element: its name, its id and its number.
+type Seen = (&'static str, i32, i32);
+
+// Whether the first element is that one. What it is called by is told by commands that find it among the others, once
+// it has a number that no other one has; then it is deleted.
+fn is_first(
+    alloc: Global,
+    elements: &mut Elements,
+    (name, id, number): Seen,
+) -> Result<bool, Fail> {
+    let rows = [
+        (Code::GET, Index(0), Bare, Numbers(&[number])),
+        (Code::SET, Index(0), Number(-1), Nothing),
+        (Code::GET, Name(name), Bare, Numbers(&[-1])),
+        (Code::GET, Id(id), Bare, Numbers(&[-1])),
+        (Code::DELETE, Index(0), Bare, Nothing),
+    ];
+    Ok(first_wrong(alloc, elements, &rows)?.is_none())
+}
+
+// The first element that is not that one.
+fn first_other(
+    alloc: Global,
+    elements: &mut Elements,
+    rows: &[Seen],
+) -> Result<Option<usize>, Fail> {
+    for (place, row) in rows.iter().enumerate() {
+        if !is_first(alloc, elements, *row)? {
+            return Ok(Some(place));
+        }
+    }
+    Ok(None)
+}
+
+// The first element that is not that one, and how many there are beside these.
+fn unlike(alloc: Global, elements: &Elements, rows: &[Seen]) -> Result<(Option<usize>, u32), Fail> {
+    let mut copy = elements.try_clone()?;
+    let other = first_other(alloc, &mut copy, rows)?;
+    Ok((other, copy.len()))
+}
+
 // These are the elements.
 fn consist(
     rt: &impl Abort,
-    label: impl Debug + Copy,
+    alloc: Global,
+    label: &str,
     elements: &Elements,
-    rows: &[(&'static str, u32, i32)],
-) {
-    holds(rt, label, are(elements, rows));
+    rows: &[Seen],
+) -> Result<(), Fail> {
+    same(rt, label, unlike(alloc, elements, rows)?, (None, 0));
+    Ok(())
+}
+
+// Creates an element. No run comes to the end of the ids, so what is answered there is proved: the last id is given, and
+// then no other one.
+fn create(elements: &mut Elements, message: &Message) -> Result<Option<Items<Value>>, ElementFault>
+    ensures last { elements.old.next_id ≡ 2147483646 → IfOk result (λ values. answer_of values ≡ Some (int32_value (pos 2147483646) ∷ [])) }
+    ensures then { elements.old.next_id ≡ 2147483646 → OnOk result (elements.new.next_id ≡ 2147483647) }
+    ensures none { OnOk result (elements.old.next_id < 2147483647) }
+{
+    elements.access(Code::CREATE, AtRef::Direct, message)
+}
+
+// The id of a new element, which is created in a copy.
+fn next_id(alloc: Global, elements: &Elements) -> Result<Option<i32>, Fail> {
+    let mut copy = elements.try_clone()?;
+    let message = message(alloc, Number(7))?;
+    Ok(first_of(&create(&mut copy, &message)?))
+}
+
+fn first_of(values: &Option<Items<Value>>) -> Option<i32> {
+    match values.as_ref()?.as_slice().first() {
+        Some(Value::Int32(n)) => Some(*n),
+        _ => None,
+    }
 }
 
 // The commands, given in this order, are answered so.
@@ -183,33 +232,29 @@ fn are_answered(
     alloc: Global,
     label: &str,
     elements: &mut Elements,
-    rows: &[Row],
+    rows: &[Row<'_>],
 ) -> Result<(), Fail> {
     same(rt, label, first_wrong(alloc, elements, rows)?, None);
     Ok(())
 }
 
 // The elements 10, 20 and 30 are found by these forms, or are not.
-fn are_found(rt: &impl Abort, alloc: Global, rows: &[(Form, Answer)]) -> Result<(), Fail> {
+fn are_found(rt: &impl Abort, alloc: Global, rows: &[(Form, Answer<'_>)]) -> Result<(), Fail> {
     let mut elements = three(alloc)?;
     let wrong = first_wrong_form(alloc, &mut elements, rows)?;
     same(rt, "rows", wrong, None);
     Ok(())
 }
 
-// Each creates an element with that message, one after the other.
-fn are_created(
-    rt: &impl Abort,
+// Whether an element is created with that message.
+fn is_created(
     alloc: Global,
     elements: &mut Elements,
     message: &Message,
-    rows: &[(Form, Answer)],
-) -> Result<(), Fail> {
-    for &(form, answer) in rows {
-        let created = answers(alloc, elements, Code::CREATE, form, message, answer)?;
-        holds(rt, (form, answer), created);
-    }
-    Ok(())
+    form: Form,
+    id: i32,
+) -> Result<bool, Fail> {
+    answers(alloc, elements, Code::CREATE, form, message, Numbers(&[id]))
 }
 
 fn first_number(elements: &Elements) -> Option<i32> {
@@ -236,10 +281,11 @@ fn commands_in_order(rt: HostRuntime) -> Result<(), Fail> {
     are_answered(&rt, rt.alloc(), "elements", &mut elements, &rows)?;
     consist(
         &rt,
+        rt.alloc(),
         "elements",
         &elements,
         &[("", 1, 10), ("", 3, 30), ("d", 4, 40)],
-    );
+    )?;
     Ok(())
 }
 
@@ -285,11 +331,23 @@ fn choices_that_are_not_there(rt: HostRuntime) -> Result<(), Fail> {
     are_found(&rt, rt.alloc(), &rows)
 }
 
+type Told = (Option<usize>, (Option<usize>, u32), Option<i32>);
+
+// Whether it is not answered so, which of the elements 10, 20 and 30 is another one then, and the next id.
+fn told_of_refused(alloc: Global, elements: &mut Elements, row: Row<'_>) -> Result<Told, Fail> {
+    let wrong = first_wrong(alloc, elements, &[row])?;
+    let rows = [("", 1, 10), ("b", 2, 20), ("", 3, 30)];
+    Ok((
+        wrong,
+        unlike(alloc, elements, &rows)?,
+        next_id(alloc, elements)?,
+    ))
+}
+
 // Each refusal leaves the elements and the next id as they were.
 #[test]
 fn refusals_change_nothing(rt: HostRuntime) -> Result<(), Fail> {
-    let alloc = rt.alloc();
-    let mut elements = three(alloc)?;
+    let mut elements = three(rt.alloc())?;
     let rows = [
         (Code::DELETE, Direct, Bare, Fault(BadScript)),
         (Code::COUNT, Index(0), Bare, Fault(BadScript)),
@@ -309,21 +367,22 @@ fn refusals_change_nothing(rt: HostRuntime) -> Result<(), Fail> {
         (Code::DELETE, Range(1, 3), Bare, Fault(BadIndex)),
     ];
     for row in rows {
-        same(&rt, row, first_wrong(alloc, &mut elements, &[row])?, None);
-        let kept = are(&elements, &[("", 1, 10), ("b", 2, 20), ("", 3, 30)]);
-        holds(&rt, row, kept);
-        same(&rt, row, elements.next_id, 4);
+        let told = told_of_refused(rt.alloc(), &mut elements, row)?;
+        same(&rt, row, told, (None, (None, 0), Some(4)));
     }
     Ok(())
 }
 
-fn have_no_first(rt: &impl Abort, elements: &mut Elements) {
-    same(rt, "len", elements.len(), 0);
-    holds(rt, "first", elements.first().is_none());
-    let answer = elements.set_first(Value::Bool(true));
-    same(rt, "Bool", answer, Err(BadType));
-    let answer = elements.set_first(Value::Int32(1));
-    same(rt, "Int32", answer, Err(BadIndex));
+type Set = Result<(), ElementFault>;
+
+// How many there are, the first one, and what a Bool and a number are answered in its place.
+fn told_of_first(elements: &mut Elements) -> (u32, Option<i32>, [Set; 2]) {
+    let (len, first) = (elements.len(), first_number(elements));
+    let set = [
+        elements.set_first(Value::Bool(true)),
+        elements.set_first(Value::Int32(1)),
+    ];
+    (len, first, set)
 }
 
 #[test]
@@ -335,30 +394,35 @@ fn no_elements(rt: HostRuntime) -> Result<(), Fail> {
         (Code::COUNT, Direct, Bare, Numbers(&[0])),
     ];
     are_answered(&rt, rt.alloc(), "elements", &mut elements, &rows)?;
-    have_no_first(&rt, &mut elements);
+    let is_none = elements.first().is_none();
+    let told = (is_none, told_of_first(&mut elements));
+    let wanted = (true, (0, None, [Err(BadType), Err(BadIndex)]));
+    same(&rt, "first", told, wanted);
     Ok(())
 }
 
-fn have_first_10(rt: &impl Abort, elements: &mut Elements) {
-    same(rt, "kind", elements.kind(), Kind::Int32);
-    same(rt, "len", elements.len(), 3);
-    same(rt, "Int8", elements.set_first(Value::Int8(1)), Err(BadType));
-    same(rt, "10", first_number(elements), Some(10));
+// The kind, how many there are, what an Int8 is answered, and the first one; then 11 takes its place.
+fn set_to_11(elements: &mut Elements) -> (Kind, u32, Set, Option<i32>, Set, Option<i32>) {
+    let (kind, len) = (elements.kind(), elements.len());
+    let refused = elements.set_first(Value::Int8(1));
+    let before = first_number(elements);
+    let set = elements.set_first(Value::Int32(11));
+    (kind, len, refused, before, set, first_number(elements))
 }
 
 #[test]
 fn the_first_value(rt: HostRuntime) -> Result<(), Fail> {
     let mut elements = three(rt.alloc())?;
-    have_first_10(&rt, &mut elements);
-    elements.set_first(Value::Int32(11))?;
-    same(&rt, "11", first_number(&elements), Some(11));
+    let told = set_to_11(&mut elements);
+    let wanted = (Kind::Int32, 3, Err(BadType), Some(10), Ok(()), Some(11));
+    same(&rt, "first", told, wanted);
     consist(
         &rt,
+        rt.alloc(),
         "elements",
         &elements,
         &[("", 1, 11), ("b", 2, 20), ("", 3, 30)],
-    );
-    Ok(())
+    )
 }
 
 #[test]
@@ -372,10 +436,11 @@ fn all_chosen_are_set(rt: HostRuntime) -> Result<(), Fail> {
     are_answered(&rt, rt.alloc(), "elements", &mut elements, &rows)?;
     consist(
         &rt,
+        rt.alloc(),
         "elements",
         &elements,
         &[("", 1, 6), ("b", 2, 5), ("", 3, 5)],
-    );
+    )?;
     Ok(())
 }
 
@@ -391,7 +456,7 @@ fn ids_are_not_used_again(rt: HostRuntime) -> Result<(), Fail> {
         (Code::DELETE, Id(4), Bare, Fault(BadIndex)),
     ];
     are_answered(&rt, rt.alloc(), "elements", &mut elements, &rows)?;
-    consist(&rt, "elements", &elements, &[("e", 5, 8)]);
+    consist(&rt, rt.alloc(), "elements", &elements, &[("e", 5, 8)])?;
     Ok(())
 }
 
@@ -416,11 +481,18 @@ fn a_copy_has_the_same_ids(rt: HostRuntime) -> Result<(), Fail> {
     are_answered(&rt, alloc, "copy", &mut copy, &rows)?;
     consist(
         &rt,
+        rt.alloc(),
         "copy",
         &copy,
         &[("b", 2, 20), ("", 3, 30), ("", 5, 50)],
-    );
-    consist(&rt, "elements", &elements, &[("b", 2, 20), ("", 3, 30)]);
+    )?;
+    consist(
+        &rt,
+        rt.alloc(),
+        "elements",
+        &elements,
+        &[("b", 2, 20), ("", 3, 30)],
+    )?;
     Ok(())
 }
 
@@ -431,20 +503,31 @@ fn add_names(alloc: Global, message: &mut Message) -> Result<(), Fail> {
     Ok(())
 }
 
+// Gives the message a name that is no text.
+fn name_by_number(message: &mut Message) -> Result<(), Fail> {
+    message.remove_name(b"name")?;
+    message.add(b"name", Value::Int32(1))?;
+    Ok(())
+}
+
+// Whether each element is created with the next id: without a name in the message, with a name, and with a number.
+fn created_with_names(alloc: Global, elements: &mut Elements) -> Result<[bool; 5], Fail> {
+    let mut message = message(alloc, Number(7))?;
+    let first = is_created(alloc, elements, &message, Direct, 1)?;
+    let second = is_created(alloc, elements, &message, Name("c"), 2)?;
+    add_names(alloc, &mut message)?;
+    let third = is_created(alloc, elements, &message, Direct, 3)?;
+    let fourth = is_created(alloc, elements, &message, Name("d"), 4)?;
+    name_by_number(&mut message)?;
+    let fifth = is_created(alloc, elements, &message, Direct, 5)?;
+    Ok([first, second, third, fourth, fifth])
+}
+
 #[test]
 fn names_of_new_elements(rt: HostRuntime) -> Result<(), Fail> {
-    let alloc = rt.alloc();
-    let mut elements = none_yet(alloc)?;
-    let mut message = message(alloc, Number(7))?;
-    let rows = [(Direct, Numbers(&[1])), (Name("c"), Numbers(&[2]))];
-    are_created(&rt, alloc, &mut elements, &message, &rows)?;
-    add_names(alloc, &mut message)?;
-    let rows = [(Direct, Numbers(&[3])), (Name("d"), Numbers(&[4]))];
-    are_created(&rt, alloc, &mut elements, &message, &rows)?;
-    same(&rt, "remove_name", message.remove_name(b"name"), Ok(()));
-    message.add(b"name", Value::Int32(1))?;
-    let rows = [(Direct, Numbers(&[5]))];
-    are_created(&rt, alloc, &mut elements, &message, &rows)?;
+    let mut elements = none_yet(rt.alloc())?;
+    let created = created_with_names(rt.alloc(), &mut elements)?;
+    same(&rt, "created", created, [true; 5]);
     let rows = [
         ("", 1, 7),
         ("c", 2, 7),
@@ -452,8 +535,7 @@ fn names_of_new_elements(rt: HostRuntime) -> Result<(), Fail> {
         ("d", 4, 7),
         ("", 5, 7),
     ];
-    consist(&rt, "elements", &elements, &rows);
-    Ok(())
+    consist(&rt, rt.alloc(), "elements", &elements, &rows)
 }
 
 #[test]
@@ -471,10 +553,11 @@ fn each_form_sets(rt: HostRuntime) -> Result<(), Fail> {
     are_answered(&rt, rt.alloc(), "elements", &mut elements, &rows)?;
     consist(
         &rt,
+        rt.alloc(),
         "elements",
         &elements,
         &[("", 1, 5), ("b", 2, 5), ("", 3, 4)],
-    );
+    )?;
     Ok(())
 }
 
@@ -493,110 +576,102 @@ fn each_form_deletes(rt: HostRuntime) -> Result<(), Fail> {
         (Code::DELETE, Range(0, 2), Bare, Nothing),
     ];
     are_answered(&rt, rt.alloc(), "elements", &mut elements, &rows)?;
-    consist(&rt, "elements", &elements, &[("c", 5, 50)]);
+    consist(&rt, rt.alloc(), "elements", &elements, &[("c", 5, 50)])?;
     Ok(())
 }
 
-// Adds a number under that name.
-fn add_number(
+// Adds an element. No run comes to the end of the ids, so what is answered there is proved: the last id is given, and
+// then no other one.
+fn add(elements: &mut Elements, name: Text, value: Value) -> Set
+    ensures given { length elements.old.list < 64 → elements.old.next_id ≡ 2147483646 → elements.old.kind ≡ kind_of (value_of value) → IsOkUnless result fault.NoMemory }
+    ensures last { elements.old.next_id ≡ 2147483646 → OnOk result (elements.new.next_id ≡ 2147483647) }
+    ensures none { elements.old.next_id ≡ 2147483647 → elements.old.kind ≡ kind_of (value_of value) → result ≡ Err fault.ElementLimit }
+    ensures kept { elements.old.next_id ≡ 2147483647 → elements.new ≡ elements.old }
+{
+    elements.add(name, value)
+}
+
+// Adds a value under that name.
+fn add_named(
     alloc: Global,
     elements: &mut Elements,
     name: &[u8],
-    number: i32,
-) -> Result<Result<(), ElementFault>, Fail> {
-    let name = Text::from_bytes(alloc, name)?;
-    Ok(elements.add(name, Value::Int32(number)))
+    value: Value,
+) -> Result<Set, Fail> {
+    Ok(add(elements, Text::from_bytes(alloc, name)?, value))
+}
+
+// What adding three numbers and a Bool is answered.
+fn added(alloc: Global, elements: &mut Elements) -> Result<[Set; 4], Fail> {
+    Ok([
+        add_named(alloc, elements, b"a", Value::Int32(10))?,
+        add_named(alloc, elements, b"", Value::Int32(20))?,
+        add_named(alloc, elements, b"a", Value::Int32(30))?,
+        add_named(alloc, elements, b"b", Value::Bool(true))?,
+    ])
 }
 
 #[test]
 fn elements_are_added(rt: HostRuntime) -> Result<(), Fail> {
-    let alloc = rt.alloc();
-    let mut elements = none_yet(alloc)?;
-    let names: [(&[u8], i32); 3] = [(b"a", 10), (b"", 20), (b"a", 30)];
-    for (name, number) in names {
-        let added = add_number(alloc, &mut elements, name, number)?;
-        same(&rt, number, added, Ok(()));
-    }
-    let other = elements.add(Text::from_bytes(alloc, b"b")?, Value::Bool(true));
-    same(&rt, "kind", other, Err(BadType));
+    let mut elements = none_yet(rt.alloc())?;
+    let answers = added(rt.alloc(), &mut elements)?;
+    let wanted = [Ok(()), Ok(()), Ok(()), Err(BadType)];
+    same(&rt, "10, 20, 30, Bool", answers, wanted);
     consist(
         &rt,
+        rt.alloc(),
         "added",
         &elements,
         &[("a", 1, 10), ("", 2, 20), ("a", 3, 30)],
-    );
+    )?;
     let rows = [
         (Code::DELETE, Id(3), Bare, Nothing),
         (Code::CREATE, Name("d"), Number(40), Numbers(&[4])),
     ];
-    are_answered(&rt, alloc, "elements", &mut elements, &rows)?;
-    let added = add_number(alloc, &mut elements, b"e", 50)?;
-    same(&rt, "last", added, Ok(()));
-    consist(
-        &rt,
-        "then",
-        &elements,
-        &[("a", 1, 10), ("", 2, 20), ("d", 4, 40), ("e", 5, 50)],
-    );
-    Ok(())
-}
-
-#[test]
-fn added_elements_are_limited(rt: HostRuntime) -> Result<(), Fail> {
-    let alloc = rt.alloc();
-    let mut elements = all_that_fit(&rt, alloc)?;
-    let added = add_number(alloc, &mut elements, b"", 7)?;
-    same(&rt, "more", added, Err(ElementLimit));
-    let other = elements.add(Text::from_bytes(alloc, b"")?, Value::Bool(true));
-    same(&rt, "kind", other, Err(BadType));
-    same(&rt, "len", elements.len(), 64);
-    Ok(())
+    are_answered(&rt, rt.alloc(), "elements", &mut elements, &rows)?;
+    let last = add_named(rt.alloc(), &mut elements, b"e", Value::Int32(50))?;
+    same(&rt, "last", last, Ok(()));
+    let rows = [("a", 1, 10), ("", 2, 20), ("d", 4, 40), ("e", 5, 50)];
+    consist(&rt, rt.alloc(), "then", &elements, &rows)
 }
 
 // As many elements as there may be.
-fn all_that_fit(rt: &impl Abort, alloc: Global) -> Result<Elements, Fail> {
+fn all_that_fit(alloc: Global) -> Result<Elements, Fail> {
     let mut elements = none_yet(alloc)?;
     let number = message(alloc, Number(7))?;
-    for n in 0..ELEMENT_LIMIT {
-        let created = elements
-            .access(Code::CREATE, AtRef::Direct, &number)
-            .is_ok();
-        holds(rt, n, created);
+    for _ in 0..ELEMENT_LIMIT {
+        create(&mut elements, &number)?;
     }
     Ok(elements)
 }
 
+// What a number more and a Bool more are answered, and how many elements there are then.
+fn added_to_all(alloc: Global) -> Result<([Set; 2], u32), Fail> {
+    let mut elements = all_that_fit(alloc)?;
+    let number = add_named(alloc, &mut elements, b"", Value::Int32(7))?;
+    let other = add_named(alloc, &mut elements, b"", Value::Bool(true))?;
+    Ok(([number, other], elements.len()))
+}
+
 #[test]
-fn elements_are_limited(rt: HostRuntime) -> Result<(), Fail> {
-    let mut elements = all_that_fit(&rt, rt.alloc())?;
-    same(&rt, "len", elements.len(), 64);
-    let rows = [
-        (Code::CREATE, Direct, Bare, Fault(BadValue)),
-        (Code::CREATE, Direct, Words, Fault(BadType)),
-        (Code::CREATE, Direct, Number(7), Fault(ElementLimit)),
-    ];
-    are_answered(&rt, rt.alloc(), "elements", &mut elements, &rows)?;
-    same(&rt, "len then", elements.len(), 64);
-    same(&rt, "next_id", elements.next_id, 65);
+fn added_elements_are_limited(rt: HostRuntime) -> Result<(), Fail> {
+    let wanted = ([Err(ElementLimit), Err(BadType)], 64);
+    same(&rt, "number, Bool", added_to_all(rt.alloc())?, wanted);
     Ok(())
 }
 
 #[test]
-fn ids_are_limited(rt: HostRuntime) -> Result<(), Fail> {
-    let alloc = rt.alloc();
-    let message = message(alloc, Number(7))?;
-    for (next_id, answer) in [
-        (2147483646, Numbers(&[2147483646])),
-        (ID_LIMIT, Fault(ElementLimit)),
-    ] {
-        let mut elements = Elements {
-            kind: Kind::Int32,
-            list: Vec::new(alloc),
-            next_id,
-        };
-        let answered = answers(alloc, &mut elements, Code::CREATE, Direct, &message, answer)?;
-        holds(&rt, next_id, answered);
-        same(&rt, next_id, elements.next_id, 2147483647);
-    }
-    Ok(())
+fn elements_are_limited(rt: HostRuntime) -> Result<(), Fail> {
+    let mut elements = all_that_fit(rt.alloc())?;
+    let rows = [
+        (Code::COUNT, Direct, Bare, Numbers(&[64])),
+        (Code::CREATE, Direct, Bare, Fault(BadValue)),
+        (Code::CREATE, Direct, Words, Fault(BadType)),
+        (Code::CREATE, Direct, Number(7), Fault(ElementLimit)),
+        (Code::COUNT, Direct, Bare, Numbers(&[64])),
+        // the next id
+        (Code::DELETE, Index(0), Bare, Nothing),
+        (Code::CREATE, Direct, Number(7), Numbers(&[65])),
+    ];
+    are_answered(&rt, rt.alloc(), "elements", &mut elements, &rows)
 }
