@@ -4,4 +4,8 @@
 #![tactic(auto)]
 
 #[cfg(test)]
+mod descriptions;
+#[cfg(test)]
 mod routes;
+#[cfg(test)]
+mod runs;

@@ -164,48 +164,46 @@ fn pong_of_each_origin(
     Ok(told)
 }
 
-const PASSED: Told = (REACTS, 0, PONG);
+// What comes of a `PONG` that is skipped, or not.
+fn told_of(skipped: bool) -> Told {
+    (if skipped { SKIPPED } else { REACTS }, 0, PONG)
+}
 
-const NOT_PASSED: Told = (SKIPPED, 0, PONG);
-
-// Where a filter asks that a message comes from, in which way, and what comes of one of each origin.
-static SKIPPING: [(SourceIs, DeliveryIs, [Told; 4]); 6] = [
-    (
-        SourceIs::Local,
-        DeliveryIs::Any,
-        [NOT_PASSED, NOT_PASSED, PASSED, PASSED],
-    ),
+// Where a filter asks that a message comes from, in which way, and whether it skips one of each origin.
+static SKIPPING: [(SourceIs, DeliveryIs, [bool; 4]); 6] = [
+    (SourceIs::Local, DeliveryIs::Any, [true, true, false, false]),
     (
         SourceIs::Remote,
         DeliveryIs::Any,
-        [PASSED, PASSED, NOT_PASSED, NOT_PASSED],
+        [false, false, true, true],
     ),
     (
         SourceIs::Any,
         DeliveryIs::Dropped,
-        [PASSED, NOT_PASSED, PASSED, NOT_PASSED],
+        [false, true, false, true],
     ),
     (
         SourceIs::Any,
         DeliveryIs::Programmed,
-        [NOT_PASSED, PASSED, NOT_PASSED, PASSED],
+        [true, false, true, false],
     ),
     (
         SourceIs::Local,
         DeliveryIs::Dropped,
-        [PASSED, NOT_PASSED, PASSED, PASSED],
+        [false, true, false, false],
     ),
     (
         SourceIs::Remote,
         DeliveryIs::Programmed,
-        [PASSED, PASSED, NOT_PASSED, PASSED],
+        [false, false, true, false],
     ),
 ];
 
 #[test]
 fn where_it_comes_from_and_how_is_asked(rt: HostRuntime) -> Result<(), Fail> {
-    for (place, &(source, delivery, wanted)) in SKIPPING.iter().enumerate() {
+    for (place, &(source, delivery, [a, b, c, d])) in SKIPPING.iter().enumerate() {
         let told = pong_of_each_origin(rt.alloc(), source, delivery)?;
+        let wanted = [told_of(a), told_of(b), told_of(c), told_of(d)];
         assert_eq!(rt; told, wanted, "row {place}");
     }
     Ok(())
