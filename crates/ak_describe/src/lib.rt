@@ -21,8 +21,6 @@ mod laws;
 mod named;
 mod parts;
 mod second;
-#[cfg(test)]
-mod tests;
 mod words;
 
 use ak_message::Line;

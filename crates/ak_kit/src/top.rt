@@ -229,6 +229,3 @@ pub fn kit<S: Source, K: Sink>(
         Err(ReadFault::NoMemory) => close(sink, Ending::NoMemory, None),
     }
 }
-
-#[cfg(test)]
-mod tests;

@@ -8,8 +8,6 @@ mod envelope;
 mod fault;
 mod hands;
 mod posting;
-#[cfg(test)]
-mod tests;
 
 pub use asking::{Reply, ask};
 pub use envelope::Envelope;

@@ -9,16 +9,12 @@ mod port;
 mod port_book;
 mod port_entry;
 mod port_laws;
-#[cfg(test)]
-mod port_tests;
 mod reply_book;
 mod reply_calls;
 mod reply_entry;
 mod reply_kept;
 mod reply_laws;
 mod reply_slot;
-#[cfg(test)]
-mod reply_tests;
 
 pub use port::{CAPACITY_LIMIT, LIFE_LIMIT, Port, close, make, take, write};
 pub use port_book::PortBook;

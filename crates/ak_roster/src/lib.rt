@@ -16,8 +16,6 @@ mod launch;
 mod laws;
 mod room;
 mod team;
-#[cfg(test)]
-mod tests;
 
 pub use answer::{Decision, FindAnswer, Launched};
 pub use book::RosterBook;

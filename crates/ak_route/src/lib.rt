@@ -18,6 +18,3 @@ pub use laws::{
 };
 pub use outcome::{Place, Route, Taker};
 pub use routing::route;
-
-#[cfg(test)]
-mod tests;

@@ -12,8 +12,6 @@ mod lock;
 mod plays;
 mod seat;
 mod steps;
-#[cfg(test)]
-mod tests;
 mod turn;
 mod view;
 mod waiting;

@@ -1,5 +1,0 @@
-use Rattle.ak_roster.specs.Heads.{IsHeads}
-use Rattle.ak_roster.proofs.tests.used.roster_of.Given as goal
-
-abbrev pub invariant-loop-row : goal.invariant-loop-row
-invariant-loop-row l = IsHeads l.heads.items

@@ -1,4 +1,0 @@
-mod doors;
-mod launches;
-mod shared;
-mod used;

@@ -1,0 +1,5 @@
+//! Ports: what writes, takes and closings answer, by one thread and by several.
+mod calls;
+mod lives;
+mod three;
+mod waiting;

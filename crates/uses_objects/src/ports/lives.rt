@@ -1,0 +1,222 @@
+//! The life of a port by one thread, and its book.
+ghost use Rattle.std.specs.Prelude.{◌≡◌, false};
+ghost use Rattle.ak_turn.specs.Steps.{IsNewName};
+ghost use Rattle.ak_port.specs.PortCalls.{CanTake};
+
+use super::calls::{Said, put, take_first, take_one};
+use ak_base::{Code, NoMemory, ThreadId};
+use ak_port::{
+    CloseAnswer, Port, PortBook, PortEvent, TakeAnswer, a_write_has_one_answer, close, make,
+    nothing_is_written_after_shut, ports_stay_within_limits, written_is_taken_or_pending,
+};
+use ak_turn::{Book, Clock, Seat};
+use std::alloc::Global;
+use std::sync::Wait;
+use std::test::Fail;
+
+// What three writes answer at a port of capacity 2 and life 2.
+fn write_three<R: Wait>(rt: &R, alloc: Global) -> Result<[Said; 3], Fail> {
+    let mut clock = Clock {
+        thread: ThreadId(0),
+        time: 0,
+    };
+    let (port, mut seat) = make(alloc, 2, 2, ThreadId(0), &mut clock)?;
+    let first = put(rt, alloc, &port, &mut seat, &mut clock, 1)?;
+    let second = put(rt, alloc, &port, &mut seat, &mut clock, 2)?;
+    let third = put(rt, alloc, &port, &mut seat, &mut clock, 3)?;
+    Ok([first, second, third])
+}
+
+#[test]
+fn a_port_of_capacity_2_and_life_2(rt: HostRuntime) -> Result<(), Fail> {
+    let told = [Said::Wrote(0), Said::Wrote(1), Said::Spent];
+    assert_eq!(rt; write_three(&rt, rt.alloc())?, told);
+    Ok(())
+}
+
+// What is answered at a port of capacity 1 and life 3 before it is shut, and what after.
+fn write_take_and_shut<R: Wait>(rt: &R, alloc: Global) -> Result<(Start, End), Fail> {
+    let mut clock = Clock {
+        thread: ThreadId(10_000),
+        time: 0,
+    };
+    let (port, mut seat) = make(alloc, 1, 3, ThreadId(10_000), &mut clock)?;
+    let first = put(rt, alloc, &port, &mut seat, &mut clock, 1)?;
+    let second = put(rt, alloc, &port, &mut seat, &mut clock, 2)?;
+    let taken = take_first(rt, alloc, &port, &mut seat, &mut clock)?;
+    let third = put(rt, alloc, &port, &mut seat, &mut clock, 3)?;
+    let end = shut_and_empty(rt, alloc, &port, seat, clock)?;
+    let start = Start {
+        first,
+        second,
+        taken,
+        third,
+    };
+    Ok((start, end))
+}
+
+/// What is answered before a port is shut.
+#[derive(Clone, Copy, Debug, PartialEq, Eq)]
+struct Start {
+    first: Said,
+    second: Said,
+    taken: (u32, u64, u32),
+    third: Said,
+}
+
+/// What is answered as a port is shut and after, and its book then.
+#[derive(Clone, Copy, Debug, PartialEq, Eq)]
+struct End {
+    shut: CloseAnswer,
+    fourth: Said,
+    again: CloseAnswer,
+    left: (TakeAnswer, u64, u32),
+    taker: ThreadId,
+    entries: u64,
+}
+
+// The end of a port that has one item pending, at position 1 and with the code 3.
+fn shut_and_empty<R: Wait>(
+    rt: &R,
+    alloc: Global,
+    port: &Port,
+    mut seat: Seat<PortBook>,
+    mut clock: Clock,
+) -> Result<End, Fail>
+    requires of { seat.lock ≡ port.now }
+    requires idle { seat.turn ≡ false }
+    requires thread { seat.thread ≡ clock.thread.0 }
+    requires name { IsNewName seat.names 1 }
+    requires taking { CanTake clock.thread 1 seat }
+{
+    let mut guest = port.split(&mut seat, ThreadId(1));
+    let mut other = Clock {
+        thread: ThreadId(1),
+        time: 40,
+    };
+    let shut = close(port, rt, &mut seat, &mut clock);
+    let fourth = put(rt, alloc, port, &mut seat, &mut clock, 4)?;
+    let again = close(port, rt, &mut guest, &mut other);
+    let left = take_one(rt, alloc, port, &mut seat, &mut clock)?;
+    let book = port.lock(rt, &mut seat).keep();
+    Ok(End {
+        shut,
+        fourth,
+        again,
+        left,
+        taker: book.taker(),
+        entries: book.len(),
+    })
+}
+
+const START: Start = Start {
+    first: Said::Wrote(0),
+    second: Said::Full,
+    taken: (1, 0, 1),
+    third: Said::Wrote(1),
+};
+
+const END: End = End {
+    shut: CloseAnswer::Shut,
+    fourth: Said::Closed,
+    again: CloseAnswer::AlreadyShut,
+    left: (TakeAnswer::Rest(1), 1, 3),
+    taker: ThreadId(10_000),
+    entries: 8,
+};
+
+#[test]
+fn a_port_of_capacity_1_and_life_3(rt: HostRuntime) -> Result<(), Fail> {
+    assert_eq!(rt; write_take_and_shut(&rt, rt.alloc())?, (START, END));
+    Ok(())
+}
+
+/// What an entry tells, in plain data.
+#[derive(Clone, Copy, Debug, PartialEq, Eq)]
+enum Entered {
+    Made { capacity: u32, life: u32 },
+    Written { position: u64, code: Code },
+    Full,
+    Other,
+}
+
+fn entered_by(alloc: Global, event: &PortEvent) -> Result<Entered, NoMemory> {
+    match event {
+        PortEvent::Made { capacity, life } => Ok(Entered::Made {
+            capacity: *capacity,
+            life: *life,
+        }),
+        PortEvent::Written { position, item } => Ok(Entered::Written {
+            position: *position,
+            code: item.message(alloc)?.what(),
+        }),
+        PortEvent::Full => Ok(Entered::Full),
+        _ => Ok(Entered::Other),
+    }
+}
+
+/// When an entry was made, by whom, and what it tells.
+type Told = (u64, ThreadId, Entered);
+
+// The entry at that place, if it is there.
+fn told_at(alloc: Global, book: &PortBook, place: u64) -> Result<Option<Told>, NoMemory> {
+    match book.entry(place)? {
+        Some(entry) => Ok(Some((entry.stamp, entry.by, entered_by(alloc, &entry.event)?))),
+        None => Ok(None),
+    }
+}
+
+// The book of a port of capacity 1 and life 3 to which two items with the code 9 were to be written.
+fn book_of_two_writes<R: Wait>(rt: &R, alloc: Global) -> Result<PortBook, Fail> {
+    let mut clock = Clock {
+        thread: ThreadId(7),
+        time: 4,
+    };
+    let (port, mut seat) = make(alloc, 1, 3, ThreadId(10_000), &mut clock)?;
+    put(rt, alloc, &port, &mut seat, &mut clock, 9)?;
+    put(rt, alloc, &port, &mut seat, &mut clock, 9)?;
+    Ok(port.lock(rt, &mut seat).keep())
+}
+
+// The last stamp of that book, and its entries.
+fn two_writes<R: Wait>(rt: &R, alloc: Global) -> Result<(u64, [Option<Told>; 4]), Fail> {
+    let book = book_of_two_writes(rt, alloc)?;
+    let entries = [
+        told_at(alloc, &book, 0)?,
+        told_at(alloc, &book, 1)?,
+        told_at(alloc, &book, 2)?,
+        told_at(alloc, &book, 3)?,
+    ];
+    Ok((book.last_stamp(), entries))
+}
+
+const MADE: Entered = Entered::Made {
+    capacity: 1,
+    life: 3,
+};
+
+const WRITTEN: Entered = Entered::Written {
+    position: 0,
+    code: Code(9),
+};
+
+#[test]
+fn a_book_copies_its_entries(rt: HostRuntime) -> Result<(), Fail> {
+    let by = ThreadId(7);
+    let entries = [
+        Some((5, by, MADE)),
+        Some((6, by, WRITTEN)),
+        Some((7, by, Entered::Full)),
+        None,
+    ];
+    assert_eq!(rt; two_writes(&rt, rt.alloc())?, (7, entries));
+    Ok(())
+}
+
+#[test]
+fn the_laws_of_ports_are_called() {
+    written_is_taken_or_pending();
+    nothing_is_written_after_shut();
+    ports_stay_within_limits();
+    a_write_has_one_answer();
+}

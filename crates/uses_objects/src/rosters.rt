@@ -1,0 +1,5 @@
+//! Who runs: launches, look-ups, ends and doors, by one thread and shared.
+mod calls;
+mod doors;
+mod launches;
+mod shared;

@@ -1,0 +1,78 @@
+//! A book of plain entries.
+ghost use Rattle.std.specs.Prelude.{◌≡◌, ◌++◌, ◌∷◌, [], OnOk, OnErr};
+
+use ak_base::{NoMemory, ThreadId};
+use ak_turn::Book;
+use std::alloc::Global;
+use std::marker::Model;
+
+#[derive(Clone, Copy, Debug, PartialEq, Eq)]
+pub struct Count {
+    pub stamp: u64,
+    pub by: ThreadId,
+    pub number: u64,
+}
+
+#[derive(Drop)]
+pub struct Tally {
+    entries: Vec<Count>,
+}
+
+impl Model for Tally {
+    ghost use Rattle.std.specs.Prelude.{List};
+    ghost use Rattle.uses_objects.specs.declared.turns.tally.Count.{Count};
+
+    ghost Value = { List Count };
+
+    ghost view = { λ tally. tally.entries.items };
+}
+
+impl Tally {
+    pub fn new(alloc: Global) -> Tally
+        ensures { result ≡ [] }
+    {
+        Tally {
+            entries: Vec::new(alloc),
+        }
+    }
+
+    pub fn add(&mut self, count: Count) -> Result<(), NoMemory>
+        ensures ok { OnOk result (self.new ≡ self.old ++ count ∷ []) }
+        ensures err { OnErr result (self.new ≡ self.old) }
+    {
+        self.entries.push(count)?;
+        Ok(())
+    }
+}
+
+impl Book for Tally {
+    type Entry = Count;
+
+    type Opening = ();
+
+    type Line = Count;
+
+    ghost opening = { λ _. tt };
+
+    ghost lines = { λ tally. tally };
+
+    ghost plain = { λ count. count };
+
+    ghost by = { λ count. count.by.0 };
+
+    ghost stamp = { λ count. count.stamp };
+
+    ghost at_rest = { λ _. Unit {0} };
+
+    fn last_stamp(&self) -> u64 {
+        self.entries.last().map_or(0, |count| count.stamp)
+    }
+
+    fn len(&self) -> u64 {
+        self.entries.len() as u64
+    }
+
+    fn entry(&self, place: u64) -> Result<Option<Count>, NoMemory> {
+        Ok(self.entries.get(place as usize).copied())
+    }
+}

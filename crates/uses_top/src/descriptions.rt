@@ -1,0 +1,123 @@
+//! What the rows of `describe_rows` cannot say of descriptions: elements by their names, and lines of which the first
+//! one is not the first line of an input.
+use ak_base::{Code, RefusalKind, Text};
+use ak_describe::{
+    AppText, DescribeFault, described_or_faulty, descriptions_are_read, names_have_places,
+    read_description,
+};
+use ak_message::{AtRef, Message, Value, split_lines};
+use ak_value::Elements;
+use std::alloc::Global;
+use std::test::Fail;
+
+const NAMED_LINES: &str = "app /a application/a single
+looper l
+property P LONG
+element 1 name \"first\"
+element 2
+element 3 name \"two words\"
+element 4 name \"\\\"\"
+element 5 name \"\"
+element 6 name \"first\"
+";
+
+static NAMES: [&str; 6] = ["first", "two words", "\"", "", "First", "two"];
+
+// The elements of the only property of the first handler.
+fn only_elements(apps: &[AppText]) -> Option<&Elements> {
+    let looper = apps.first()?.loopers.as_slice().first()?;
+    let row = looper.parts().rows.as_slice().first()?;
+    match row.elements.as_slice() {
+        [only] => Some(only),
+        _ => None,
+    }
+}
+
+// The first element of that name, 0 where there is none, and -1 where it is no number.
+fn got(alloc: Global, elements: &Elements, name: &str) -> Result<i32, Fail> {
+    let name = Text::from_bytes(alloc, name.as_bytes())?;
+    let got = elements.try_clone()?.access(
+        Code::GET,
+        AtRef::Name(&name),
+        &Message::new(alloc, Code::GET),
+    );
+    match got {
+        Ok(Some(values)) => match values.as_slice() {
+            [Value::Int32(n)] => Ok(*n),
+            _ => Ok(-1),
+        },
+        _ => Ok(0),
+    }
+}
+
+fn numbers_by_name(alloc: Global) -> Result<[i32; 6], Fail> {
+    let input = split_lines(alloc, NAMED_LINES.as_bytes())?;
+    let apps = read_description(alloc, input.lines.as_slice())?;
+    let Some(elements) = only_elements(&apps) else {
+        return Err("not one property".into());
+    };
+    let mut numbers = [0; 6];
+    for (number, name) in numbers.iter_mut().zip(&NAMES) {
+        *number = got(alloc, elements, name)?;
+    }
+    Ok(numbers)
+}
+
+#[test]
+fn elements_have_their_names(rt: HostRuntime) -> Result<(), Fail> {
+    assert_eq!(rt; numbers_by_name(rt.alloc())?, [1, 3, 4, 2, 0, 0]);
+    Ok(())
+}
+
+// Each with the line that is told, counted in the whole input.
+static REFUSED: [(&str, u32, RefusalKind); 4] = [
+    ("kit 1\nscript", 2, RefusalKind::UnknownLine),
+    (
+        "kit 1\n\napp /a application/a single\n# end\n",
+        4,
+        RefusalKind::Unfinished,
+    ),
+    (
+        "kit 1\napp /a application/a single\nlooper l\nprefer x",
+        4,
+        RefusalKind::UnknownName,
+    ),
+    (
+        "kit 1
+app /boot/demo application/x-vnd.demo single
+looper demo capacity 2
+property Count LONG
+element LONG:3
+looper work
+on 'x111'
+ask looper demo 'y111'
+",
+        8,
+        RefusalKind::AskOrder,
+    ),
+];
+
+// The refusal of the lines behind the first one.
+fn refusal(alloc: Global, input: &str) -> Result<Option<DescribeFault>, Fail> {
+    let input = split_lines(alloc, input.as_bytes())?;
+    match input.lines.as_slice().split_first() {
+        Some((_, lines)) => Ok(read_description(alloc, lines).err()),
+        None => Ok(None),
+    }
+}
+
+#[test]
+fn lines_are_counted_in_the_whole_input(rt: HostRuntime) -> Result<(), Fail> {
+    for &(input, line, kind) in &REFUSED {
+        let refused = DescribeFault::Refused { line, kind };
+        assert_eq!(rt; refusal(rt.alloc(), input)?, Some(refused), "at {input}");
+    }
+    Ok(())
+}
+
+#[test]
+fn the_laws_of_descriptions_are_called() {
+    described_or_faulty();
+    descriptions_are_read();
+    names_have_places();
+}
