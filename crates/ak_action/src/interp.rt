@@ -17,7 +17,7 @@ mod asking;
 use asking::want_of;
 
 /// How many words the answers of a reaction can have: two for each action.
-pub const WORD_LIMIT: usize = 32;
+pub const ANSWER_WORD_LIMIT: usize = 32;
 
 // Where a reaction stands.
 #[derive(Drop)]
@@ -103,7 +103,7 @@ impl Interp {
             reaction,
             place: 0,
             stage: Stage::Ready,
-            words: Words::with_room(alloc, WORD_LIMIT)?,
+            words: Words::with_room(alloc, ANSWER_WORD_LIMIT)?,
             reply: None,
             quit: false,
         })

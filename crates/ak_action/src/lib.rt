@@ -28,7 +28,7 @@ pub use action::{
 };
 pub use answer::{Acted, Answer, AnswerWord, Want};
 pub use doing::Sending;
-pub use interp::{Interp, WORD_LIMIT};
+pub use interp::{ANSWER_WORD_LIMIT, Interp};
 pub use laws::{
     answers_in_order, calls_act, first_reply_stays, reply_is_first, runs_act, two_words_an_action,
     words_replay,

@@ -7,8 +7,8 @@ use Rattle.ak_action.specs.declared.values.ValuesFault.{ValuesFault}
 use Rattle.ak_action.specs.declared.values.ValuesFault.TheVariants as values
 use Rattle.ak_filter.specs.declared.list.FilterFault.{FilterFault}
 use Rattle.ak_filter.specs.declared.list.FilterFault.TheVariants as filters
-use Rattle.ak_message.specs.declared.read_fault.ReadFault.{ReadFault}
-use Rattle.ak_message.specs.declared.read_fault.ReadFault.TheVariants as read
+use Rattle.ak_message.specs.declared.parse_fault.ParseFault.{ParseFault}
+use Rattle.ak_message.specs.declared.parse_fault.ParseFault.TheVariants as read
 use Rattle.ak_value.specs.declared.fault.ElementFault.{ElementFault}
 use Rattle.ak_value.specs.declared.fault.ElementFault.TheVariants as elements
 use Rattle.ak_describe.specs.declared.fault.DescribeFault.{DescribeFault}
@@ -48,7 +48,7 @@ fault_at line.Limit number = answer.Refused number refusal.Limit
 fault_at line.NoMemory number = answer.NoMemory
 
 -- what was read, or none where it passes a limit
-abbrev pub kept : {T : Type 0} → Result T ReadFault → Result (Option T) FormFault
+abbrev pub kept : {T : Type 0} → Result T ParseFault → Result (Option T) FormFault
 kept (Ok x) = Ok (Some x)
 kept (Err read.BadValue) = Err form.BadValue
 kept (Err read.Limit) = Ok None

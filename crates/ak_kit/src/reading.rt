@@ -16,7 +16,7 @@ use ak_base::{Text, TextFault, is_word, read_int};
 use std::alloc::Global;
 
 // The most properties that an input may have, and the most hey lines.
-const ROW_LIMIT: usize = 64;
+const PROPERTY_LIMIT: usize = 64;
 
 const HEY_LIMIT: usize = 7999;
 
@@ -209,7 +209,7 @@ fn rows(alloc: Global, bytes: &[u8]) -> Result<(Vec<(Text, i32)>, &[u8]), Script
 {
     let mut rows = Vec::new(alloc);
     let mut rest = bytes;
-    for _ in 0..ROW_LIMIT {
+    for _ in 0..PROPERTY_LIMIT {
         let Some(words) = after(rest, b"property ") else {
             return Ok((rows, rest));
         };

@@ -4,8 +4,8 @@ use Rattle.std.specs.Prelude.{map}
 use Rattle.std.specs.Borrow.{Bor}
 use Rattle.std.proofs.lemmas.List.{drop_all, drop_more}
 use Rattle.ak_message.specs.declared.kind.Kind.{Kind}
-use Rattle.ak_message.specs.declared.read_fault.ReadFault.{ReadFault}
-use Rattle.ak_message.specs.declared.read_fault.ReadFault.TheVariants as fault
+use Rattle.ak_message.specs.declared.parse_fault.ParseFault.{ParseFault}
+use Rattle.ak_message.specs.declared.parse_fault.ParseFault.TheVariants as fault
 use Rattle.ak_message.specs.Message.{MessageData}
 use Rattle.ak_message.specs.Reading.{Got, GotValues, Built, value_with, with_value, fits, more_values, values_behind, values_added, field_behind, fields_behind}
 use Rattle.ak_message.specs.ReadSeen.{Fails, seen}
@@ -39,7 +39,7 @@ value_fails message name texts i text d kind m total lt is read so_far =
     let one : values_added message name (map seen (drop i texts)) kind m ≡ None = rw (rest_is texts i text d lt is, read) refl in
     sym so_far ∙ one
 
-pub value_reads_fail : (e : ReadFault) (message : List ℕ → Option Got) (name : List ℕ) (texts : List (Bor (List ℕ))) (i : ℕ) (text d : Bor (List ℕ)) (kind : Option Kind) (m : Option MessageData) (total : Option (Option MessageData))
+pub value_reads_fail : (e : ParseFault) (message : List ℕ → Option Got) (name : List ℕ) (texts : List (Bor (List ℕ))) (i : ℕ) (text d : Bor (List ℕ)) (kind : Option Kind) (m : Option MessageData) (total : Option (Option MessageData))
     → i < length texts → text ≡ get_or texts i d → Fails e (value_with message text.now)
     → values_added message name (map seen (drop i texts)) kind m ≡ total → Fails e total
 value_reads_fail fault.BadValue message name texts i text d kind m total lt is fails so_far = value_fails message name texts i text d kind m total lt is fails so_far
@@ -81,7 +81,7 @@ value_unread message texts i text d read total lt is none so_far =
     let step : values_behind message (map seen (drop i texts)) read ≡ None = rw (rest_is texts i text d lt is, none) refl in
     sym so_far ∙ step
 
-pub value_read_fails : (e : ReadFault) (message : List ℕ → Option Got) (texts : List (Bor (List ℕ))) (i : ℕ) (text d : Bor (List ℕ)) (read : GotValues) (total : Option GotValues)
+pub value_read_fails : (e : ParseFault) (message : List ℕ → Option Got) (texts : List (Bor (List ℕ))) (i : ℕ) (text d : Bor (List ℕ)) (read : GotValues) (total : Option GotValues)
     → i < length texts → text ≡ get_or texts i d → Fails e (value_with message text.now)
     → values_behind message (map seen (drop i texts)) read ≡ total → Fails e total
 value_read_fails fault.BadValue message texts i text d read total lt is fails so_far = value_unread message texts i text d read total lt is fails so_far
@@ -96,7 +96,7 @@ value_unlike message texts i text d read v total lt is one none so_far =
     let step : values_behind message (map seen (drop i texts)) read ≡ None = rw (rest_is texts i text d lt is, one, none) refl in
     sym so_far ∙ step
 
-pub value_join_fails : (e : ReadFault) (message : List ℕ → Option Got) (texts : List (Bor (List ℕ))) (i : ℕ) (text d : Bor (List ℕ)) (read : GotValues) (v : Got) (total : Option GotValues)
+pub value_join_fails : (e : ParseFault) (message : List ℕ → Option Got) (texts : List (Bor (List ℕ))) (i : ℕ) (text d : Bor (List ℕ)) (read : GotValues) (v : Got) (total : Option GotValues)
     → i < length texts → text ≡ get_or texts i d → value_with message text.now ≡ Some v → Fails e (more_values read v)
     → values_behind message (map seen (drop i texts)) read ≡ total → Fails e total
 value_join_fails fault.BadValue message texts i text d read v total lt is one fails so_far = value_unlike message texts i text d read v total lt is one fails so_far
@@ -130,7 +130,7 @@ field_fails message words i word d before total lt is none so_far =
     let step : fields_behind message (map seen (drop i words)) before ≡ None = rw (rest_is words i word d lt is, none) refl in
     sym so_far ∙ step
 
-pub field_read_fails : (e : ReadFault) (message : List ℕ → Option Got) (words : List (Bor (List ℕ))) (i : ℕ) (word d : Bor (List ℕ)) (before : Built) (total : Option Built)
+pub field_read_fails : (e : ParseFault) (message : List ℕ → Option Got) (words : List (Bor (List ℕ))) (i : ℕ) (word d : Bor (List ℕ)) (before : Built) (total : Option Built)
     → i < length words → word ≡ get_or words i d → Fails e (field_behind message before word.now)
     → fields_behind message (map seen (drop i words)) before ≡ total → Fails e total
 field_read_fails fault.BadValue message words i word d before total lt is fails so_far = field_fails message words i word d before total lt is fails so_far

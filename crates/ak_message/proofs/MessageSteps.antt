@@ -3,8 +3,8 @@ use Rattle.std.proofs.Common.{◌≡◌, ℕ, List, [], ◌∷◌, Option, Some,
 use Rattle.std.specs.Prelude.{map}
 use Rattle.std.specs.Borrow.{Bor}
 use Rattle.ak_message.specs.declared.pieces.Separator.TheVariants as by
-use Rattle.ak_message.specs.declared.read_fault.ReadFault.{ReadFault}
-use Rattle.ak_message.specs.declared.read_fault.ReadFault.TheVariants as fault
+use Rattle.ak_message.specs.declared.parse_fault.ParseFault.{ParseFault}
+use Rattle.ak_message.specs.declared.parse_fault.ParseFault.TheVariants as fault
 use Rattle.ak_message.specs.Message.{MessageData}
 use Rattle.ak_message.specs.Pieces.{pieces_of}
 use Rattle.ak_message.specs.Reading.{Got, Built, values_added, field_split, field_begun, field_behind, fields_behind, code_from, message_of}
@@ -12,7 +12,7 @@ use Rattle.ak_message.specs.ReadSeen.{Fails, seen}
 use Rattle.ak_message.specs.Words.{◌>>=◌}
 
 -- the first one fails
-pub fails_first : {A B : Type 0} (e : ReadFault) (o : Option A) (f : A → Option B) → Fails e o → Fails e (o >>= f)
+pub fails_first : {A B : Type 0} (e : ParseFault) (o : Option A) (f : A → Option B) → Fails e o → Fails e (o >>= f)
 fails_first fault.BadValue o f h = rw h refl
 fails_first fault.Limit o f h = absurd h
 fails_first fault.NoMemory o f h = tt
@@ -25,7 +25,7 @@ message_behind : (message : List ℕ → Option Got) (words : List (Bor (List �
 unfolding message_of
 message_behind message words first rest what names m is code no_names made = rw (is, code, no_names, made) refl
 
-pub fields_fail : (e : ReadFault) (message : List ℕ → Option Got) (words : List (Bor (List ℕ))) (first : Bor (List ℕ)) (rest : List (Bor (List ℕ))) (what : ℕ) (names : List (List ℕ)) (m : Option MessageData) → words ≡ first ∷ rest → code_from first.now ≡ Some what
+pub fields_fail : (e : ParseFault) (message : List ℕ → Option Got) (words : List (Bor (List ℕ))) (first : Bor (List ℕ)) (rest : List (Bor (List ℕ))) (what : ℕ) (names : List (List ℕ)) (m : Option MessageData) → words ≡ first ∷ rest → code_from first.now ≡ Some what
     → names ≡ [] → m ≡ Some (record { what = what; fields = []; popped = 0 })
     → Fails e (fields_behind message (map seen rest) (record { names = names; message = m })) → Fails e (message_of message (map seen words))
 fields_fail e message words first rest what names m is code no_names made fails =

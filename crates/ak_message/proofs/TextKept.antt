@@ -10,7 +10,7 @@ use Rattle.ak_message.specs.declared.kind.Kind.TheVariants as k
 use Rattle.ak_message.specs.Message.{text_value}
 use Rattle.ak_message.specs.Payload.{unquoted}
 use Rattle.ak_message.specs.Reading.{got, over, text_of, text_got, text_from}
-use Rattle.ak_message.specs.declared.read_fault.ReadFault.{ReadFault}
+use Rattle.ak_message.specs.declared.parse_fault.ParseFault.{ParseFault}
 use Rattle.ak_message.specs.ReadSeen.{Gives}
 
 no_zero : (bytes : List ℕ) → list_any (λ b. eqb b 0) bytes ≡ false → Contains bytes 0 → ⊥
@@ -40,7 +40,7 @@ text_bad bytes utf8 bad = absurd (bad (IsUtf8-from_is_utf8 bytes utf8))
 pub ruleset texts = (text_ok, text_long, text_zero, text_bad)
 
 -- what stands in the quotes decides
-pub text_reads : (text bytes seen_bytes : List ℕ) (r : Result (Option (List ℕ)) ReadFault) → unquoted text ≡ Some bytes → seen_bytes ≡ bytes → Gives text_got r (text_of seen_bytes) → Gives text_got r (text_from text)
+pub text_reads : (text bytes seen_bytes : List ℕ) (r : Result (Option (List ℕ)) ParseFault) → unquoted text ≡ Some bytes → seen_bytes ≡ bytes → Gives text_got r (text_of seen_bytes) → Gives text_got r (text_from text)
 unfolding text_from
 text_reads text bytes seen_bytes r is same given =
     rw is (subst (λ (b : List ℕ). Gives text_got r (text_of b)) same given)

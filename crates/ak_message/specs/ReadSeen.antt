@@ -10,17 +10,17 @@ use Rattle.ak_message.specs.declared.kind.Kind.TheVariants as k
 use Rattle.ak_message.specs.Message.{text_value, MessageData}
 use Rattle.ak_message.specs.Reading.{Got, GotValues, Built, got, over}
 use Rattle.ak_message.specs.Seen.{value_of}
-use Rattle.ak_message.specs.declared.read_fault.ReadFault.{ReadFault}
-use Rattle.ak_message.specs.declared.read_fault.ReadFault.TheVariants as fault
+use Rattle.ak_message.specs.declared.parse_fault.ParseFault.{ParseFault}
+use Rattle.ak_message.specs.declared.parse_fault.ParseFault.TheVariants as fault
 
 -- no form, or no memory; a reader of a form tests no limit
-abbrev pub Fails : {Y : Type 0} → ReadFault → Option Y → Type 0
+abbrev pub Fails : {Y : Type 0} → ParseFault → Option Y → Type 0
 Fails fault.BadValue read = read ≡ None
 Fails fault.Limit read = ⊥
 Fails fault.NoMemory read = Unit {0}
 
 -- the answer, seen by the view, is what reading gives, unless memory ran out
-abbrev pub Gives : {X Y : Type 0} → (X → Y) → Result X ReadFault → Option Y → Type 0
+abbrev pub Gives : {X Y : Type 0} → (X → Y) → Result X ParseFault → Option Y → Type 0
 Gives view (Ok x) read = read ≡ Some (view x)
 Gives view (Err e) read = Fails e read
 
@@ -40,28 +40,28 @@ abbrev pub pair_of : Bor (List ℕ) × Bor (List ℕ) → List ℕ × List ℕ
 pair_of x = (x.0.now, x.1.now)
 
 -- a value that was read; one that passes a limit was read without it
-abbrev pub GivesValue : Result Value ReadFault → Option Got → Type 0
+abbrev pub GivesValue : Result Value ParseFault → Option Got → Type 0
 GivesValue (Ok v) read = option_map (λ g. g.value) read ≡ Some (Some (value_of v))
 GivesValue (Err fault.BadValue) read = read ≡ None
 GivesValue (Err fault.Limit) read = option_map (λ g. g.value) read ≡ Some None
 GivesValue (Err fault.NoMemory) read = Unit {0}
 
 -- a text that was read; one that is too long was read without it
-abbrev pub GivesText : Result (List ℕ) ReadFault → Option Got → Type 0
+abbrev pub GivesText : Result (List ℕ) ParseFault → Option Got → Type 0
 GivesText (Ok bytes) read = read ≡ Some (got (text_value bytes))
 GivesText (Err fault.BadValue) read = read ≡ None
 GivesText (Err fault.Limit) read = read ≡ Some (over k.Text)
 GivesText (Err fault.NoMemory) read = Unit {0}
 
 -- a message that was read; one that passes a limit was read without it
-abbrev pub GivesMessage : Result MessageData ReadFault → Option (Option MessageData) → Type 0
+abbrev pub GivesMessage : Result MessageData ParseFault → Option (Option MessageData) → Type 0
 GivesMessage (Ok m) read = read ≡ Some (Some m)
 GivesMessage (Err fault.BadValue) read = read ≡ None
 GivesMessage (Err fault.Limit) read = read ≡ Some None
 GivesMessage (Err fault.NoMemory) read = Unit {0}
 
 -- values that were read; those that pass a limit were read without them
-abbrev pub GivesValues : Result (Vec Value Global) ReadFault → Option GotValues → Type 0
+abbrev pub GivesValues : Result (Vec Value Global) ParseFault → Option GotValues → Type 0
 GivesValues (Ok vs) read = option_map (λ g. g.values) read ≡ Some (Some (map value_of vs.items))
 GivesValues (Err fault.BadValue) read = read ≡ None
 GivesValues (Err fault.Limit) read = option_map (λ g. g.values) read ≡ Some None

@@ -11,10 +11,10 @@ mod line;
 mod lines;
 mod marks;
 mod message;
+mod parse_fault;
 mod payload;
 mod pieces;
 mod quoted;
-mod read_fault;
 mod reading;
 mod specifier;
 mod words;
@@ -30,9 +30,9 @@ pub use lines::{
 pub use message::{
     DEPTH_LIMIT, FIELD_LIMIT, Field, Message, VALUE_LIMIT, Value, added_values_are_found,
 };
+pub use parse_fault::ParseFault;
 pub use payload::ints_are_read;
 pub use quoted::{raws_are_read, texts_are_read};
-pub use read_fault::ReadFault;
 pub use reading::{read_message, read_quoted, read_value, read_values, split_field};
 pub use specifier::{At, AtRef, Specifier, SpecifierRef};
 pub use words::{WordsFault, one_line, split_words};

@@ -5,7 +5,7 @@ ghost use Rattle.ak_message.specs.Pieces as reads;
 ghost use Rattle.ak_message.specs.ReadSeen.{Gives};
 
 use crate::marks::{Marks, is_blank};
-use crate::read_fault::ReadFault;
+use crate::parse_fault::ParseFault;
 use std::alloc::Global;
 
 /// What parts the pieces.
@@ -28,7 +28,7 @@ impl Separator {
 
 /// The pieces, one or more, which may be empty. Quotes, braces and brackets that are not closed, and an
 /// escape that is none, are a bad value.
-pub(crate) fn pieces_of(alloc: Global, by: Separator, text: &[u8]) -> Result<Vec<&[u8]>, ReadFault>
+pub(crate) fn pieces_of(alloc: Global, by: Separator, text: &[u8]) -> Result<Vec<&[u8]>, ParseFault>
     ensures { Gives (λ pieces. map (λ piece. piece.now) pieces.items) result (reads.pieces_of by text.now) }
 {
     let mut pieces = Vec::new(alloc);
@@ -41,13 +41,13 @@ pub(crate) fn pieces_of(alloc: Global, by: Separator, text: &[u8]) -> Result<Vec
             marks = Marks::start();
         } else {
             let Some(next) = marks.step(*b) else {
-                return Err(ReadFault::BadValue);
+                return Err(ParseFault::BadValue);
             };
             marks = next;
         }
     }
     if !marks.is_outside() {
-        return Err(ReadFault::BadValue);
+        return Err(ParseFault::BadValue);
     }
     pieces.push(&text[from..])?;
     Ok(pieces)

@@ -6,30 +6,30 @@ ghost use Rattle.ak_message.specs.Payload as reads;
 ghost use Rattle.ak_message.specs.ReadSeen.{Gives};
 
 use crate::marks::{Quotes, double_step, escape_step, hex_step, is_hex_digit};
-use crate::read_fault::ReadFault;
+use crate::parse_fault::ParseFault;
 use ak_base::{Bytes, NoMemory};
 use std::alloc::Global;
 
 /// The bytes of the text that stands in quotes.
-pub(crate) fn unquoted(alloc: Global, text: &[u8]) -> Result<Bytes, ReadFault>
+pub(crate) fn unquoted(alloc: Global, text: &[u8]) -> Result<Bytes, ParseFault>
     ensures { Gives (λ bytes. bytes) result (reads.unquoted text.now) }
 {
     match text.split_first() {
         Some((first, rest)) if *first == b'"' => quoted_from(alloc, rest),
-        _ => Err(ReadFault::BadValue),
+        _ => Err(ParseFault::BadValue),
     }
 }
 
 // What follows the quotes that open a text.
 #[tactic(auto, using(crate::proofs::TextLoop::quoted_steps))]
-fn quoted_from(alloc: Global, text: &[u8]) -> Result<Bytes, ReadFault>
+fn quoted_from(alloc: Global, text: &[u8]) -> Result<Bytes, ParseFault>
     ensures { Gives (λ bytes. bytes) result (reads.quoted_from Quotes.Double text.now) }
 {
     let mut bytes = Bytes::new(alloc);
     let mut quotes = Quotes::Double;
     for b in text {
         let Some((after, said)) = text_step(quotes, *b) else {
-            return Err(ReadFault::BadValue);
+            return Err(ParseFault::BadValue);
         };
         put(&mut bytes, said)?;
         quotes = after;
@@ -37,7 +37,7 @@ fn quoted_from(alloc: Global, text: &[u8]) -> Result<Bytes, ReadFault>
     if quotes == Quotes::None {
         Ok(bytes)
     } else {
-        Err(ReadFault::BadValue)
+        Err(ParseFault::BadValue)
     }
 }
 
@@ -114,21 +114,21 @@ fn hex_value(b: u8) -> Option<u8>
 
 /// The bytes that digits write, two each.
 #[tactic(auto, using(crate::proofs::TextLoop::digit_steps))]
-pub(crate) fn raw_from(alloc: Global, text: &[u8]) -> Result<Bytes, ReadFault>
+pub(crate) fn raw_from(alloc: Global, text: &[u8]) -> Result<Bytes, ParseFault>
     ensures { Gives (λ bytes. bytes) result (reads.raw_from None text.now) }
 {
     let mut bytes = Bytes::new(alloc);
     let mut high = None;
     for b in text {
         let Some(digit) = hex_value(*b) else {
-            return Err(ReadFault::BadValue);
+            return Err(ParseFault::BadValue);
         };
         high = raw_step(&mut bytes, high, digit)?;
     }
     if high.is_none() {
         Ok(bytes)
     } else {
-        Err(ReadFault::BadValue)
+        Err(ParseFault::BadValue)
     }
 }
 

@@ -11,10 +11,10 @@ use crate::fault::AddFault;
 use crate::kind::Kind;
 use crate::line::Word;
 use crate::message::{DEPTH_LIMIT, Message, VALUE_LIMIT, Value};
+use crate::parse_fault::ParseFault;
 use crate::payload;
 use crate::pieces::{Separator, braced, pieces_of};
 use crate::quoted::{raw_from, unquoted};
-use crate::read_fault::ReadFault;
 use crate::words::is_utf8;
 use ak_base::{Code, NoMemory, Raw, RawFault, Text, TextFault, is_word};
 use indexmap::IndexSet;
@@ -44,44 +44,44 @@ struct Building<'a> {
 /// The value that a word writes: the letters of its kind, a colon and its payload; or for short a whole
 /// number in decimal, which is an `Int32`, `true` or `false`, or a text in quotes. A message has its text in
 /// braces, with one space or tab or more between its parts. The faults are tested in the order of
-/// `ReadFault`. Of a message that stands in 16 others, which passes the limit, the parts are not read.
-pub fn read_value(alloc: Global, word: &[u8]) -> Result<Value, ReadFault>
+/// `ParseFault`. Of a message that stands in 16 others, which passes the limit, the parts are not read.
+pub fn read_value(alloc: Global, word: &[u8]) -> Result<Value, ParseFault>
     ensures { GivesValue result (reads.read_value word.now) }
 {
     kept(value(alloc, DEPTH_LIMIT, word)?)
 }
 
 // The value, where it passes no limit.
-fn kept(read: ReadValue) -> Result<Value, ReadFault>
+fn kept(read: ReadValue) -> Result<Value, ParseFault>
     ensures { GivesValue result (Some (got_of read)) }
 {
     match read.value {
         Some(value) => Ok(value),
-        None => Err(ReadFault::Limit),
+        None => Err(ParseFault::Limit),
     }
 }
 
 /// The values of a field: one or more, all of one kind, with a comma between each two. The faults are tested
-/// in the order of `ReadFault`.
-pub fn read_values(alloc: Global, text: &[u8]) -> Result<Vec<Value>, ReadFault>
+/// in the order of `ParseFault`.
+pub fn read_values(alloc: Global, text: &[u8]) -> Result<Vec<Value>, ParseFault>
     ensures { GivesValues result (reads.read_values text.now) }
 {
     kept_values(values(alloc, DEPTH_LIMIT - 1, text)?)
 }
 
 // The values, where they pass no limit.
-fn kept_values(read: ReadValues) -> Result<Vec<Value>, ReadFault>
+fn kept_values(read: ReadValues) -> Result<Vec<Value>, ParseFault>
     ensures { GivesValues result (Some (got_values_of read)) }
 {
     match read.values {
         Some(values) => Ok(values),
-        None => Err(ReadFault::Limit),
+        None => Err(ParseFault::Limit),
     }
 }
 
 /// The message that the words of a line write: a code, and then a field in each, which is a name, `=` and its
-/// values. The faults are tested in the order of `ReadFault`.
-pub fn read_message(alloc: Global, words: &[Word]) -> Result<Message, ReadFault>
+/// values. The faults are tested in the order of `ParseFault`.
+pub fn read_message(alloc: Global, words: &[Word]) -> Result<Message, ParseFault>
     ensures { GivesMessage result (reads.read_message (map (λ word. word.bytes) words.now)) }
 {
     let texts = texts_of(alloc, words)?;
@@ -89,22 +89,22 @@ pub fn read_message(alloc: Global, words: &[Word]) -> Result<Message, ReadFault>
 }
 
 // The message, where it passes no limit.
-fn kept_message(message: Option<Message>) -> Result<Message, ReadFault>
+fn kept_message(message: Option<Message>) -> Result<Message, ParseFault>
     ensures { GivesMessage result (Some message) }
 {
     match message {
         Some(message) => Ok(message),
-        None => Err(ReadFault::Limit),
+        None => Err(ParseFault::Limit),
     }
 }
 
-/// The text that a word writes, in quotes. The faults are tested in the order of `ReadFault`.
-pub fn read_quoted(alloc: Global, word: &[u8]) -> Result<Text, ReadFault>
+/// The text that a word writes, in quotes. The faults are tested in the order of `ParseFault`.
+pub fn read_quoted(alloc: Global, word: &[u8]) -> Result<Text, ParseFault>
     ensures { GivesText result (reads.text_from word.now) }
 {
     match text_within(alloc, word)? {
         Some(text) => Ok(text),
-        None => Err(ReadFault::Limit),
+        None => Err(ParseFault::Limit),
     }
 }
 
@@ -158,18 +158,18 @@ fn got(value: Value) -> ReadValue
     }
 }
 
-fn value_or_fault(value: Option<Value>) -> Result<ReadValue, ReadFault>
+fn value_or_fault(value: Option<Value>) -> Result<ReadValue, ParseFault>
     ensures { Gives got_of result (option_map reads.got (option_map value_of value)) }
 {
     match value {
         Some(value) => Ok(got(value)),
-        None => Err(ReadFault::BadValue),
+        None => Err(ParseFault::BadValue),
     }
 }
 
 // A value without the letters of its kind.
 #[tactic(auto, unfolding(crate::specs::Reading::short_from))]
-fn short(alloc: Global, text: &[u8]) -> Result<ReadValue, ReadFault>
+fn short(alloc: Global, text: &[u8]) -> Result<ReadValue, ParseFault>
     ensures { Gives got_of result (reads.short_from text.now) }
 {
     if text.first() == Some(&b'"') {
@@ -180,7 +180,7 @@ fn short(alloc: Global, text: &[u8]) -> Result<ReadValue, ReadFault>
     }
     match payload::int32_from(text) {
         Some(number) => Ok(got(Value::Int32(number))),
-        None => Err(ReadFault::BadValue),
+        None => Err(ParseFault::BadValue),
     }
 }
 
@@ -204,7 +204,7 @@ fn small(kind: Kind, text: &[u8]) -> Option<Value>
     }
 }
 
-fn text_value(alloc: Global, text: &[u8]) -> Result<ReadValue, ReadFault>
+fn text_value(alloc: Global, text: &[u8]) -> Result<ReadValue, ParseFault>
     ensures { Gives got_of result (reads.text_from text.now) }
 {
     match text_within(alloc, text)? {
@@ -215,7 +215,7 @@ fn text_value(alloc: Global, text: &[u8]) -> Result<ReadValue, ReadFault>
 
 // The text in quotes, where it is not too long.
 #[tactic(auto, unfolding(crate::specs::Reading::text_from))]
-fn text_within(alloc: Global, text: &[u8]) -> Result<Option<Text>, ReadFault>
+fn text_within(alloc: Global, text: &[u8]) -> Result<Option<Text>, ParseFault>
     ensures { Gives reads.text_got result (reads.text_from text.now) }
 {
     let bytes = unquoted(alloc, text)?;
@@ -224,37 +224,37 @@ fn text_within(alloc: Global, text: &[u8]) -> Result<Option<Text>, ReadFault>
 
 // The text of these bytes, where they are not too many.
 #[tactic(auto, using(crate::proofs::TextKept::texts))]
-fn text_of(alloc: Global, bytes: &[u8]) -> Result<Option<Text>, ReadFault>
+fn text_of(alloc: Global, bytes: &[u8]) -> Result<Option<Text>, ParseFault>
     ensures { Gives reads.text_got result (reads.text_of bytes.now) }
 {
     if !is_utf8(bytes) {
-        return Err(ReadFault::BadValue);
+        return Err(ParseFault::BadValue);
     }
     match Text::from_bytes(alloc, bytes) {
         Ok(text) => Ok(Some(text)),
         Err(TextFault::TooLong) => Ok(None),
-        Err(TextFault::NoMemory) => Err(ReadFault::NoMemory),
-        Err(TextFault::NotUtf8) => Err(ReadFault::BadValue),
-        Err(TextFault::Zero) => Err(ReadFault::BadValue),
+        Err(TextFault::NoMemory) => Err(ParseFault::NoMemory),
+        Err(TextFault::NotUtf8) => Err(ParseFault::BadValue),
+        Err(TextFault::Zero) => Err(ParseFault::BadValue),
     }
 }
 
 #[tactic(auto, unfolding(crate::specs::Reading::raw_value_from))]
-fn raw_value(alloc: Global, text: &[u8]) -> Result<ReadValue, ReadFault>
+fn raw_value(alloc: Global, text: &[u8]) -> Result<ReadValue, ParseFault>
     ensures { Gives got_of result (reads.raw_value_from text.now) }
 {
     let bytes = raw_from(alloc, text)?;
     match Raw::from_bytes(alloc, bytes.as_slice()) {
         Ok(raw) => Ok(got(Value::Raw(raw))),
         Err(RawFault::TooLong) => Ok(over(Kind::Raw)),
-        Err(RawFault::NoMemory) => Err(ReadFault::NoMemory),
+        Err(RawFault::NoMemory) => Err(ParseFault::NoMemory),
     }
 }
 
 // ---- messages
 
 #[cycle(values)]
-fn value(alloc: Global, levels: u32, text: &[u8]) -> Result<ReadValue, ReadFault>
+fn value(alloc: Global, levels: u32, text: &[u8]) -> Result<ReadValue, ParseFault>
     requires { levels ≤ 16 }
     ensures { Gives got_of result (reads.value_with (reads.message_from levels) text.now) }
 {
@@ -270,7 +270,7 @@ fn payload_value(
     levels: u32,
     kind: Kind,
     text: &[u8],
-) -> Result<ReadValue, ReadFault>
+) -> Result<ReadValue, ParseFault>
     requires { levels ≤ 16 }
     ensures { Gives got_of result (reads.payload_from (reads.message_from levels) kind text.now) }
 {
@@ -288,12 +288,12 @@ fn payload_value(
 // A message's text in braces.
 #[cycle(values)]
 #[tactic(auto, unfolding(crate::specs::Reading::message_from))]
-fn message(alloc: Global, levels: u32, text: &[u8]) -> Result<ReadValue, ReadFault>
+fn message(alloc: Global, levels: u32, text: &[u8]) -> Result<ReadValue, ParseFault>
     requires { levels ≤ 16 }
     ensures { Gives got_of result (reads.message_from levels text.now) }
 {
     let Some(body) = braced(text) else {
-        return Err(ReadFault::BadValue);
+        return Err(ParseFault::BadValue);
     };
     let words = words_of(alloc, body)?;
     if levels == 0 {
@@ -307,12 +307,12 @@ fn message(alloc: Global, levels: u32, text: &[u8]) -> Result<ReadValue, ReadFau
 
 // The words of a message's text: one blank or more stand between them, and none before or behind them.
 #[tactic(auto, unfolding(crate::specs::Reading::words_of))]
-fn words_of(alloc: Global, body: &[u8]) -> Result<Vec<&[u8]>, ReadFault>
+fn words_of(alloc: Global, body: &[u8]) -> Result<Vec<&[u8]>, ParseFault>
     ensures { Gives (λ words. map seen words.items) result (reads.words_of body.now) }
 {
     let pieces = pieces_of(alloc, Separator::Blank, body)?;
     if is_blank_at_an_end(&pieces) {
-        return Err(ReadFault::BadValue);
+        return Err(ParseFault::BadValue);
     }
     Ok(filled(alloc, &pieces)?)
 }
@@ -347,15 +347,15 @@ fn is_missing(piece: Option<&&[u8]>) -> bool
 
 #[cycle(values)]
 #[tactic(auto, unfolding(crate::specs::Reading::message_of))]
-fn message_of(alloc: Global, levels: u32, words: &[&[u8]]) -> Result<Option<Message>, ReadFault>
+fn message_of(alloc: Global, levels: u32, words: &[&[u8]]) -> Result<Option<Message>, ParseFault>
     requires { levels ≤ 15 }
     ensures { Gives (λ m. m) result (reads.message_of (reads.message_from levels) (map seen words.now)) }
 {
     let Some((first, fields)) = words.split_first() else {
-        return Err(ReadFault::BadValue);
+        return Err(ParseFault::BadValue);
     };
     let Some(what) = code_from(first) else {
-        return Err(ReadFault::BadValue);
+        return Err(ParseFault::BadValue);
     };
     let mut building = Building {
         names: IndexSet::new(alloc),
@@ -384,12 +384,12 @@ fn field<'a>(
     levels: u32,
     building: Building<'a>,
     word: &'a [u8],
-) -> Result<Building<'a>, ReadFault>
+) -> Result<Building<'a>, ParseFault>
     requires { levels ≤ 15 }
     ensures { Gives built_of result (reads.field_behind (reads.message_from levels) (built_of building.entry) word.now) }
 {
     let Some((name, text)) = split_field(word) else {
-        return Err(ReadFault::BadValue);
+        return Err(ParseFault::BadValue);
     };
     let begun = begin(building, name)?;
     let texts = pieces_of(alloc, Separator::Comma, text)?;
@@ -399,14 +399,14 @@ fn field<'a>(
 }
 
 // A field begins. Its name has to be a new one.
-fn begin<'a>(building: Building<'a>, name: &'a [u8]) -> Result<Building<'a>, ReadFault>
+fn begin<'a>(building: Building<'a>, name: &'a [u8]) -> Result<Building<'a>, ParseFault>
     ensures { Gives built_of result (reads.field_begun (built_of building.entry) name.now) }
 {
     let Building { mut names, message } = building;
     if names.insert(name)? {
         Ok(Building { names, message })
     } else {
-        Err(ReadFault::BadValue)
+        Err(ParseFault::BadValue)
     }
 }
 
@@ -418,7 +418,7 @@ fn add_values(
     message: Option<Message>,
     name: &[u8],
     texts: &[&[u8]],
-) -> Result<Option<Message>, ReadFault>
+) -> Result<Option<Message>, ParseFault>
     requires { levels ≤ 15 }
     ensures { Gives (λ m. m) result (reads.values_added (reads.message_from levels) name.now (map seen texts.now) None message) }
 {
@@ -427,7 +427,7 @@ fn add_values(
     for text in texts {
         let read = value(alloc, levels, text)?;
         if !fits(kind, read.kind) {
-            return Err(ReadFault::BadValue);
+            return Err(ParseFault::BadValue);
         }
         kind = Some(read.kind);
         message = with_value(message, name, read.value)?;
@@ -449,9 +449,9 @@ fn with_value(
     message: Option<Message>,
     name: &[u8],
     value: Option<Value>,
-) -> Result<Option<Message>, ReadFault>
+) -> Result<Option<Message>, ParseFault>
     ensures added { IfOk result (λ m. m ≡ reads.with_value message name.now (option_map value_of value)) }
-    ensures only { OnErr result (result ≡ Err ReadFault.NoMemory) }
+    ensures only { OnErr result (result ≡ Err ParseFault.NoMemory) }
 {
     let Some(mut message) = message else {
         return Ok(None);
@@ -466,12 +466,12 @@ fn with_value(
 }
 
 // The value passes a limit, unless memory ran out.
-fn not_added(fault: AddFault) -> Result<Option<Message>, ReadFault>
+fn not_added(fault: AddFault) -> Result<Option<Message>, ParseFault>
     ensures kept { IfOk result (λ m. (m ≡ None) × (fault ≢ AddFault.NoMemory)) }
-    ensures only { OnErr result (result ≡ Err ReadFault.NoMemory) }
+    ensures only { OnErr result (result ≡ Err ParseFault.NoMemory) }
 {
     match fault {
-        AddFault::NoMemory => Err(ReadFault::NoMemory),
+        AddFault::NoMemory => Err(ParseFault::NoMemory),
         AddFault::BadName | AddFault::BadType | AddFault::FieldLimit | AddFault::TooDeep => Ok(
             None,
         ),
@@ -480,13 +480,13 @@ fn not_added(fault: AddFault) -> Result<Option<Message>, ReadFault>
 
 // One value or more.
 #[tactic(auto, unfolding(crate::specs::Reading::values_of))]
-fn values(alloc: Global, levels: u32, text: &[u8]) -> Result<ReadValues, ReadFault>
+fn values(alloc: Global, levels: u32, text: &[u8]) -> Result<ReadValues, ParseFault>
     requires { levels ≤ 15 }
     ensures { Gives got_values_of result (reads.values_with (reads.message_from levels) text.now) }
 {
     let pieces = pieces_of(alloc, Separator::Comma, text)?;
     let Some((first, others)) = pieces.split_first() else {
-        return Err(ReadFault::BadValue);
+        return Err(ParseFault::BadValue);
     };
     let read = first_values(alloc, value(alloc, levels, first)?)?;
     further_values(alloc, levels, read, others)
@@ -497,7 +497,7 @@ fn further_values(
     levels: u32,
     read: ReadValues,
     texts: &[&[u8]],
-) -> Result<ReadValues, ReadFault>
+) -> Result<ReadValues, ParseFault>
     requires { levels ≤ 15 }
     ensures { Gives got_values_of result (reads.values_behind (reads.message_from levels) (map seen texts.now) (got_values_of read)) }
 {
@@ -510,10 +510,13 @@ fn further_values(
 }
 
 // The values so far and one more, at most 255.
-fn joined(values: Option<Vec<Value>>, value: Option<Value>) -> Result<Option<Vec<Value>>, ReadFault>
+fn joined(
+    values: Option<Vec<Value>>,
+    value: Option<Value>,
+) -> Result<Option<Vec<Value>>, ParseFault>
     ensures joined { IfOk result (λ all. option_map (λ vs. map value_of vs.items) all
         ≡ reads.joined (option_map (λ vs. map value_of vs.items) values) (option_map value_of value)) }
-    ensures only { OnErr result (result ≡ Err ReadFault.NoMemory) }
+    ensures only { OnErr result (result ≡ Err ParseFault.NoMemory) }
 {
     let Some(mut values) = values else {
         return Ok(None);
@@ -528,9 +531,9 @@ fn joined(values: Option<Vec<Value>>, value: Option<Value>) -> Result<Option<Vec
     Ok(Some(values))
 }
 
-fn first_values(alloc: Global, first: ReadValue) -> Result<ReadValues, ReadFault>
+fn first_values(alloc: Global, first: ReadValue) -> Result<ReadValues, ParseFault>
     ensures first { IfOk result (λ read. got_values_of read ≡ reads.first_values (got_of first)) }
-    ensures only { OnErr result (result ≡ Err ReadFault.NoMemory) }
+    ensures only { OnErr result (result ≡ Err ParseFault.NoMemory) }
 {
     let ReadValue { kind, value } = first;
     Ok(ReadValues {
@@ -541,13 +544,13 @@ fn first_values(alloc: Global, first: ReadValue) -> Result<ReadValues, ReadFault
 
 impl ReadValues {
     // One value more, which has to be of the same kind.
-    fn with(self, read: ReadValue) -> Result<ReadValues, ReadFault>
+    fn with(self, read: ReadValue) -> Result<ReadValues, ParseFault>
         ensures { Gives got_values_of result (reads.more_values (got_values_of self) (got_of read)) }
     {
         let ReadValues { kind, values } = self;
         let ReadValue { kind: other, value } = read;
         if other != kind {
-            return Err(ReadFault::BadValue);
+            return Err(ParseFault::BadValue);
         }
         Ok(ReadValues {
             kind,

@@ -4,7 +4,7 @@ use crate::compare::same;
 use crate::messages::{number, words};
 use ak_base::{Bytes, Code, Items};
 use ak_message::{
-    Address, Kind, Message, ReadFault, Target, Value, Word, read_message, read_quoted, read_value,
+    Address, Kind, Message, ParseFault, Target, Value, Word, read_message, read_quoted, read_value,
     read_values, split_field, split_words,
 };
 use std::alloc::Global;
@@ -27,7 +27,7 @@ fn number_of(value: &Value) -> Option<i128> {
     }
 }
 
-fn number_read(alloc: Global, text: &[u8]) -> Result<(Kind, Option<i128>), ReadFault> {
+fn number_read(alloc: Global, text: &[u8]) -> Result<(Kind, Option<i128>), ParseFault> {
     let value = read_value(alloc, text)?;
     Ok((value.kind(), number_of(&value)))
 }
@@ -74,7 +74,7 @@ fn numbers_are_read(rt: HostRuntime) {
     }
 }
 
-fn address_read(alloc: Global, text: &[u8]) -> Result<Option<Address>, ReadFault> {
+fn address_read(alloc: Global, text: &[u8]) -> Result<Option<Address>, ParseFault> {
     match read_value(alloc, text)? {
         Value::Messenger(address) => Ok(Some(address)),
         _ => Ok(None),
@@ -133,7 +133,7 @@ fn texts_in_quotes_are_read(rt: HostRuntime) -> Result<(), Fail> {
     Ok(())
 }
 
-fn quoted_fault(alloc: Global, word: &[u8]) -> Option<ReadFault> {
+fn quoted_fault(alloc: Global, word: &[u8]) -> Option<ParseFault> {
     read_quoted(alloc, word).err()
 }
 
@@ -141,11 +141,11 @@ fn quoted_fault(alloc: Global, word: &[u8]) -> Option<ReadFault> {
 fn words_without_quotes_are_refused(rt: HostRuntime) {
     for word in [b"x".as_slice(), b"CSTR:\"x\"", b"\"x", b"1"] {
         let fault = quoted_fault(rt.alloc(), word);
-        same(&rt, word, fault, Some(ReadFault::BadValue));
+        same(&rt, word, fault, Some(ParseFault::BadValue));
     }
 }
 
-fn value_fault(alloc: Global, text: &[u8]) -> Option<ReadFault> {
+fn value_fault(alloc: Global, text: &[u8]) -> Option<ParseFault> {
     read_value(alloc, text).err()
 }
 
@@ -215,7 +215,7 @@ fn texts_of_no_value_are_refused(rt: HostRuntime) {
     ];
     for text in rows {
         let fault = value_fault(rt.alloc(), text);
-        same(&rt, text, fault, Some(ReadFault::BadValue));
+        same(&rt, text, fault, Some(ParseFault::BadValue));
     }
 }
 
@@ -239,7 +239,7 @@ fn message_of_line(alloc: Global, line: &[u8]) -> Result<Message, Fail> {
     Ok(read_message(alloc, words.as_slice())?)
 }
 
-fn line_fault(alloc: Global, line: &[u8]) -> Result<Option<ReadFault>, Fail> {
+fn line_fault(alloc: Global, line: &[u8]) -> Result<Option<ParseFault>, Fail> {
     let words = words_of(alloc, line)?;
     Ok(read_message(alloc, words.as_slice()).err())
 }
@@ -295,11 +295,11 @@ fn a_code_alone_is_a_message(rt: HostRuntime) -> Result<(), Fail> {
 #[test]
 fn no_words_are_no_message(rt: HostRuntime) {
     let fault = read_message(rt.alloc(), &[]).err();
-    same(&rt, "no words", fault, Some(ReadFault::BadValue));
+    same(&rt, "no words", fault, Some(ParseFault::BadValue));
 }
 
 // How many values the text writes.
-fn count_in(alloc: Global, text: &[u8]) -> Result<usize, ReadFault> {
+fn count_in(alloc: Global, text: &[u8]) -> Result<usize, ParseFault> {
     Ok(read_values(alloc, text)?.len())
 }
 
@@ -358,17 +358,17 @@ fn texts_of_no_message_are_refused(rt: HostRuntime) {
     ];
     for text in rows {
         let fault = value_fault(rt.alloc(), text);
-        same(&rt, text, fault, Some(ReadFault::BadValue));
+        same(&rt, text, fault, Some(ParseFault::BadValue));
     }
 }
 
 // The kind of what is read.
-fn kind_read(alloc: Global, text: &[u8]) -> Result<Kind, ReadFault> {
+fn kind_read(alloc: Global, text: &[u8]) -> Result<Kind, ParseFault> {
     Ok(read_value(alloc, text)?.kind())
 }
 
 // A text of so many bytes, in quotes.
-fn quoted(alloc: Global, length: usize) -> Result<Bytes, ReadFault> {
+fn quoted(alloc: Global, length: usize) -> Result<Bytes, ParseFault> {
     let mut text = Bytes::new(alloc);
     text.push(b'"')?;
     for _ in 0..length {
@@ -378,12 +378,12 @@ fn quoted(alloc: Global, length: usize) -> Result<Bytes, ReadFault> {
     Ok(text)
 }
 
-fn kind_quoted(alloc: Global, length: usize) -> Result<Kind, ReadFault> {
+fn kind_quoted(alloc: Global, length: usize) -> Result<Kind, ParseFault> {
     kind_read(alloc, quoted(alloc, length)?.as_slice())
 }
 
 // A field `a` with a text of 1,025 bytes, and this behind it.
-fn behind_a_long_text(alloc: Global, rest: &[u8]) -> Result<Kind, ReadFault> {
+fn behind_a_long_text(alloc: Global, rest: &[u8]) -> Result<Kind, ParseFault> {
     let mut text = Bytes::new(alloc);
     text.extend(b"MSGG:{'abcd' a=")?;
     text.extend(quoted(alloc, 1025)?.as_slice())?;
@@ -401,18 +401,18 @@ fn texts_are_limited(rt: HostRuntime) {
         behind_a_long_text(alloc, b" b=1}"),
         behind_a_long_text(alloc, b" a=1}"),
     ];
-    let limit = Err(ReadFault::Limit);
-    let wanted = [Ok(Kind::Text), limit, limit, Err(ReadFault::BadValue)];
+    let limit = Err(ParseFault::Limit);
+    let wanted = [Ok(Kind::Text), limit, limit, Err(ParseFault::BadValue)];
     same(&rt, "1024, 1025, another name, the same", told, wanted);
 }
 
 // Messages in one another, so many, with this in the last one.
-fn kind_nested(alloc: Global, levels: usize, inner: &[u8]) -> Result<Kind, ReadFault> {
+fn kind_nested(alloc: Global, levels: usize, inner: &[u8]) -> Result<Kind, ParseFault> {
     kind_read(alloc, nested(alloc, levels, inner)?.as_slice())
 }
 
 // A message in so many others, with this in the last one.
-fn nested(alloc: Global, levels: usize, inner: &[u8]) -> Result<Bytes, ReadFault> {
+fn nested(alloc: Global, levels: usize, inner: &[u8]) -> Result<Bytes, ParseFault> {
     let mut text = Bytes::new(alloc);
     for _ in 0..levels {
         text.extend(b"MSGG:{'abcd' m=")?;
@@ -434,14 +434,14 @@ fn depth_is_limited(rt: HostRuntime) {
     ];
     let wanted = [
         Ok(Kind::Message),
-        Err(ReadFault::Limit),
-        Err(ReadFault::BadValue),
+        Err(ParseFault::Limit),
+        Err(ParseFault::BadValue),
     ];
     same(&rt, "16, 17, no value", told, wanted);
 }
 
 // So many numbers with commas between them, and this behind them.
-fn count_numbers(alloc: Global, count: usize, rest: &[u8]) -> Result<usize, ReadFault> {
+fn count_numbers(alloc: Global, count: usize, rest: &[u8]) -> Result<usize, ParseFault> {
     let mut text = Bytes::new(alloc);
     text.extend(b"1")?;
     for _ in 1..count {
@@ -459,7 +459,7 @@ fn values_are_limited(rt: HostRuntime) {
         count_numbers(alloc, 256, b""),
         count_numbers(alloc, 256, b",true"),
     ];
-    let wanted = [Ok(255), Err(ReadFault::Limit), Err(ReadFault::BadValue)];
+    let wanted = [Ok(255), Err(ParseFault::Limit), Err(ParseFault::BadValue)];
     same(&rt, "255, 256, another kind", told, wanted);
 }
 
@@ -484,23 +484,23 @@ fn sixty_four_fields_are_read(rt: HostRuntime) -> Result<(), Fail> {
 }
 
 // What is answered where this stands behind 64 fields.
-fn fault_behind(alloc: Global, rest: &[u8]) -> Result<Option<ReadFault>, Fail> {
+fn fault_behind(alloc: Global, rest: &[u8]) -> Result<Option<ParseFault>, Fail> {
     line_fault(alloc, with_64_fields(alloc, rest)?.as_slice())
 }
 
 #[test]
 fn fields_are_limited(rt: HostRuntime) -> Result<(), Fail> {
     for (more, fault) in [
-        (" g=1", ReadFault::Limit),
-        (" g=x", ReadFault::BadValue),
-        (" f00=1", ReadFault::BadValue),
-        (" f77=1", ReadFault::BadValue),
-        (" g=1 h=1 i=1", ReadFault::Limit),
-        (" g=1 f00=1", ReadFault::BadValue),
-        (" g=1 g=1", ReadFault::BadValue),
-        (" g=1 h=1 g=2 i=1", ReadFault::BadValue),
-        (" g=MSGG:{'abcd' f00=1 f01=1}", ReadFault::Limit),
-        (" g=MSGG:{'abcd' f00=1 f00=1}", ReadFault::BadValue),
+        (" g=1", ParseFault::Limit),
+        (" g=x", ParseFault::BadValue),
+        (" f00=1", ParseFault::BadValue),
+        (" f77=1", ParseFault::BadValue),
+        (" g=1 h=1 i=1", ParseFault::Limit),
+        (" g=1 f00=1", ParseFault::BadValue),
+        (" g=1 g=1", ParseFault::BadValue),
+        (" g=1 h=1 g=2 i=1", ParseFault::BadValue),
+        (" g=MSGG:{'abcd' f00=1 f01=1}", ParseFault::Limit),
+        (" g=MSGG:{'abcd' f00=1 f00=1}", ParseFault::BadValue),
     ] {
         let answer = fault_behind(rt.alloc(), more.as_bytes())?;
         same(&rt, more, answer, Some(fault));

@@ -11,18 +11,18 @@ use crate::fault::FormFault;
 use ak_action::{Number, Values, ValuesFault};
 use ak_base::Text;
 use ak_flatten::{FLAT_LIMIT, flat_len};
-use ak_message::{Kind, ReadFault, Value, read_quoted, read_value, read_values};
+use ak_message::{Kind, ParseFault, Value, read_quoted, read_value, read_values};
 use std::alloc::Global;
 
 /// What was read, or `None` where it passes a limit.
-fn kept<T>(read: Result<T, ReadFault>) -> Result<Option<T>, FormFault>
+fn kept<T>(read: Result<T, ParseFault>) -> Result<Option<T>, FormFault>
     ensures { result ≡ faults.kept read }
 {
     match read {
         Ok(got) => Ok(Some(got)),
-        Err(ReadFault::Limit) => Ok(None),
-        Err(ReadFault::BadValue) => Err(FormFault::BadValue),
-        Err(ReadFault::NoMemory) => Err(FormFault::NoMemory),
+        Err(ParseFault::Limit) => Ok(None),
+        Err(ParseFault::BadValue) => Err(FormFault::BadValue),
+        Err(ParseFault::NoMemory) => Err(FormFault::NoMemory),
     }
 }
 

@@ -3,7 +3,7 @@ use std::alloc::{AllocError, AllocFailed};
 
 /// Why no value or message was read. They are tested in this order.
 #[derive(Clone, Copy, Debug, PartialEq, Eq)]
-pub enum ReadFault {
+pub enum ParseFault {
     /// The words are not of its form, or a number is not in its kind's range, or values of a field have
     /// different kinds, or two fields of a message have one name.
     BadValue,
@@ -13,35 +13,35 @@ pub enum ReadFault {
     NoMemory,
 }
 
-impl From<NoMemory> for ReadFault {
+impl From<NoMemory> for ParseFault {
     ghost use Rattle.std.specs.Prelude.{◌≡◌};
-    ghost use Rattle.ak_message.specs.declared.read_fault.ReadFault.TheVariants as fault;
+    ghost use Rattle.ak_message.specs.declared.parse_fault.ParseFault.TheVariants as fault;
 
     ghost from_gives = { λ _ e. e ≡ fault.NoMemory };
 
-    fn from(_error: NoMemory) -> ReadFault {
-        ReadFault::NoMemory
+    fn from(_error: NoMemory) -> ParseFault {
+        ParseFault::NoMemory
     }
 }
 
-impl From<AllocError> for ReadFault {
+impl From<AllocError> for ParseFault {
     ghost use Rattle.std.specs.Prelude.{◌≡◌};
-    ghost use Rattle.ak_message.specs.declared.read_fault.ReadFault.TheVariants as fault;
+    ghost use Rattle.ak_message.specs.declared.parse_fault.ParseFault.TheVariants as fault;
 
     ghost from_gives = { λ _ e. e ≡ fault.NoMemory };
 
-    fn from(_error: AllocError) -> ReadFault {
-        ReadFault::NoMemory
+    fn from(_error: AllocError) -> ParseFault {
+        ParseFault::NoMemory
     }
 }
 
-impl<T: Drop> From<AllocFailed<T>> for ReadFault {
+impl<T: Drop> From<AllocFailed<T>> for ParseFault {
     ghost use Rattle.std.specs.Prelude.{◌≡◌};
-    ghost use Rattle.ak_message.specs.declared.read_fault.ReadFault.TheVariants as fault;
+    ghost use Rattle.ak_message.specs.declared.parse_fault.ParseFault.TheVariants as fault;
 
     ghost from_gives = { λ _ e. e ≡ fault.NoMemory };
 
-    fn from(_error: AllocFailed<T>) -> ReadFault {
-        ReadFault::NoMemory
+    fn from(_error: AllocFailed<T>) -> ParseFault {
+        ParseFault::NoMemory
     }
 }
