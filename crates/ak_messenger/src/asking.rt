@@ -2,6 +2,7 @@ ghost use Rattle.std.specs.Prelude.{◌≡◌, ◌≤◌, ◌<◌, ◌↔◌, �
 ghost use Rattle.ak_base.specs.declared.thread.ThreadId.{ThreadId};
 ghost use Rattle.ak_message.specs.Fields.{specifier_count};
 ghost use Rattle.ak_flatten.specs.Item.{spelled};
+ghost use Rattle.ak_flatten.specs.Laws.{Spells};
 ghost use Rattle.ak_flatten.specs.Spelling.{spelling};
 ghost use Rattle.ak_port.specs.PortCalls.{CanTake, IsAtPort};
 ghost use Rattle.ak_port.specs.ReplySeats.{MayCancel, MayTake};
@@ -79,6 +80,7 @@ fn await_reply<R: Wait>(alloc: Global, h: &mut Hands, rt: &R, slot: u64) -> Resu
     requires { MayTake h.old.book_seat.thread slot h.old.book_seat.front }
     ensures replied { IsReplied slot h.old.clock h.new.clock h.old.book_seat h.new.book_seat result }
     ensures message { IfOk result (λ reply. reply.message ≡ spelled reply.flat) }
+    ensures spells { IfOk result (λ reply. Spells reply.flat reply.message) }
     ensures book { h.new.book ≡ h.old.book }
     ensures book_seat { KeepsSeat h.old.book_seat h.new.book_seat }
     ensures clock { h.new.clock.thread ≡ h.old.clock.thread }
@@ -112,6 +114,7 @@ fn converse<R: Wait>(
     requires cancel { MayCancel h.old.book_seat.thread slot h.old.book_seat.front }
     ensures became { BecameOf item h.old.clock h.new.clock h.old.book_seat h.new.book_seat seat.old seat.new slot result }
     ensures message { IfOk result (λ reply. reply.message ≡ spelled reply.flat) }
+    ensures spells { IfOk result (λ reply. Spells reply.flat reply.message) }
     ensures port { IsAtPort seat.new }
     ensures seat { KeepsSeat seat.old seat.new }
     ensures taking { (thread : ThreadId) (room : ℕ) → CanTake thread room seat.old → CanTake thread room seat.new }
@@ -141,6 +144,7 @@ fn ask_by<R: Wait>(
     ensures answered { AskTells item h.old.clock h.new.clock h.old.book_seat h.new.book_seat seat.old seat.new result }
     ensures not_long { IsErrOf result SendFault.TooLong → ⊥ }
     ensures message { IfOk result (λ reply. reply.message ≡ spelled reply.flat) }
+    ensures spells { IfOk result (λ reply. Spells reply.flat reply.message) }
     ensures port { IsAtPort seat.old → IsAtPort seat.new }
     ensures seat { KeepsSeat seat.old seat.new }
     ensures taking { (thread : ThreadId) (room : ℕ) → CanTake thread room seat.old → CanTake thread room seat.new }
@@ -171,6 +175,7 @@ pub fn ask<R: Wait>(
     ensures answered { AskTells (item_in e Duty.None m.now) h.old.clock h.new.clock h.old.book_seat h.new.book_seat seat.old seat.new result }
     ensures too_long { IsErrOf result SendFault.TooLong ↔ (4096 < length (spelling m.now)) }
     ensures message { IfOk result (λ reply. reply.message ≡ spelled reply.flat) }
+    ensures spells { IfOk result (λ reply. Spells reply.flat reply.message) }
     ensures port { IsAtPort seat.old → IsAtPort seat.new }
     ensures seat { KeepsSeat seat.old seat.new }
     ensures taking { (thread : ThreadId) (room : ℕ) → CanTake thread room seat.old → CanTake thread room seat.new }
