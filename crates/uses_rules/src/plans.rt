@@ -4,8 +4,8 @@
 ghost use Rattle.std.specs.Prelude.{◌≡◌, IfOk};
 
 use ak_action::{
-    Action, ActionList, ElementsList, LooperPlan, Number, PlanFault, PlanParts, PlanRow, Reaction,
-    ReactionList, plans_are_whole,
+    Action, ActionList, Dest, ElementsList, LooperPlan, Number, PlanFault, PlanParts, PlanRow,
+    Reaction, ReactionList, Template, TemplateFields, plans_are_whole,
 };
 use ak_base::{Code, Items, Text};
 use ak_filter::FilterList;
@@ -302,19 +302,38 @@ fn suites(alloc: Global, count: u8) -> Result<Items<Text>, Fail> {
     Ok(Items::from_vec(suites))
 }
 
-// A handler whose properties have these elements, and which adds to a property that it does not have.
-fn adding(alloc: Global, kinds: &[Kind]) -> Result<PlanRow, Fail> {
+// A handler whose properties have these elements, and a reaction of that action.
+fn acting(alloc: Global, kinds: &[Kind], action: Action) -> Result<PlanRow, Fail> {
     let mut actions = ActionList::new(alloc);
-    actions.push(Action::Add {
-        property: text(alloc, b"Other")?,
-        amount: Number::Int32(1),
-    })?;
+    actions.push(action)?;
     let mut row = with_table(alloc, TWO, kinds)?;
     row.reactions.push(Reaction {
         what: Code(7),
         actions,
     })?;
     Ok(row)
+}
+
+// It adds to a property that it does not have.
+fn adding(alloc: Global, kinds: &[Kind]) -> Result<PlanRow, Fail> {
+    let action = Action::Add {
+        property: text(alloc, b"Other")?,
+        amount: Number::Int32(1),
+    };
+    acting(alloc, kinds, action)
+}
+
+// It posts to a handler that is not there, which is no fault: one of that name may be added.
+fn fault_of_post(alloc: Global) -> Result<Option<PlanFault>, Fail> {
+    let action = Action::Post {
+        to: Dest::Handler(text(alloc, b"none of them")?),
+        message: Template {
+            what: Code(1),
+            fields: TemplateFields::new(alloc),
+        },
+        back: true,
+    };
+    fault_of_row(alloc, acting(alloc, &[Kind::Int32, Kind::Text], action)?)
 }
 
 fn fault_of_action(alloc: Global) -> Result<Option<PlanFault>, Fail> {
@@ -339,8 +358,9 @@ fn fault_of_chain_and_suites(alloc: Global) -> Result<Option<PlanFault>, Fail> {
     fault(alloc, 100, b"", rows)
 }
 
-fn first_faults(alloc: Global) -> Result<[Option<PlanFault>; 5], Fail> {
+fn first_faults(alloc: Global) -> Result<[Option<PlanFault>; 6], Fail> {
     Ok([
+        fault_of_post(alloc)?,
         fault_of_action(alloc)?,
         fault_of_table_and_action(alloc)?,
         fault_of_suites_and_table(alloc, 16)?,
@@ -354,6 +374,7 @@ fn chains_come_before_suites_and_these_before_tables_and_actions(
     rt: HostRuntime,
 ) -> Result<(), Fail> {
     let wanted = [
+        None,
         Some(PlanFault::BadAction),
         BAD,
         BAD,
