@@ -2,6 +2,7 @@
 //! property of messages. Expected values come from the rules.
 
 ghost use Rattle.std.specs.Prelude.{◌≤◌, length, IfOk};
+ghost use Rattle.ak_action.specs.Interp.{MayGoOn};
 
 use ak_action::{
     Acted, Action, ActionList, Answer, AnswerWord, DeskRow, DeskState, Dest, ElementsList, Given,
@@ -97,13 +98,23 @@ fn desk(alloc: Global, count: Value, action: Action) -> Result<DeskState, Fail> 
 }
 
 // ---- a reaction that wants nothing from outside
+// What it came to, where it wants nothing more.
 #[tactic(auto, using(crate::proofs::Ending::done_has_ended))]
-fn carried_out(alloc: Global, state: &mut DeskState) -> Result<Acted, Fail> {
-    let mut interp = Interp::start(alloc, Message::new(alloc, Code(7)), 0, 0)?;
+fn ended(interp: Interp, state: &mut DeskState) -> Result<Acted, Fail>
+    requires { MayGoOn interp }
+{
+    let mut interp = interp;
     let Ok(Want::Done) = interp.next(state) else {
         return Err(Fail::new("something is wanted"));
     };
     Ok(interp.finish())
+}
+
+fn carried_out(alloc: Global, state: &mut DeskState) -> Result<Acted, Fail> {
+    ended(
+        Interp::start(alloc, Message::new(alloc, Code(7)), 0, 0)?,
+        state,
+    )
 }
 
 fn error_of(word: &AnswerWord) -> Option<KitError> {
@@ -226,7 +237,7 @@ fn what_is_not_there_is_told_or_left_out(rt: HostRuntime) -> Result<(), Fail> {
 }
 
 // ---- the reply to an ask
-#[tactic(auto, using(crate::proofs::Ending::done_has_ended, crate::proofs::Ending::asks_take_replies, crate::proofs::Ending::a_reply_goes_on))]
+#[tactic(auto, using(crate::proofs::Ending::asks_take_replies, crate::proofs::Ending::a_reply_goes_on))]
 fn asked(alloc: Global, state: &mut DeskState, reply: &Message) -> Result<Acted, Fail> {
     let mut interp = Interp::start(alloc, Message::new(alloc, Code(7)), 0, 0)?;
     let Ok(Want::Ask { .. }) = interp.next(state) else {
@@ -235,10 +246,7 @@ fn asked(alloc: Global, state: &mut DeskState, reply: &Message) -> Result<Acted,
     let flat = flatten(alloc, reply)?;
     let message = unflatten(alloc, flat.as_slice())?;
     interp.give(state, Answer::Reply { flat, message });
-    let Ok(Want::Done) = interp.next(state) else {
-        return Err(Fail::new("something more is wanted"));
-    };
-    Ok(interp.finish())
+    ended(interp, state)
 }
 
 // What `count` is, and whether the list went on, where the result is to become the value of a property that
