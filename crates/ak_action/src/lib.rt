@@ -17,8 +17,6 @@ mod properties;
 mod row;
 mod state;
 mod template;
-#[cfg(test)]
-mod tests;
 mod values;
 mod words;
 

@@ -157,6 +157,3 @@ fn described_row(row: PlanRow, next: Option<u64>) -> (Text, Option<u64>, DeskRow
     };
     (row.name, next, held)
 }
-
-#[cfg(test)]
-mod tests;

@@ -187,6 +187,3 @@ impl PlanParts {
         None
     }
 }
-
-#[cfg(test)]
-pub(crate) mod tests;

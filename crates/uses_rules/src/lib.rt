@@ -1,0 +1,10 @@
+//! Tests of rules by public calls alone, of what no row of a program over data can say: states and plans
+//! that no description gives, and lists at their limits. Nothing here is for use.
+#![tactic(auto)]
+
+#[cfg(test)]
+mod actions;
+#[cfg(test)]
+mod lists;
+#[cfg(test)]
+mod plans;
