@@ -157,9 +157,9 @@ fn pong_of_each_origin(
     let mut common = FilterList::new(alloc);
     common.push(skipping)?;
     let mut told = [(LOST, 0, PONG); 4];
-    for (told, origin) in told.iter_mut().zip(&ORIGINS) {
+    for (place, origin) in told.iter_mut().zip(&ORIGINS) {
         let pong = message(alloc, PONG, b"")?;
-        *told = routed_from(alloc, &set, &common, false, *origin, PREFERRED, pong)?;
+        *place = routed_from(alloc, &set, &common, false, *origin, PREFERRED, pong)?;
     }
     Ok(told)
 }

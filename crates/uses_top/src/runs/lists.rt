@@ -86,7 +86,8 @@ fn list_of_both(alloc: Global) -> Result<Listed, Fail> {
     let mut source = TextSource::new(with_both(alloc)?, Vec::new(alloc));
     let mut sink = ListSink::new(alloc, Vec::new(alloc));
     let end = kit(alloc, &words, &mut source, &mut sink);
-    listed_by(&end.run.ok_or("no run")?)
+    let run = end.run.ok_or("no run")?;
+    listed_by(&run)
 }
 
 // The line at that place of the list.

@@ -1,5 +1,5 @@
 use Rattle.ak_roster.specs.Roster.{IsAtRest}
 use Rattle.uses_objects.proofs.rosters.launches.launch_all.Given as goal
 
-abbrev pub invariant-loop-place : goal.invariant-loop-word
-invariant-loop-place g l = IsAtRest l.roster
+abbrev pub invariant-loop-place : goal.invariant-loop-place
+invariant-loop-place l = IsAtRest l.roster
