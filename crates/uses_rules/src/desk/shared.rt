@@ -1,13 +1,10 @@
 //! Edits of a desk that two threads share.
 ghost use Rattle.std.specs.Prelude.{◌≡◌, false};
 
-use super::making::{OWN, state, text};
-use super::same;
-use crate::desk::Desk;
-use crate::entry::{DeskEvent, Edit, EditAnswer};
-use crate::shared::edit_shared;
+use super::unused;
 use EditAnswer::{Done, Refused, Token};
-use ak_base::ThreadId;
+use ak_base::{Text, ThreadId};
+use ak_desk::{Desk, DeskEvent, Edit, EditAnswer, edit_shared};
 use ak_handler::HandlerFault;
 use ak_turn::{Book, Clock, Seat, TurnLock};
 use std::alloc::Global;
@@ -44,8 +41,8 @@ fn edit_in_turn<R: Wait>(
     requires idle { (main.old.turn ≡ false) × (other.old.turn ≡ false) }
     requires threads { (main.old.thread ≡ 0) × (other.old.thread ≡ 1) }
 {
-    let name = text(alloc, b"b")?;
-    let again = text(alloc, b"b")?;
+    let name = Text::from_bytes(alloc, b"b")?;
+    let again = Text::from_bytes(alloc, b"b")?;
     let mut clock = Clock {
         thread: ThreadId(0),
         time: 0,
@@ -65,7 +62,7 @@ fn edit_in_turn<R: Wait>(
 
 // What the two are answered, and the desk then.
 fn edited_in_turn<R: Wait>(rt: &R, alloc: Global) -> Result<([EditAnswer; 5], Desk), Fail> {
-    let desk = Desk::open(alloc, state(alloc, OWN, &[])?)?;
+    let desk = unused(alloc)?;
     let (lock, mut main) = TurnLock::new(alloc, desk, ThreadId(0))?;
     let mut other = lock.split(&mut main, ThreadId(1));
     let mut third = lock.split(&mut main, ThreadId(2));
@@ -87,6 +84,10 @@ fn line_at(desk: &Desk, place: u64) -> Result<Line, Fail> {
         None => Err(Fail::new("there is no such entry")),
     }
 }
+
+// What was answered, how many entries there are, each of the first five, how many handlers there are then, and
+// the next one of the handler with token 1.
+type Edited = ([EditAnswer; 5], u64, [Line; 5], u32, Option<u64>);
 
 static LINES: [Line; 5] = [
     Line(0, 1, Token(2)),
@@ -110,19 +111,17 @@ fn answers_in(lines: &[Line; 5]) -> [EditAnswer; 5] {
     [lines[0].2, lines[1].2, lines[2].2, lines[3].2, lines[4].2]
 }
 
-// How many handlers there are, and the next one of the handler with token 1.
-fn handlers_of(desk: &Desk) -> (u32, Option<u64>) {
-    let handlers = &desk.state.handlers;
-    (handlers.len(), handlers.next_of(1))
+fn edited<R: Wait>(rt: &R, alloc: Global) -> Result<Edited, Fail> {
+    let (answers, desk) = edited_in_turn(rt, alloc)?;
+    let handlers = &desk.state().handlers;
+    let next = handlers.next_of(1);
+    Ok((answers, desk.len(), lines(&desk)?, handlers.len(), next))
 }
 
 // The answers are those of one list, which has the edits of both.
 #[test]
 fn two_threads_edit_one_desk(rt: HostRuntime) -> Result<(), Fail> {
-    let (answers, desk) = edited_in_turn(&rt, rt.alloc())?;
-    same(&rt, "how many entries", desk.len(), 5);
-    same(&rt, "entries", lines(&desk)?, LINES);
-    same(&rt, "answers", answers, answers_in(&LINES));
-    same(&rt, "handlers", handlers_of(&desk), (2, Some(0)));
+    let told: Edited = (answers_in(&LINES), 5, LINES, 2, Some(0));
+    assert_eq!(rt; edited(&rt, rt.alloc())?, told);
     Ok(())
 }

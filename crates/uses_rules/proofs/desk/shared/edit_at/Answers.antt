@@ -5,7 +5,7 @@ use Rattle.ak_turn.specs.Seats.{LockId}
 use Rattle.ak_desk.specs.declared.entry.DeskEvent.{DeskEvent}
 use Rattle.ak_desk.specs.Desk.{edit_entry}
 use Rattle.ak_desk.specs.Shared.{DeskSeat, HasAnswered}
-use Rattle.ak_desk.proofs.tests.shared.edit_at.Goals as goal
+use Rattle.uses_rules.proofs.desk.shared.edit_at.Goals as goal
 
 module _ (clock clock' : Clock) (seat seat' : DeskSeat) where
   lock_stays : (e : Option DeskEvent) → HasAnswered e clock clock' seat seat' → seat'.lock ≡ seat.lock
