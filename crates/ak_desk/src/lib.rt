@@ -18,8 +18,6 @@ mod replies;
 mod reserved;
 mod shared;
 mod task;
-#[cfg(test)]
-mod tests;
 
 pub use desk::Desk;
 pub use entry::{DeskEntry, DeskEvent, DeskLine, Edit, EditAnswer, EntryRoute};

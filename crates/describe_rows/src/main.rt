@@ -1,6 +1,7 @@
 //! Reads the rows of each `.rows` file beside it, in the order of their names. A row is the lines of a
 //! description, and then a line of `= ` and what is told of them: the applications, or the first line with a
-//! fault. Prints the file's name and how many of its rows are told so, and each row that is told otherwise.
+//! fault. Prints the file's name and how many of its rows are told so, and of each row that is told otherwise the
+//! number of its first line, what is told, and what it says.
 #![tactic(auto)]
 
 mod telling;
@@ -8,9 +9,9 @@ mod telling;
 use ak_base::{Bytes, NoMemory};
 use ak_describe::{AppText, DescribeFault, read_description};
 use ak_message::{InputLines, LinesFault, split_lines};
+use rows::{FileLine, Tally, file_lines, file_names, print_file, print_row};
 use std::alloc::Global;
 use std::io::ErrorKind;
-use std::rt::Files;
 use std::{fs, io};
 use telling::{tell_apps, tell_fault, tell_kind};
 
@@ -26,18 +27,6 @@ fn no_lines(fault: LinesFault) -> io::Error {
         LinesFault::TooLong { .. } => io::Error::from(ErrorKind::InvalidData),
         LinesFault::NoMemory => io::Error::from(ErrorKind::OutOfMemory),
     }
-}
-
-fn names(rt: &(impl Files + AllocGlobal + Clone + Drop)) -> io::Result<Vec<String>> {
-    let mut names = Vec::new(rt.alloc());
-    for entry in fs::read_dir(rt, ".")? {
-        let entry = entry?;
-        if entry.file_name().ends_with(".rows") {
-            names.push(String::from_str(rt.alloc(), entry.file_name())?)?;
-        }
-    }
-    names.sort()?;
-    Ok(names)
 }
 
 // What is described, or the first line with a fault, told.
@@ -72,46 +61,68 @@ fn without_end(bytes: &[u8]) -> &[u8] {
     }
 }
 
+// The lines of a row, and the number of the first of them, 0 where there are none.
+#[derive(Drop)]
+struct Row {
+    first: u64,
+    input: Bytes,
+}
+
+impl Row {
+    fn new(alloc: Global) -> Row {
+        Row {
+            first: 0,
+            input: Bytes::new(alloc),
+        }
+    }
+
+    fn begin_at(&mut self, line: u64) {
+        if self.first == 0 {
+            self.first = line;
+        }
+    }
+
+    fn take(&mut self, line: FileLine) -> Result<(), NoMemory> {
+        self.begin_at(line.number);
+        self.input.extend(line.text)?;
+        self.input.push(b'\n')
+    }
+}
+
 // Prints the row where it is told otherwise than by this answer, and says whether it is told so.
 fn check_row(
     rt: &(impl Print + AllocGlobal),
     name: &str,
-    input: &[u8],
+    row: &Row,
     answer: &[u8],
 ) -> io::Result<bool> {
-    let lines = split_lines(rt.alloc(), without_end(input)).map_err(no_lines)?;
+    let lines = split_lines(rt.alloc(), without_end(row.input.as_slice())).map_err(no_lines)?;
     let told = told(rt.alloc(), &lines).map_err(no_memory)?;
-    if told.as_slice() == without_end(answer) {
+    if told.as_slice() == answer {
         return Ok(true);
     }
-    match str::from_utf8(told.as_slice()) {
-        Ok(text) => println!(rt; "{name}: told otherwise: {text}")?,
-        Err(_) => println!(rt; "{name}: told otherwise, in no text")?,
-    }
+    print_row(rt, name, row.first, told.as_slice(), answer)?;
     Ok(false)
 }
 
 fn check_rows(rt: &(impl Print + AllocGlobal), name: &str, file: &[u8]) -> io::Result<()> {
-    let mut rows = 0u32;
-    let mut told = 0u32;
-    let mut input = Bytes::new(rt.alloc());
-    for line in file.split_inclusive(|byte| *byte == b'\n') {
-        match line.strip_prefix(ANSWER.as_slice()) {
+    let mut tally = Tally::new();
+    let mut row = Row::new(rt.alloc());
+    for line in &file_lines(rt.alloc(), file).map_err(no_memory)? {
+        match line.text.strip_prefix(ANSWER.as_slice()) {
             Some(answer) => {
-                rows = rows.saturating_add(1);
-                if check_row(rt, name, input.as_slice(), answer)? {
-                    told = told.saturating_add(1);
-                }
-                input = Bytes::new(rt.alloc());
+                row.begin_at(line.number);
+                tally.count(check_row(rt, name, &row, answer)?);
+                row = Row::new(rt.alloc());
             }
-            None => input.extend(line).map_err(no_memory)?,
+            None => row.take(*line).map_err(no_memory)?,
         }
     }
-    println!(rt; "{name}: {told} of {rows} rows are told as they say")
+    print_file(rt, name, tally)
 }
 
 fn main(rt: HostRuntime) -> io::Result<()> {
-    for name in &names(&rt)? {
+    for name in &file_names(&rt, ".rows")? {
         let file = fs::read(&rt, name.as_str())?;
         check_rows(&rt, name.as_str(), &file)?;
     }

@@ -1,9 +1,12 @@
 //! Tests of rules by public calls alone, of what no row of a program over data can say: states and plans
-//! that no description gives, and lists at their limits. Nothing here is for use.
+//! that no description gives, lists at their limits, want of memory at a desk, and threads that share one.
+//! Nothing here is for use.
 #![tactic(auto)]
 
 #[cfg(test)]
 mod actions;
+#[cfg(test)]
+mod desk;
 #[cfg(test)]
 mod lists;
 #[cfg(test)]

@@ -1,6 +1,0 @@
--- Each answer is used once.
-use Rattle.std.proofs.Common.{length}
-use Rattle.ak_desk.proofs.tests.driving.+answer_all.Given as goal
-
-abbrev pub decreases-answer_all : goal.decreases-answer_all
-decreases-answer_all l = length l.heard.now

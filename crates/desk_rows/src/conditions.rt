@@ -1,0 +1,216 @@
+//! What the calls of a desk ask of their caller, tested while a row is carried out.
+
+ghost use Rattle.std.specs.Prelude.{◌≡◌, ◌≢◌, ◌+◌, ◌-◌, ◌<◌, ◌≤◌, ◌^◌, ◌||◌, Some, length, AllPairs, IsTrue, IfOk, OnOk, slice_get};
+ghost use Rattle.ak_action.specs.Interp.{AnswersFind};
+ghost use Rattle.ak_action.specs.Opening.{FitsPlace, contains};
+ghost use Rattle.ak_desk.specs.Desk.{stamp_in, DeskAwaits, DeskMayWant, DeskTakes};
+ghost use Rattle.ak_desk.specs.Machine.{counted, dispatches, gave_up, gives_up};
+ghost use Rattle.ak_desk.specs.Task.{AnswersAsk, AnswersForward, AnswersPost};
+
+use crate::stop::Stop;
+use ak_action::{Answer, LooperPlan, Want};
+use ak_base::{NoMemory, Text};
+use ak_desk::{Desk, DeskEvent, EntryRoute};
+use ak_flatten::{flatten, unflatten};
+use ak_message::Message;
+use ak_turn::{Book, Clock};
+use std::alloc::Global;
+
+// ---- the opening
+/// Whether the plan is that of the looper at that place among these, of which the first one has that number.
+#[tactic(auto, using(crate::proofs::Fitting::fitting))]
+pub(crate) fn fits(plan: &LooperPlan, first: u32, at: usize, names: &[Text]) -> bool
+    ensures place { IsTrue result → FitsPlace plan.now (first + at) first names.now }
+    ensures at { IsTrue result → at < 8 }
+    ensures first { IsTrue result → first ≤ 32 }
+{
+    are_few(first, names) && is_named(plan, at, names) && differ(names) && plan.knows_loopers(names)
+}
+
+fn are_few(first: u32, names: &[Text]) -> bool
+    ensures some { IsTrue result → length names.now ≤ 8 }
+    ensures numbers { IsTrue result → first + length names.now ≤ 32 }
+{
+    names.len() <= 8 && first <= 32 && first as usize + names.len() <= 32
+}
+
+fn is_named(plan: &LooperPlan, at: usize, names: &[Text]) -> bool
+    ensures named { IsTrue result → slice_get names.now at ≡ Some plan.now.name }
+    ensures within { IsTrue result → at < length names.now }
+{
+    match names.get(at) {
+        Some(name) => is_same(name, &plan.parts().name),
+        None => false,
+    }
+}
+
+#[tactic(auto, using(crate::proofs::Fitting::sameness))]
+fn is_same(name: &Text, other: &Text) -> bool
+    ensures { IsTrue result → name.now ≡ other.now }
+{
+    name.as_bytes() == other.as_bytes()
+}
+
+fn differ(names: &[Text]) -> bool
+    ensures { IsTrue result → AllPairs (λ a b. a ≢ b) names.now }
+{
+    match names {
+        [] => true,
+        [name, rest @ ..] => !contains(rest, name.as_bytes()) && differ(rest),
+    }
+}
+
+fn contains(names: &[Text], name: &[u8]) -> bool
+    ensures { result ≡ contains names.now name.now }
+{
+    names.iter().any(|other| other.as_bytes() == name)
+}
+
+// ---- the list
+/// Whether there are stamps left.
+pub(crate) fn may_stamp(desk: &Desk, clock: &Clock) -> bool
+    ensures { IsTrue result → (clock.now.time < 2 ^ 63) × (stamp_in desk.now.lines < 2 ^ 63) }
+{
+    clock.time < 1 << 63 && desk.last_stamp() < 1 << 63
+}
+
+/// How many messages were dispatched, and whether one of them was given up.
+#[derive(Clone, Copy)]
+pub(crate) struct Counts {
+    pub dispatches: u64,
+    pub gave_up: bool,
+}
+
+/// Counts the entries of the list.
+#[tactic(auto, using(crate::proofs::Counting::counting))]
+pub(crate) fn counts_of(desk: &Desk) -> Result<Counts, NoMemory>
+    ensures dispatches { IfOk result (λ c. c.dispatches ≡ dispatches desk.now.lines) }
+    ensures gave_up { IfOk result (λ c. c.gave_up ≡ gave_up desk.now.lines) }
+{
+    let mut counts = Counts {
+        dispatches: 0,
+        gave_up: false,
+    };
+    for place in 0..desk.len() {
+        let Some(entry) = desk.entry(place)? else {
+            return Err(NoMemory);
+        };
+        counts = counted(counts, &entry.event);
+    }
+    Ok(counts)
+}
+
+// With one entry more.
+fn counted(counts: Counts, event: &DeskEvent) -> Counts
+    requires { counts.dispatches < 2 ^ 64 - 1 }
+    ensures dispatches { result.dispatches ≡ counted counts.dispatches event.now }
+    ensures gave_up { result.gave_up ≡ (counts.gave_up || gives_up event.now) }
+{
+    let gave_up = gives_up(event);
+    match event {
+        DeskEvent::Dispatched { .. } => Counts {
+            dispatches: counts.dispatches + 1,
+            gave_up: counts.gave_up || gave_up,
+        },
+        DeskEvent::Edited { .. } => Counts {
+            dispatches: counts.dispatches,
+            gave_up: counts.gave_up || gave_up,
+        },
+    }
+}
+
+fn gives_up(event: &DeskEvent) -> bool
+    ensures { result ≡ gives_up event.now }
+{
+    match event {
+        DeskEvent::Dispatched { route, .. } => matches!(route, EntryRoute::NoMemory),
+        DeskEvent::Edited { .. } => false,
+    }
+}
+
+// ---- answers
+fn finds(a: &Answer) -> bool
+    ensures { IsTrue result → AnswersFind a.now }
+{
+    matches!(a, Answer::Team { .. } | Answer::NoTeam | Answer::NoMemory)
+}
+
+fn posts(a: &Answer) -> bool
+    ensures { IsTrue result → AnswersPost a.now }
+{
+    match a {
+        Answer::Written(_)
+        | Answer::Full
+        | Answer::Closed
+        | Answer::Spent
+        | Answer::TooLong
+        | Answer::NoMemory => true,
+        _ => false,
+    }
+}
+
+// Of all but a reply.
+fn asks(a: &Answer) -> bool
+    ensures { IsTrue result → AnswersAsk a.now }
+{
+    match a {
+        Answer::Closed | Answer::Spent | Answer::TooLong | Answer::NoMemory => true,
+        _ => false,
+    }
+}
+
+fn forwards(a: &Answer) -> bool
+    ensures { IsTrue result → AnswersForward a.now }
+{
+    match a {
+        Answer::Written(_) | Answer::Closed | Answer::Spent | Answer::NoMemory => true,
+        _ => false,
+    }
+}
+
+// Whether it is an answer to what is wanted, and no reply.
+fn is_answer(desk: &Desk, want: &Want, a: &Answer) -> bool
+    requires { DeskAwaits want.now desk.now }
+    ensures { IsTrue result → DeskTakes desk.now a.now }
+{
+    match want {
+        Want::Find(_) => finds(a),
+        Want::Post { .. } => posts(a),
+        Want::Ask { .. } => asks(a),
+        Want::Forward { .. } => forwards(a),
+        Want::Done => false,
+    }
+}
+
+/// Hands over an answer that is no reply.
+pub(crate) fn hand(desk: &mut Desk, want: &Want, a: Answer) -> Result<(), Stop>
+    requires { DeskAwaits want.now desk.old }
+    ensures goes_on { OnOk result (DeskMayWant desk.new) }
+    ensures opening { desk.new.opening ≡ desk.old.opening }
+{
+    if !is_answer(desk, want, &a) {
+        return Err(Stop::NoAnswer);
+    }
+    desk.give(a);
+    Ok(())
+}
+
+/// Hands over a reply.
+pub(crate) fn hand_reply(
+    alloc: Global,
+    desk: &mut Desk,
+    want: &Want,
+    reply: &Message,
+) -> Result<(), Stop>
+    requires { DeskAwaits want.now desk.old }
+    ensures goes_on { OnOk result (DeskMayWant desk.new) }
+    ensures opening { desk.new.opening ≡ desk.old.opening }
+{
+    let Want::Ask { .. } = want else {
+        return Err(Stop::NoAnswer);
+    };
+    let flat = flatten(alloc, reply)?;
+    let message = unflatten(alloc, flat.as_slice())?;
+    desk.give(Answer::Reply { flat, message });
+    Ok(())
+}
