@@ -7,7 +7,7 @@ ghost use Rattle.ak_value.specs.Seen.{answer_of};
 ghost use Rattle.ak_value.specs.declared.fault.ElementFault.TheVariants as fault;
 
 use crate::compare::same;
-use Answer::{Fault, Nothing, Numbers};
+use Answer::{Fault, Nothing, Numbers, One};
 use Data::{Bare, Number, Words};
 use ElementFault::{BadIndex, BadScript, BadType, BadValue, ElementLimit, NameNotFound};
 use Form::{Direct, Id, Index, Name, Range, Reverse, ReverseRange};
@@ -19,7 +19,7 @@ use std::process::Abort;
 use std::test::Fail;
 
 // A form in plain data.
-#[derive(Clone, Copy, Debug)]
+#[derive(Clone, Copy)]
 enum Form {
     Direct,
     Index(i32),
@@ -31,7 +31,7 @@ enum Form {
 }
 
 // What a message brings as `data`.
-#[derive(Clone, Copy, Debug)]
+#[derive(Clone, Copy)]
 enum Data {
     Bare,
     Number(i32),
@@ -39,9 +39,10 @@ enum Data {
 }
 
 // What is answered.
-#[derive(Clone, Copy, Debug)]
-enum Answer<'a> {
-    Numbers(&'a [i32]),
+#[derive(Clone, Copy)]
+enum Answer {
+    Numbers(&'static [i32]),
+    One(i32),
     Nothing,
     Fault(ElementFault),
 }
@@ -68,9 +69,10 @@ fn are_numbers(values: &[Value], numbers: &[i32]) -> bool {
         )| matches!(value, Value::Int32(n) if *n == *number))
 }
 
-fn is_answer(given: &Result<Option<Items<Value>>, ElementFault>, answer: Answer<'_>) -> bool {
+fn is_answer(given: &Result<Option<Items<Value>>, ElementFault>, answer: Answer) -> bool {
     match (given, answer) {
         (Ok(Some(values)), Numbers(numbers)) => are_numbers(values.as_slice(), numbers),
+        (Ok(Some(values)), One(number)) => are_numbers(values.as_slice(), &[number]),
         (Ok(None), Nothing) => true,
         (Err(fault), Fault(expected)) => *fault == expected,
         _ => false,
@@ -84,7 +86,7 @@ fn answers(
     what: Code,
     form: Form,
     message: &Message,
-    answer: Answer<'_>,
+    answer: Answer,
 ) -> Result<bool, Fail> {
     let text = match form {
         Name(name) => name,
@@ -117,13 +119,13 @@ fn none_yet(alloc: Global) -> Result<Elements, Fail> {
 }
 
 // A command, its form, what its message brings, and what is answered.
-type Row<'a> = (Code, Form, Data, Answer<'a>);
+type Row = (Code, Form, Data, Answer);
 
 // The first row that is not answered so, where the commands are given in this order.
 fn first_wrong(
     alloc: Global,
     elements: &mut Elements,
-    rows: &[Row<'_>],
+    rows: &[Row],
 ) -> Result<Option<usize>, Fail> {
     for (place, (what, form, data, answer)) in rows.iter().enumerate() {
         let message = message(alloc, *data)?;
@@ -138,7 +140,7 @@ fn first_wrong(
 fn first_wrong_form(
     alloc: Global,
     elements: &mut Elements,
-    rows: &[(Form, Answer<'_>)],
+    rows: &[(Form, Answer)],
 ) -> Result<Option<usize>, Fail> {
     let message = message(alloc, Bare)?;
     for (place, (form, answer)) in rows.iter().enumerate() {
@@ -160,10 +162,10 @@ fn is_first(
     (name, id, number): Seen,
 ) -> Result<bool, Fail> {
     let rows = [
-        (Code::GET, Index(0), Bare, Numbers(&[number])),
+        (Code::GET, Index(0), Bare, One(number)),
         (Code::SET, Index(0), Number(-1), Nothing),
-        (Code::GET, Name(name), Bare, Numbers(&[-1])),
-        (Code::GET, Id(id), Bare, Numbers(&[-1])),
+        (Code::GET, Name(name), Bare, One(-1)),
+        (Code::GET, Id(id), Bare, One(-1)),
         (Code::DELETE, Index(0), Bare, Nothing),
     ];
     Ok(first_wrong(alloc, elements, &rows)?.is_none())
@@ -232,14 +234,14 @@ fn are_answered(
     alloc: Global,
     label: &str,
     elements: &mut Elements,
-    rows: &[Row<'_>],
+    rows: &[Row],
 ) -> Result<(), Fail> {
     same(rt, label, first_wrong(alloc, elements, rows)?, None);
     Ok(())
 }
 
 // The elements 10, 20 and 30 are found by these forms, or are not.
-fn are_found(rt: &impl Abort, alloc: Global, rows: &[(Form, Answer<'_>)]) -> Result<(), Fail> {
+fn are_found(rt: &impl Abort, alloc: Global, rows: &[(Form, Answer)]) -> Result<(), Fail> {
     let mut elements = three(alloc)?;
     let wrong = first_wrong_form(alloc, &mut elements, rows)?;
     same(rt, "rows", wrong, None);
@@ -254,7 +256,7 @@ fn is_created(
     form: Form,
     id: i32,
 ) -> Result<bool, Fail> {
-    answers(alloc, elements, Code::CREATE, form, message, Numbers(&[id]))
+    answers(alloc, elements, Code::CREATE, form, message, One(id))
 }
 
 fn first_number(elements: &Elements) -> Option<i32> {
@@ -334,7 +336,7 @@ fn choices_that_are_not_there(rt: HostRuntime) -> Result<(), Fail> {
 type Told = (Option<usize>, (Option<usize>, u32), Option<i32>);
 
 // Whether it is not answered so, which of the elements 10, 20 and 30 is another one then, and the next id.
-fn told_of_refused(alloc: Global, elements: &mut Elements, row: Row<'_>) -> Result<Told, Fail> {
+fn told_of_refused(alloc: Global, elements: &mut Elements, row: Row) -> Result<Told, Fail> {
     let wrong = first_wrong(alloc, elements, &[row])?;
     let rows = [("", 1, 10), ("b", 2, 20), ("", 3, 30)];
     Ok((
@@ -366,9 +368,9 @@ fn refusals_change_nothing(rt: HostRuntime) -> Result<(), Fail> {
         (Code::DELETE, Name("x"), Bare, Fault(NameNotFound)),
         (Code::DELETE, Range(1, 3), Bare, Fault(BadIndex)),
     ];
-    for row in rows {
+    for (place, row) in rows.into_iter().enumerate() {
         let told = told_of_refused(rt.alloc(), &mut elements, row)?;
-        same(&rt, row, told, (None, (None, 0), Some(4)));
+        same(&rt, place, told, (None, (None, 0), Some(4)));
     }
     Ok(())
 }

@@ -251,9 +251,10 @@ fn head(reply: &Message) -> (Code, u32, Option<i32>, u32) {
     )
 }
 
-fn has_fields(rt: &impl Abort, reply: &Message, fields: &[Field<'_>]) {
-    for (place, field) in fields.iter().enumerate() {
-        same(rt, place, field_at(reply, place as u32), Some(*field));
+// The fields at these places are so.
+fn has_fields(rt: &impl Abort, reply: &Message, fields: &[(u32, Field<'_>)]) {
+    for (place, field) in fields {
+        same(rt, *place, field_at(reply, *place), Some(*field));
     }
 }
 
@@ -288,7 +289,10 @@ fn without_rows_no_properties_are_told(rt: HostRuntime) -> Result<(), Fail> {
         head(&reply),
         (Code(0x5250_4C59), 0, Some(0), 2),
     );
-    let fields: [Field<'_>; 2] = [(b"suites", Kind::Text, 1), (b"error", Kind::Int32, 1)];
+    let fields: [(u32, Field<'_>); 2] = [
+        (0, (b"suites", Kind::Text, 1)),
+        (1, (b"error", Kind::Int32, 1)),
+    ];
     has_fields(&rt, &reply, &fields);
     are_letters(&rt, &reply, "suites", 1);
     Ok(())
@@ -303,10 +307,10 @@ fn suites_and_properties_are_told_in_order(rt: HostRuntime) -> Result<(), Fail> 
         head(&reply),
         (Code(0x5250_4C59), 0, Some(0), 3),
     );
-    let fields: [Field<'_>; 3] = [
-        (b"suites", Kind::Text, 19),
-        (b"properties", Kind::Text, 64),
-        (b"error", Kind::Int32, 1),
+    let fields: [(u32, Field<'_>); 3] = [
+        (0, (b"suites", Kind::Text, 19)),
+        (1, (b"properties", Kind::Text, 64)),
+        (2, (b"error", Kind::Int32, 1)),
     ];
     has_fields(&rt, &reply, &fields);
     are_letters(&rt, &reply, "suites", 19);

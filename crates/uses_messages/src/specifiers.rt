@@ -258,9 +258,8 @@ fn the_last_one_is_current(rt: HostRuntime) -> Result<(), Fail> {
     let mut message = Message::new(rt.alloc(), Code(1));
     same(&rt, "before", popped(&mut message), NONE_LEFT);
     add_indexes(rt.alloc(), &mut message)?;
-    for n in [2u32, 1, 0] {
-        let wanted = (n + 1, Some(n as i32), Ok(()));
-        same(&rt, n, index_popped(&mut message), wanted);
+    for (more, n) in [(3, 2), (2, 1), (1, 0)] {
+        same(&rt, n, index_popped(&mut message), (more, Some(n), Ok(())));
     }
     same(&rt, "after", popped(&mut message), NONE_LEFT);
     same(&rt, "popped", message.popped(), 3);
