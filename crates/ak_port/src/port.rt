@@ -23,12 +23,15 @@ pub const CAPACITY_LIMIT: u32 = 1000;
 /// The most items that a port accepts in all.
 pub const LIFE_LIMIT: u32 = 8192;
 
-/// A port, shared. (The Be Book, ports.)
+/// A port, shared: the book of one port behind a lock, at which each thread has a seat. (The Be Book, The
+/// Kernel Kit, Ports.)
 pub type Port = TurnLock<PortBook>;
 
-/// A new port, which holds so many items at a time and accepts so many in all, and the maker's seat, which is
-/// the head. It reserves the entries that shutting it and taking the rest need. Without memory no entry is
-/// made, and the clock stands.
+/// A new port for that taker, which holds `capacity` items at a time, 1 to 1,000, and accepts `life` in all, 1
+/// to 8,192. It comes with the maker's seat, which is the head. The making is its first entry, by the maker's
+/// clock. It reserves the entries that shutting it and taking the rest need, and room for as many pending items
+/// as it holds. `NoMemory` makes no entry, and the clock stands. (The Be Book, The Kernel Kit, Ports:
+/// create_port().)
 pub fn make(
     alloc: Global,
     capacity: u32,
@@ -79,9 +82,12 @@ fn try_write<R: Wait>(
     tried
 }
 
-/// Writes an item at the end of what is pending, and answers its position. A write that finds the port full
-/// and is to wait gives its turn back, and tries again once there is a new entry. It copies the flat text,
-/// which stays in the history, and reserves what taking the item needs.
+/// Writes an item at the end of what is pending, and answers its position, counted from 0. Refused, in this
+/// order, with `Closed`, `Spent`, and, where it is not to wait, `Full`; the item is given back as it was. Each
+/// of these is one entry. `NoMemory` gives the item back too, and makes none. It waits for its turn. A write
+/// that finds the port full and is to wait gives its turn back, and tries again once there is a new entry. It
+/// copies the flat text, which stays in the history, and reserves what taking the item needs. (The Be Book, The
+/// Kernel Kit, Ports: write_port().)
 pub fn write<R: Wait>(
     port: &Port,
     rt: &R,
@@ -142,8 +148,11 @@ fn try_take<R: Wait>(
     tried
 }
 
-/// Takes the oldest pending items, no more than `most`, with their positions; where nothing is pending it
-/// waits. Once the port is shut it takes all that is left, which is the last that is taken. Takes no memory.
+/// Takes the oldest pending items, as many as there are but no more than `most`, with their positions, to the
+/// end of `out`. Where nothing is pending it waits. Once the port is shut it takes all that is left, maybe
+/// nothing, which is the last that is taken. The thread is the port's taker and has not taken the rest; `out`
+/// has room for the port's capacity. The take is one entry. Takes no memory. (The Be Book, The Kernel Kit,
+/// Ports: read_port().)
 pub fn take<R: Wait>(
     port: &Port,
     rt: &R,
@@ -200,8 +209,9 @@ fn try_close<R: Wait>(
     }
 }
 
-/// Shuts the port: nothing is written any more. `AlreadyShut`, without an entry, where it is shut. Takes no
-/// memory.
+/// Shuts the port: nothing is written any more, and what is pending stays to be taken. Any thread with a seat
+/// may shut it. That is one entry; `AlreadyShut`, without an entry, where it is shut. It waits for its turn.
+/// Takes no memory. (The Be Book, The Kernel Kit, Ports: close_port().)
 pub fn close<R: Wait>(
     port: &Port,
     rt: &R,

@@ -13,7 +13,8 @@ use std::alloc::Global;
 use std::collections::VecDeque;
 use std::marker::Model;
 
-/// A port, as its taker and the list of what was done to it. (The Be Book, ports.)
+/// A port, as its taker and the list of what was done to it, oldest first. (The Be Book, The Kernel Kit,
+/// Ports.)
 #[derive(Drop)]
 pub struct PortBook {
     taker: ThreadId,
@@ -205,7 +206,7 @@ impl PortBook {
         })
     }
 
-    /// The thread that takes. The list is the history of a port with that taker.
+    /// The thread that takes. The list is the history of a port with that taker. Takes no memory.
     pub fn taker(&self) -> ThreadId
         ensures value { result ≡ self.now.taker }
         ensures port { IsPortBook self.now }

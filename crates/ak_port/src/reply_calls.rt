@@ -10,7 +10,9 @@ use ak_base::{Bytes, NoMemory};
 use ak_turn::{Clock, Seat, TurnLock};
 use std::sync::Wait;
 
-/// Opens the next slot, and answers its number. It keeps the memory for all that may become of the slot.
+/// Opens the next slot, and answers its number, counted from 0. It waits for its turn, and makes one entry. It
+/// keeps the memory for all that may become of the slot; `NoMemory` makes no entry, and the clock stands. The
+/// thread may cancel the slot then, or wait for what it is filled with.
 pub fn open_ask<R: Wait>(
     book: &TurnLock<ReplyBook>,
     rt: &R,
@@ -92,8 +94,9 @@ fn fill_in<R: Wait>(
     unreachable!()
 }
 
-/// Waits until the slot is opened, and fills it with the flat text of the reply. `Duplicate` exactly where it is
-/// filled or cancelled then. Takes no memory.
+/// Fills the slot with those bytes, the flat text of the reply. It waits for its turn, and until the slot is
+/// opened. `Duplicate`, without an entry, exactly where it is filled or cancelled then; else one entry. Takes
+/// no memory.
 pub fn fill<R: Wait>(
     book: &TurnLock<ReplyBook>,
     rt: &R,
@@ -114,7 +117,7 @@ pub fn fill<R: Wait>(
     fill_in(book, rt, seat, clock, n, Some(flat))
 }
 
-/// The same with the flat text that stands for no reply. Takes no memory.
+/// The same with the flat text that stands for no reply, of `NONE` without fields. Takes no memory.
 pub fn fill_none<R: Wait>(
     book: &TurnLock<ReplyBook>,
     rt: &R,
@@ -133,7 +136,8 @@ pub fn fill_none<R: Wait>(
     fill_in(book, rt, seat, clock, n, None)
 }
 
-/// Cancels a slot of the thread's own. `Duplicate` exactly where it is filled. Takes no memory.
+/// Cancels a slot that the thread opened and did not cancel. It waits for its turn. `Duplicate`, without an
+/// entry, exactly where the slot was filled; else one entry. Takes no memory.
 pub fn cancel<R: Wait>(
     book: &TurnLock<ReplyBook>,
     rt: &R,
@@ -185,7 +189,8 @@ fn try_take<R: Wait>(
     result
 }
 
-/// Waits until a slot of the thread's own is filled, and takes the reply's flat text. Takes no memory.
+/// Waits until a slot is filled that the thread opened and neither cancelled nor took, and takes the reply's
+/// flat text. The bytes are those that the slot was filled with. The taking is one entry. Takes no memory.
 pub fn wait_for<R: Wait>(
     book: &TurnLock<ReplyBook>,
     rt: &R,
