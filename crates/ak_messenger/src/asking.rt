@@ -21,11 +21,14 @@ use ak_turn::{Clock, Seat};
 use std::alloc::Global;
 use std::sync::Wait;
 
-/// The reply to an ask: the slot that it came by, its flat text, and the message which that spells.
+/// The reply to an ask.
 #[derive(Drop)]
 pub struct Reply {
+    /// The slot that it came by, counted from 0.
     pub slot: u64,
+    /// Its flat text, as the slot was filled with it.
     pub flat: Bytes,
+    /// The message which the flat text spells.
     pub message: Message,
 }
 
@@ -156,8 +159,13 @@ fn ask_by<R: Wait>(
     converse(alloc, h, rt, port, seat, item, slot)
 }
 
-/// Writes the message with its envelope to the port, waits for the reply, and answers it. Where the port refuses
-/// the message, no reply is awaited. (The Be Book, BMessenger: a synchronous send.)
+/// Writes the message with its envelope to the port, waits for the reply, and answers it. It waits for its
+/// turns, for room at the port, and for the reply. `TooLong`, exactly where the flat text has over 4,096 bytes,
+/// comes before any step. Then a slot is opened, and the item written with the duty to fill it. Where the item
+/// is not written, for `BadPort`, `Spent` or want of memory, the slot is cancelled, unless it was filled by
+/// then. `WouldBlock` is not answered. After `NoMemory` the entries so far stay; the reply is lost where memory
+/// ran out for its message. The envelope has no address for a reply, and pops no more specifiers than there
+/// are. (The Be Book, The Application Kit, BMessenger: SendMessage(), with a reply that is waited for.)
 pub fn ask<R: Wait>(
     alloc: Global,
     h: &mut Hands,
