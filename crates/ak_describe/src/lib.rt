@@ -30,8 +30,12 @@ pub use first::{APP_LIMIT, APP_LOOPER_LIMIT};
 pub use laws::{described_or_faulty, descriptions_are_read, names_have_places};
 use std::alloc::Global;
 
-/// The applications that these lines describe, in order. The lines are those behind the input's first one,
-/// up to those that are no description; any other line is unknown here.
+/// The applications that these lines describe, in order, each with the plans of its loopers. The lines are
+/// those behind the input's first one, up to those that are no description; any other line is unknown here.
+/// Refused with the first fault. The first pass goes line by line, and tests of each, in this order,
+/// `UnknownLine`, `BadValue`, `NameInUse` and `Limit`. Where the last application has no looper then, it is
+/// `Unfinished`, at the number behind the last line. The second pass goes name by name, in the order of lines:
+/// `UnknownName`, `ChainLoop` or `AskOrder`. Answers `NoMemory` where memory ran out.
 #[tactic(auto, unfolding(crate::specs::Description::description))]
 pub fn read_description(alloc: Global, lines: &[Line]) -> Result<Vec<AppText>, DescribeFault>
     ensures answer { Answers apps_seen result (description lines.now) }

@@ -17,8 +17,8 @@ use std::snapshot::Snapshot;
 
 impl<D: Grant> RosterBook<D> {
     /// A part of the door of the looper with that number, for the clock's thread, which has none. So it is not
-    /// main, nor that looper, nor the first looper of its team, nor the keeper, and it did not get the door
-    /// before. The book is at rest. `None` where no such looper was started, tested first; then there is no
+    /// main, nor that looper, nor the first looper of its team, nor the keeper. It did not get the door before.
+    /// The book is at rest. `None` where no such looper was started, tested first; then there is no
     /// entry. The grant is one entry. `NoMemory` makes none, and nothing changes.
     pub fn grant(&mut self, looper: u32, clock: &mut Clock) -> Result<Option<D::Part>, NoMemory>
         requires rest { IsAtRest self.old }
