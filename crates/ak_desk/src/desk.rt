@@ -36,9 +36,9 @@ pub(crate) struct Begun {
 
 /// The handlers of one looper, and the list of all that was done on them, oldest first. While nothing is begun,
 /// the list leads from the opening to the handlers as they are. Messages are carried out by the looper's own
-/// thread, one at a time: `begin`, then `want` and `give` in turn, then `end`. Calls that are given a clock ask
-/// that its time and the last stamp are below 2^63, as they are at a turn once the clock is ready. (The Be
-/// Book, The Application Kit, BLooper.)
+/// thread, one at a time: `begin`, then `want` and `give` in turn, then `end`. A call that is given a clock
+/// asks that its time and the last stamp are below 2^63. So they are at a turn, once the clock is ready. (The
+/// Be Book, The Application Kit, BLooper.)
 #[derive(Drop)]
 pub struct Desk {
     pub(crate) state: DeskState,

@@ -15,9 +15,9 @@ use std::snapshot::Snapshot;
 
 /// The book of the roster: the described applications, the teams that run, and all that was done, oldest first.
 /// It keeps a door for each looper that was started. Contracts see the descriptions, the lines and the doors.
-/// It is at rest while it has a door of each of these. Calls that are given a clock ask that its time and the
-/// last stamp are below 2^63, as they are at a turn once the clock is ready. (The Be Book, The Application Kit,
-/// BRoster.)
+/// It is at rest while it has a door of each of these. A call that is given a clock asks that its time and the
+/// last stamp are below 2^63. So they are at a turn, once the clock is ready. (The Be Book, The Application
+/// Kit, BRoster.)
 #[derive(Drop)]
 pub struct RosterBook<D: Grant> {
     pub(crate) heads: Vec<AppHead>,
