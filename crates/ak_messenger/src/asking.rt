@@ -164,8 +164,9 @@ fn ask_by<R: Wait>(
 /// comes before any step. Then a slot is opened, and the item written with the duty to fill it. Where the item
 /// is not written, for `BadPort`, `Spent` or want of memory, the slot is cancelled, unless it was filled by
 /// then. `WouldBlock` is not answered. After `NoMemory` the entries so far stay; the reply is lost where memory
-/// ran out for its message. The envelope has no address for a reply, and pops no more specifiers than there
-/// are. (The Be Book, The Application Kit, BMessenger: SendMessage(), with a reply that is waited for.)
+/// ran out for its message. The seat is one at this port, without a turn, and of the thread of these hands. The
+/// envelope has no address for a reply, and pops no more specifiers than there are. (The Be Book, The
+/// Application Kit, BMessenger: SendMessage(), with a reply that is waited for.)
 pub fn ask<R: Wait>(
     alloc: Global,
     h: &mut Hands,

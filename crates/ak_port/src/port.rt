@@ -23,15 +23,16 @@ pub const CAPACITY_LIMIT: u32 = 1000;
 /// The most items that a port accepts in all.
 pub const LIFE_LIMIT: u32 = 8192;
 
-/// A port, shared: the book of one port behind a lock, at which each thread has a seat. (The Be Book, The
+/// A port, shared: the book of one port behind a lock, at which each thread has a seat. A call asks of the seat
+/// that it is one at this port, has no turn, and is of the clock's thread. The seat stays so. (The Be Book, The
 /// Kernel Kit, Ports.)
 pub type Port = TurnLock<PortBook>;
 
 /// A new port for that taker, which holds `capacity` items at a time, 1 to 1,000, and accepts `life` in all, 1
 /// to 8,192. It comes with the maker's seat, which is the head. The making is its first entry, by the maker's
 /// clock. It reserves the entries that shutting it and taking the rest need, and room for as many pending items
-/// as it holds. `NoMemory` makes no entry, and the clock stands. (The Be Book, The Kernel Kit, Ports:
-/// create_port().)
+/// as it holds. The clock's time is below 2^63. `NoMemory` makes no entry, and the clock stands. (The Be Book,
+/// The Kernel Kit, Ports: create_port().)
 pub fn make(
     alloc: Global,
     capacity: u32,

@@ -14,8 +14,9 @@ use std::alloc::Global;
 use std::marker::Model;
 use std::mem;
 
-/// The slots that waiting senders open for replies, as the list of what was done to them, oldest first. (The Be
-/// Book, The Application Kit, BMessenger: a synchronous SendMessage() waits for its reply.)
+/// The slots that waiting senders open for replies, as the list of what was done to them, oldest first. A call
+/// at a shared book asks of the seat that it is one there, has no turn, and is of the clock's thread. The seat
+/// stays so. (The Be Book, The Application Kit, BMessenger: a synchronous SendMessage() waits for its reply.)
 #[derive(Drop)]
 pub struct ReplyBook {
     entries: Vec<Kept>,

@@ -85,7 +85,8 @@ impl<B: Book> TurnLock<B> {
     /// Waits for the seat's turn, and gives it the book. The seat is one of this lock, and has no turn. The
     /// book is at rest, and its list goes on from the seat's front by entries of other threads; the seat has
     /// seen them all. The entries by the seat's thread are just its own, and so of each seat that was joined to
-    /// it. It returns only where the last stamp is below 2^63. Takes no memory.
+    /// it. Of the head each entry is by one of its names. It returns only where the last stamp is below 2^63.
+    /// Takes no memory.
     // Part of its caller, as `finish` is: a turn that nobody waits for takes less time where the book is not moved about in memory.
     #[inline(always)]
     pub fn lock<'a, R: Wait>(&'a self, rt: &R, seat: &mut Seat<B>) -> Turn<'a, B>
