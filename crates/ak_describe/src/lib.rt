@@ -1,7 +1,7 @@
 //! Reads the lines that describe applications. `read_description` answers each application with the plans of
-//! its loopers, or the first line with a fault, and of its faults the first kind: what may not stand there, a
-//! value that is none, a name given again, a limit. Where no line has one of these, names are looked up: each
-//! has to be there, handlers lead back to none, and an ask goes to what is described later.
+//! its loopers, or the first line with a fault, and the first of its faults. A fault is what may not stand
+//! there, a value that is none, a name given again, or a limit. Where no line has one of these, names are
+//! looked up. Each has to be there, handlers lead back to none, and an ask goes to what is described later.
 //! Nothing here waits, and nothing is shared.
 #![tactic(auto)]
 

@@ -1,7 +1,6 @@
 use ak_message::Message;
 
-/// What a dispatched message came to: the reply, unless the message was sent on to another looper; whether
-/// the looper is to end; and whether memory ran out.
+/// What a dispatched message came to.
 #[derive(Drop)]
 pub struct Made {
     /// The reply to send; none exactly where the message was sent on. One whose flat text had over 4,096 bytes

@@ -175,7 +175,7 @@ fn run_input<K: Sink>(alloc: Global, input: &[u8], sink: &mut K) -> KitEnd
     }
 }
 
-/// The program: reads the source to its end, runs the script that the input is the text of, and writes
+/// The program: reads the source to its end, and runs the script that the input is the text of. It writes
 /// to the sink what comes of each statement, and a closing line where it ends otherwise. Waits for nobody.
 /// `words` are those behind the program's name. Usage, with nothing read, exactly where they are not `run`.
 /// ReadFault and WriteFault come only where the source's or the sink's count of faults rose. Refused is an

@@ -1,8 +1,8 @@
 //! What loopers and senders share. A port holds messages for one taker, in the order in which they were
-//! written, until they are taken: what was accepted is what was taken, then what is pending. A reply book has
-//! the slots that waiting senders open: each is filled or cancelled at most once, and its opener alone takes
-//! what it was filled with. Each call is one entry of the object's one history, or none, and its answer is the
-//! one that the object's machine gives at the entry's place. Calls may wait; that a wait ends is not promised.
+//! written, until they are taken. What was accepted is what was taken, then what is pending. A reply book has
+//! the slots that waiting senders open. Each is filled or cancelled at most once, and its opener alone takes
+//! what it was filled with. Each call is one entry of the object's one history, or none. Its answer is the one
+//! that the object's machine gives at the entry's place. Calls may wait; that a wait ends is not promised.
 #![tactic(auto)]
 
 mod port;

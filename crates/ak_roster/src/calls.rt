@@ -20,10 +20,10 @@ use ak_turn::{Book, Clock};
 
 impl<D: Grant> RosterBook<D> {
     /// What a launch of the first description that fits the word comes to. `NotFound` where none fits, as none
-    /// fits a team's number; `AlreadyRunning` where its mode is single and a team of its path runs, or
-    /// exclusive and one of its signature, with the least such team; `Limit` where 16 teams were started, or
-    /// there would be more than 32 loopers. Each of these is an entry. Where it starts there is none: `launch`
-    /// makes it. `NoMemory` makes none either, and nothing changes.
+    /// fits a team's number. `AlreadyRunning`, with the least such team, where its mode is single and a team of
+    /// its path runs, or exclusive and one of its signature. `Limit` where 16 teams were started, or there
+    /// would be more than 32 loopers. They are tested in this order, and each is an entry. Where it starts
+    /// there is none: `launch` makes it. `NoMemory` makes none either, and nothing changes.
     pub fn decide(&mut self, word: &AppWord, clock: &mut Clock) -> Decision
         requires time { clock.old.time < 2 ^ 63 }
         requires stamp { last_stamp self.old.lines < 2 ^ 63 }

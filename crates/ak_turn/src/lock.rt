@@ -18,8 +18,8 @@ use std::snapshot::Snapshot;
 use std::sync::atomic::AtomicU64;
 use std::sync::{Arc, Wait};
 
-/// The lock of one object. Threads take turns, in the order of the tickets that they draw; a thread that asks while
-/// others have tickets may first sleep a few times. The thread whose turn it is has the object's book.
+/// The lock of one object. Threads take turns, in the order of the tickets that they draw. A thread that asks
+/// while others have tickets may first sleep a few times. The thread whose turn it is has the object's book.
 #[derive(Drop)]
 pub struct TurnLock<B: Book> {
     pub(crate) board: Board<B>,
