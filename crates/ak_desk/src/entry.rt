@@ -61,8 +61,8 @@ pub enum EditAnswer {
 /// What happened at a desk.
 #[derive(Debug, Drop)]
 pub enum DeskEvent {
-    /// The message at that position of the port was dispatched: where it went, the words of its answers, and
-    /// whether the looper is to end.
+    /// The message at that position of the port was dispatched: where it went, its answer words, and whether
+    /// the looper is to end.
     Dispatched {
         /// How many messages were dispatched before it, from 0 on.
         position: u64,
