@@ -4,11 +4,11 @@ use ak_base::Text;
 /// BApplication.)
 #[derive(Clone, Copy, Debug, PartialEq, Eq)]
 pub enum Mode {
-    /// One team of its path: it does not start while one runs.
+    /// It does not start while a team of its path runs.
     Single,
-    /// Any number.
+    /// It may run any number of times.
     Multiple,
-    /// One team of its signature: it does not start while one runs, whatever that one's mode.
+    /// It does not start while a team of its signature runs, whatever that one's mode.
     Exclusive,
 }
 
