@@ -13,7 +13,7 @@ pub fn left(m: &Message) -> u32
 }
 
 /// Pops the current specifier: the one added before it becomes current. `BadScript` where none is left.
-/// An `Err` changes nothing. Takes no memory.
+/// An `Err` changes nothing. Takes no memory. (BMessage: PopSpecifier().)
 pub fn pop(m: &mut Message) -> Result<(), BadScript>
     ensures bad_script { IsErr result ↔ (left_of m.old ≡ 0) }
     ensures ok { OnOk result (m.new ≡ popped_once m.old) }
