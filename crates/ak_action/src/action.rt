@@ -23,7 +23,8 @@ pub enum Dest {
     App(AppWord),
 }
 
-/// One thing that a handler does on a message. What comes of it is its answer word.
+/// One thing that a handler does on a message. What comes of it is its answer word: `B_NO_MEMORY` where it
+/// finds no memory, and then no further action is carried out.
 #[derive(Drop)]
 pub enum Action {
     /// The message is the reply, unless there is one already: that one stays, and the word is
@@ -31,15 +32,15 @@ pub enum Action {
     Reply {
         message: Template,
     },
-    /// Sends a message and waits for nothing; `back` asks for an answer to this handler. It has one word, and
-    /// one more in front of it where an application is looked for.
+    /// Sends a message and waits for nothing; `back` asks for an answer to this handler. Where an application
+    /// was looked for, whether it was found is a word before that of the sending.
     Post {
         to: Dest,
         message: Template,
         back: bool,
     },
     /// Sends a message and waits for its reply. Where the reply has `result` of that property's kind, the
-    /// property's first element gets its first value. It has words as a post has.
+    /// property's first element gets its first value. Its words are as those of a post.
     Ask {
         to: Dest,
         message: Template,

@@ -38,7 +38,7 @@ pub enum Answer {
     NoTeam,
     /// Written to the port, at that position, counted from 0.
     Written(u64),
-    /// The port holds as many as it may, and nobody waits.
+    /// The port holds as many as it may, and the sender does not wait.
     Full,
     /// The port is shut.
     Closed,

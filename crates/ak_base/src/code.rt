@@ -21,7 +21,8 @@ impl Code {
     pub const CREATE: Code = Code(0x5043_5254);
     /// `'PDEL'`: the command delete. (BeOS: B_DELETE_PROPERTY.)
     pub const DELETE: Code = Code(0x5044_454C);
-    /// `'PEXE'`: execute, which is named alone: it is no command on properties. (BeOS: B_EXECUTE_PROPERTY.)
+    /// `'PEXE'`: execute, which has a name and no more: it is no command on properties. (BeOS:
+    /// B_EXECUTE_PROPERTY.)
     pub const EXECUTE: Code = Code(0x5045_5845);
     /// `'SUIT'`: asks a handler for its suites. (BeOS: B_GET_SUPPORTED_SUITES.)
     pub const SUITES: Code = Code(0x5355_4954);

@@ -18,7 +18,7 @@ pub enum KitError {
     BadIndex,
     /// `B_BAD_PORT_ID`: the port is shut.
     BadPortId,
-    /// `B_WOULD_BLOCK`: the port is full, and nobody waits.
+    /// `B_WOULD_BLOCK`: the port is full, and the sender does not wait.
     WouldBlock,
     /// `B_BAD_VALUE`: a value is missing, or two numbers have no sum.
     BadValue,

@@ -47,8 +47,8 @@ impl Message {
     }
 
     /// Removes the value at that index of the field of that name, and with the last value the field. The
-    /// faults are tested in the order of `RemoveFault`. An `Err` changes nothing. No more specifiers are
-    /// popped than are left. Takes no memory. (BMessage: RemoveData().)
+    /// faults are tested in the order of `RemoveFault`. An `Err` changes nothing. Where fewer specifiers stay
+    /// than were popped, as many are popped as there are. Takes no memory. (BMessage: RemoveData().)
     pub fn remove_data(&mut self, name: &[u8], index: u32) -> Result<(), RemoveFault>
         ensures refused { IfSome (remove_fault self.old.fields name.now index) (λ f. result ≡ Err f) }
         ensures only { IfNone (remove_fault self.old.fields name.now index) (IsOk result) }
@@ -77,8 +77,9 @@ impl Message {
         }
     }
 
-    /// Removes the field of that name. An `Err` changes nothing. No more specifiers are popped than are left.
-    /// It is refused with `NameNotFound` alone. Takes no memory. (BMessage: RemoveName().)
+    /// Removes the field of that name. It is refused with `NameNotFound` alone. An `Err` changes nothing.
+    /// Where specifiers were popped with it none is popped any more. Takes no memory. (BMessage:
+    /// RemoveName().)
     #[tactic(auto, using(crate::proofs::Changing::removals))]
     pub fn remove_name(&mut self, name: &[u8]) -> Result<(), RemoveFault>
         ensures refused { IfSome (name_fault self.old.fields name.now) (λ f. result ≡ Err f) }
