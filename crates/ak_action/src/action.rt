@@ -30,33 +30,44 @@ pub enum Action {
     /// The message is the reply, unless there is one already: that one stays, and the word is
     /// `B_DUPLICATE_REPLY`.
     Reply {
+        /// What it is made of.
         message: Template,
     },
     /// Sends a message and waits for nothing; `back` asks for an answer to this handler. Where an application
     /// was looked for, whether it was found is a word before that of the sending.
     Post {
+        /// Where it goes.
         to: Dest,
+        /// What the message is made of.
         message: Template,
+        /// Whether an answer is asked for.
         back: bool,
     },
     /// Sends a message and waits for its reply. Where the reply has `result` of that property's kind, the
     /// property's first element gets its first value. Its words are as those of a post.
     Ask {
+        /// Where it goes.
         to: Dest,
+        /// What the message is made of.
         message: Template,
+        /// The name of the property that gets the result, if one does.
         into: Option<Text>,
     },
     /// Gives the first element of the property that value, the first of several. The word is `B_OK`, or the
     /// first of these: `B_NAME_NOT_FOUND` where the value is not there, `B_BAD_TYPE`, `B_BAD_INDEX` where the
     /// element is not there.
     Set {
+        /// Its name.
         property: Text,
+        /// What it gets.
         value: Given,
     },
     /// Adds that number to the first element of the property. The word is `B_OK`, `B_BAD_INDEX` where there
     /// is no element, or `B_BAD_VALUE` where the two have no sum.
     Add {
+        /// Its name.
         property: Text,
+        /// What is added.
         amount: Number,
     },
     /// No further action is carried out. The word is `B_OK`.

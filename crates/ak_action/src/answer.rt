@@ -6,21 +6,28 @@ use ak_message::{Address, Message};
 pub enum Want {
     /// To know the running application that the word names.
     Find(AppWord),
-    /// A message sent without waiting; `back` is where an answer is to go.
+    /// A message sent without waiting.
     Post {
+        /// Where it goes.
         to: Address,
+        /// The message, made.
         message: Message,
+        /// Where an answer is to go, if one is asked for.
         back: Option<Address>,
     },
     /// A message sent, and its reply.
     Ask {
+        /// Where it goes.
         to: Address,
+        /// The message, made.
         message: Message,
     },
     /// The message that is handled, sent on to that looper with so many of its specifiers popped. No reaction
     /// wants this.
     Forward {
+        /// The looper's number in the run.
         looper: u32,
+        /// How many of its specifiers are popped, counted from the last.
         popped: u32,
     },
     /// Nothing more.

@@ -3,8 +3,8 @@ ghost use Rattle.ak_filter.specs.Filter.{admits, fits_what, fits_source, fits_de
 
 use ak_base::{Code, NoMemory, Text};
 
-/// Where a message has to come from: of a sender in the looper's own team, or of one in another.
-/// (BMessageFilter: message_source.)
+/// Where a message has to come from: of a sender in the looper's own team, or of one in another. (The Be
+/// Book, The Application Kit, BMessageFilter: message_source.)
 #[derive(Clone, Copy, Debug, PartialEq, Eq)]
 pub enum SourceIs {
     /// From anywhere.
@@ -15,8 +15,8 @@ pub enum SourceIs {
     Remote,
 }
 
-/// How a message has to be delivered: dropped by a user, or sent by a program. (BMessageFilter:
-/// message_delivery.)
+/// How a message has to be delivered: dropped by a user, or sent by a program. (The Be Book, The Application
+/// Kit, BMessageFilter: message_delivery.)
 #[derive(Clone, Copy, Debug, PartialEq, Eq)]
 pub enum DeliveryIs {
     /// In any way.

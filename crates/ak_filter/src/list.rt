@@ -58,7 +58,7 @@ impl FilterList {
     }
 
     /// Adds a filter at the end. `FilterLimit` at 32 filters. An `Err` changes nothing, and the filter is
-    /// dropped. `NoMemory` where memory ran out. (BHandler: AddFilter().)
+    /// dropped. `NoMemory` where memory ran out. (The Be Book, The Application Kit, BHandler: AddFilter().)
     pub fn push(&mut self, f: Filter) -> Result<(), FilterFault>
         ensures limit { FILTER_LIMIT ≡ 32 }
         ensures filter_limit { IsErrOf result FilterFault.FilterLimit ↔ (length self.old ≡ 32) }

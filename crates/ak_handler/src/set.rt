@@ -83,7 +83,8 @@ impl<R: Drop> HandlerSet<R> {
         })
     }
 
-    /// How many handlers there are, the looper counted: 1 to 64. Takes no memory. (BLooper: CountHandlers().)
+    /// How many handlers there are, the looper counted: 1 to 64. Takes no memory. (The Be Book, The
+    /// Application Kit, BLooper: CountHandlers().)
     pub fn len(&self) -> u32
         ensures value { result ≡ length self.now.list }
         ensures is_handlers { IsHandlers self.now }
@@ -91,7 +92,8 @@ impl<R: Drop> HandlerSet<R> {
         self.rows.len() as u32
     }
 
-    /// The token of the preferred handler, if one is. Takes no memory. (BLooper: PreferredHandler().)
+    /// The token of the preferred handler, if one is. Takes no memory. (The Be Book, The Application Kit,
+    /// BLooper: PreferredHandler().)
     pub fn preferred(&self) -> Option<u64>
         ensures { result ≡ self.now.preferred }
     {
@@ -125,8 +127,8 @@ impl<R: Drop> HandlerSet<R> {
         self.rows.content_mut(place)
     }
 
-    /// The name of the handler with that token. `None` where there is none. Takes no memory. (BHandler:
-    /// Name().)
+    /// The name of the handler with that token. `None` where there is none. Takes no memory. (The Be Book,
+    /// The Application Kit, BHandler: Name().)
     pub fn name_of(&self, token: u64) -> Option<&Text>
         ensures { option_map (λ x. x.now) result ≡ option_map (λ h. h.name) (handler_of self.now.list token) }
     {
@@ -142,7 +144,7 @@ impl<R: Drop> HandlerSet<R> {
     }
 
     /// The token of the handler at that place, the looper at 0. `None` past the last one. Takes no memory.
-    /// (BLooper: HandlerAt().)
+    /// (The Be Book, The Application Kit, BLooper: HandlerAt().)
     pub fn at(&self, index: u32) -> Option<u64>
         ensures { result ≡ token_at self.now.list index }
     {
@@ -151,7 +153,7 @@ impl<R: Drop> HandlerSet<R> {
     }
 
     /// The place of the handler with that token, the looper at 0. `None` where there is none. Takes no
-    /// memory. (BLooper: IndexOf().)
+    /// memory. (The Be Book, The Application Kit, BLooper: IndexOf().)
     pub fn index_of(&self, token: u64) -> Option<u32>
         ensures { result ≡ place_of self.now.list token }
     {
@@ -159,8 +161,8 @@ impl<R: Drop> HandlerSet<R> {
         Some(place as u32)
     }
 
-    /// The token of the next handler of the one with that token. `None` where it has none, and where there
-    /// is no such handler. Takes no memory. (BHandler: NextHandler().)
+    /// The token of the next handler of the one with that token. `None` where it has none, and where there is
+    /// no such handler. Takes no memory. (The Be Book, The Application Kit, BHandler: NextHandler().)
     pub fn next_of(&self, token: u64) -> Option<u64>
         ensures { result ≡ next_in self.now.list token }
     {

@@ -204,7 +204,7 @@ impl Message {
         Ok(message)
     }
 
-    /// Its code. (BMessage: what.)
+    /// Its code. (The Be Book, The Application Kit, BMessage: what.)
     pub fn what(&self) -> Code
         ensures value { result.0 ≡ self.now.what }
         ensures is_message { IsMessage self.now }
@@ -243,7 +243,8 @@ impl Message {
         self.popped = n;
     }
 
-    /// Removes every field. Its code stays. Nothing is popped then. (BMessage: MakeEmpty().)
+    /// Removes every field. Its code stays. Nothing is popped then. (The Be Book, The Application Kit,
+    /// BMessage: MakeEmpty().)
     pub fn make_empty(&mut self)
         ensures { self.new ≡ record self.old { fields = []; popped = 0 } }
     {
@@ -254,7 +255,7 @@ impl Message {
 
     /// Adds the value at the end of the field of that name, or in a new field at the end. The faults are
     /// tested in the order of `AddFault`. An `Err` changes nothing, and the value is dropped. `NoMemory`
-    /// comes last. (BMessage: AddData().)
+    /// comes last. (The Be Book, The Application Kit, BMessage: AddData().)
     pub fn add(&mut self, name: &[u8], value: Value) -> Result<(), AddFault>
         ensures refused { IfSome (add_fault self.old.fields name.now (value_of value)) (λ f. result ≡ Err f) }
         ensures only { IfNone (add_fault self.old.fields name.now (value_of value)) (IsOkUnless result AddFault.NoMemory) }
@@ -304,7 +305,8 @@ impl Message {
     }
 
     /// The value at that place of the field of that name and kind. The faults are tested in the order of
-    /// `FindFault`. Takes no memory. Places count from 0. (BMessage: FindData().)
+    /// `FindFault`. Takes no memory. Places count from 0. (The Be Book, The Application Kit, BMessage:
+    /// FindData().)
     pub fn find(&self, name: &[u8], kind: Kind, index: u32) -> Result<&Value, FindFault>
         ensures { Finds result (found_in self.now.fields name.now kind index) }
     {
@@ -329,7 +331,8 @@ impl Message {
         field.values.first()
     }
 
-    /// How many names it has, so how many fields: at most 64. (BMessage: CountNames().)
+    /// How many names it has, so how many fields: at most 64. (The Be Book, The Application Kit, BMessage:
+    /// CountNames().)
     pub fn count_names(&self) -> u32
         ensures { result ≡ length self.now.fields }
     {
@@ -337,7 +340,7 @@ impl Message {
     }
 
     /// Field `i`, in the order of adding. `None` past the last one. Fields count from 0. Takes no memory.
-    /// (BMessage: GetInfo().)
+    /// (The Be Book, The Application Kit, BMessage: GetInfo().)
     pub fn field_at(&self, i: u32) -> Option<FieldRef<'_>>
         ensures { option_map field_ref_of result ≡ slice_get self.now.fields i }
     {

@@ -91,7 +91,8 @@ impl PropertyTable {
     /// The place of the first row that fits, counted from 0. It has that name, and its forms are empty or
     /// hold `form`. Its commands are empty or hold `what`, or they are not asked, where `index` is not 0.
     /// `index` is the number of specifiers that are left, less one: while more than one is left, no command
-    /// is carried out. `None` where no row fits. Takes no memory. (BPropertyInfo: FindMatch().)
+    /// is carried out. `None` where no row fits. Takes no memory. (The Be Book, The Application Kit,
+    /// BPropertyInfo: FindMatch().)
     pub fn find_match(&self, what: Code, index: u32, form: u32, name: &Text) -> Option<usize>
         ensures value { result ≡ match_of self.now what.0 index form name.now }
         ensures within { IfSome result (λ place. place < 64) }

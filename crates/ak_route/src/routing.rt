@@ -19,7 +19,8 @@ use ak_property::HandlerRow;
 /// `common`. `local` says that its sender's team is the looper's, and `dropped` that a user dropped it.
 /// `first` is the target that it was sent to, and `place` tells where the looper stands. What led on its way
 /// is popped, and it has the code that the filters gave it; where a filter skips it, its code stays. There is
-/// no answer for want of memory, and no refusal. (BHandler: ResolveSpecifier().)
+/// no answer for want of memory, and no refusal. (The Be Book, The Application Kit, BHandler:
+/// ResolveSpecifier().)
 pub fn route<R: HandlerRow + Drop>(
     set: &HandlerSet<R>,
     common: &FilterList,
