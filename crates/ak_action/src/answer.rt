@@ -35,8 +35,8 @@ pub enum Want {
 }
 
 /// The answer to a want. `Find` is answered with `Team` or `NoTeam`. `Post` is answered with `Written`,
-/// `Full`, `Closed`, `Spent` or `TooLong`, and `Ask` with `Reply`, `Closed`, `Spent` or `TooLong`. Each may
-/// be answered with `NoMemory`.
+/// `Full`, `Closed`, `Spent` or `TooLong`, and `Ask` with `Reply`, `Closed`, `Spent` or `TooLong`. `Forward`
+/// is answered with `Written`, `Closed` or `Spent`. Each may be answered with `NoMemory`.
 #[derive(Drop)]
 pub enum Answer {
     /// The least running team that fits, and the number of its first looper.
