@@ -4,7 +4,7 @@ use crate::message::Value;
 /// A field as a reader sees it. It borrows from the message.
 #[derive(Clone, Copy)]
 pub struct FieldRef<'a> {
-    /// A word.
+    /// Its name, a word.
     pub name: &'a [u8],
     /// The one kind of the values.
     pub kind: Kind,
