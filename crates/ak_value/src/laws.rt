@@ -8,7 +8,7 @@ pub fn chosen_lie_within()
 {}
 
 /// The reverse forms choose what the forward forms choose on the reversed list, from 1 on. No form chooses by
-/// an index or a reverse index below zero.
+/// an index, a reverse index, a count or an id below zero.
 pub fn reverse_counts_from_the_end()
     ensures index { law.ReverseIsForward }
     ensures range { law.ReverseRangeIsForward }
