@@ -1,7 +1,7 @@
 ghost use Rattle.std.specs.Prelude.{◌≡◌, ◌++◌, ◌∷◌, [], Some, true};
 ghost use Rattle.std.specs.Borrow.{sem};
 ghost use Rattle.ak_turn.specs.Lines.{maker};
-ghost use Rattle.ak_turn.specs.Seats.{at_leisure, entered_by, IsNext};
+ghost use Rattle.ak_turn.specs.Seats.{at_leisure, entered_by, IsNext, KnowsWhole};
 
 use crate::book::Book;
 use crate::lock::TurnLock;
@@ -38,7 +38,7 @@ impl<'a, B: Book> Turn<'a, B> {
     }
 
     /// Gives the book back, with a new entry or as it was, and passes the turn on. The seat has then seen the
-    /// whole list. Takes no memory.
+    /// whole list, and knows of it what it knew at the turn. Takes no memory.
     #[inline(always)]
     pub fn finish(self, seat: &mut Seat<B>)
         requires of { seat.old.lock ≡ self.lock }
@@ -48,6 +48,7 @@ impl<'a, B: Book> Turn<'a, B> {
         requires list { IsNext (maker B.plain B.by) seat.old (B.lines self.book) }
         ensures same { B.lines self.entry.book ≡ seat.old.front → seat.new ≡ at_leisure seat.old }
         ensures entered { (line : B.Line) → B.lines self.entry.book ≡ seat.old.front ++ line ∷ [] → seat.new ≡ at_leisure (entered_by seat.old line) }
+        ensures known { KnowsWhole (maker B.plain B.by) seat.old → KnowsWhole (maker B.plain B.by) seat.new }
     {
         let Turn { lock, book } = self;
         let common = &lock.board.shared;
