@@ -2,9 +2,10 @@ ghost use Rattle.std.specs.Prelude.{◌≡◌, ◌≤◌, ◌<◌, ◌↔◌, �
 ghost use Rattle.ak_base.specs.declared.thread.ThreadId.{ThreadId};
 ghost use Rattle.ak_message.specs.Fields.{specifier_count};
 ghost use Rattle.ak_flatten.specs.Spelling.{spelling};
-ghost use Rattle.ak_port.specs.PortCalls.{CanTake, HasAnswered, IsAtPort};
+ghost use Rattle.ak_turn.specs.Seats.{KnowsWhole};
+ghost use Rattle.ak_port.specs.PortCalls.{by_number, CanTake, HasAnswered, IsAtPort};
 ghost use Rattle.ak_port.specs.SeatKept.{KeepsSeat};
-ghost use Rattle.ak_messenger.specs.Sends.{post_answer, post_event};
+ghost use Rattle.ak_messenger.specs.Sends.{post_answer, post_event, IfReached};
 
 use crate::envelope::Envelope;
 use crate::fault::SendFault;
@@ -29,7 +30,7 @@ fn posted(answer: WriteAnswer) -> Result<u64, SendFault>
 }
 
 /// Writes the message with its envelope to the port, and answers its position there. (The Be Book, BMessenger:
-/// an asynchronous send.)
+/// an asynchronous send.) Where it is not to wait it has its answer in its one turn at the port.
 pub fn post<R: Wait>(
     alloc: Global,
     h: &mut Hands,
@@ -49,6 +50,8 @@ pub fn post<R: Wait>(
     ensures unsent { IsErrOf result SendFault.TooLong → seat.new ≡ seat.old }
     ensures would_block { IsErrOf result SendFault.WouldBlock → how ≡ How.NoWait }
     ensures port { IsAtPort seat.old → IsAtPort seat.new }
+    ensures known { IfReached result (KnowsWhole by_number seat.new) }
+    ensures knows_still { KnowsWhole by_number seat.old → KnowsWhole by_number seat.new }
     ensures seat { KeepsSeat seat.old seat.new }
     ensures taking { (thread : ThreadId) (room : ℕ) → CanTake thread room seat.old → CanTake thread room seat.new }
     ensures book { h.new.book ≡ h.old.book }
