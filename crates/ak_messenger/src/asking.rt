@@ -4,10 +4,11 @@ ghost use Rattle.ak_message.specs.Fields.{specifier_count};
 ghost use Rattle.ak_flatten.specs.Item.{spelled};
 ghost use Rattle.ak_flatten.specs.Laws.{Spells};
 ghost use Rattle.ak_flatten.specs.Spelling.{spelling};
-ghost use Rattle.ak_port.specs.PortCalls.{CanTake, IsAtPort};
-ghost use Rattle.ak_port.specs.ReplySeats.{MayCancel, MayTake};
+ghost use Rattle.ak_turn.specs.Seats.{KnowsWhole};
+ghost use Rattle.ak_port.specs.PortCalls.{by_number, CanTake, IsAtPort};
+ghost use Rattle.ak_port.specs.ReplySeats.{maker_of, MayCancel, MayTake};
 ghost use Rattle.ak_port.specs.SeatKept.{KeepsSeat};
-ghost use Rattle.ak_messenger.specs.Sends.{item_in, write_fault};
+ghost use Rattle.ak_messenger.specs.Sends.{item_in, write_fault, IfReached};
 ghost use Rattle.ak_messenger.specs.Asks.{AskTells, BecameOf, HasClosed, IsReplied, IsWritten};
 
 use crate::envelope::Envelope;
@@ -58,6 +59,7 @@ fn write_once_free<R: Wait>(
     requires thread { seat.old.thread ≡ clock.old.thread.0 }
     ensures written { IsWritten item clock.old clock.new seat.old seat.new result }
     ensures port { IsAtPort seat.new }
+    ensures known { KnowsWhole by_number seat.new }
     ensures seat { KeepsSeat seat.old seat.new }
     ensures taking { (thread : ThreadId) (room : ℕ) → CanTake thread room seat.old → CanTake thread room seat.new }
     ensures clock { clock.new.thread ≡ clock.old.thread }
@@ -70,6 +72,7 @@ fn give_up<R: Wait>(h: &mut Hands, rt: &R, slot: u64, fault: SendFault) -> Resul
     requires { MayCancel h.old.book_seat.thread slot h.old.book_seat.front }
     ensures closed { HasClosed slot h.old.clock h.new.clock h.old.book_seat h.new.book_seat }
     ensures fault { result ≡ Err fault }
+    ensures book_known { KnowsWhole maker_of h.new.book_seat }
     ensures book { h.new.book ≡ h.old.book }
     ensures book_seat { KeepsSeat h.old.book_seat h.new.book_seat }
     ensures clock { h.new.clock.thread ≡ h.old.clock.thread }
@@ -84,6 +87,7 @@ fn await_reply<R: Wait>(alloc: Global, h: &mut Hands, rt: &R, slot: u64) -> Resu
     ensures replied { IsReplied slot h.old.clock h.new.clock h.old.book_seat h.new.book_seat result }
     ensures message { IfOk result (λ reply. reply.message ≡ spelled reply.flat) }
     ensures spells { IfOk result (λ reply. Spells reply.flat reply.message) }
+    ensures book_known { KnowsWhole maker_of h.new.book_seat }
     ensures book { h.new.book ≡ h.old.book }
     ensures book_seat { KeepsSeat h.old.book_seat h.new.book_seat }
     ensures clock { h.new.clock.thread ≡ h.old.clock.thread }
@@ -119,6 +123,8 @@ fn converse<R: Wait>(
     ensures message { IfOk result (λ reply. reply.message ≡ spelled reply.flat) }
     ensures spells { IfOk result (λ reply. Spells reply.flat reply.message) }
     ensures port { IsAtPort seat.new }
+    ensures known { KnowsWhole by_number seat.new }
+    ensures book_known { KnowsWhole maker_of h.new.book_seat }
     ensures seat { KeepsSeat seat.old seat.new }
     ensures taking { (thread : ThreadId) (room : ℕ) → CanTake thread room seat.old → CanTake thread room seat.new }
     ensures book { h.new.book ≡ h.old.book }
@@ -149,6 +155,9 @@ fn ask_by<R: Wait>(
     ensures message { IfOk result (λ reply. reply.message ≡ spelled reply.flat) }
     ensures spells { IfOk result (λ reply. Spells reply.flat reply.message) }
     ensures port { IsAtPort seat.old → IsAtPort seat.new }
+    ensures known { IfReached result (KnowsWhole by_number seat.new) }
+    ensures knows_still { KnowsWhole by_number seat.old → KnowsWhole by_number seat.new }
+    ensures book_known { KnowsWhole maker_of h.new.book_seat }
     ensures seat { KeepsSeat seat.old seat.new }
     ensures taking { (thread : ThreadId) (room : ℕ) → CanTake thread room seat.old → CanTake thread room seat.new }
     ensures book { h.new.book ≡ h.old.book }
@@ -186,6 +195,10 @@ pub fn ask<R: Wait>(
     ensures message { IfOk result (λ reply. reply.message ≡ spelled reply.flat) }
     ensures spells { IfOk result (λ reply. Spells reply.flat reply.message) }
     ensures port { IsAtPort seat.old → IsAtPort seat.new }
+    ensures known { IfReached result (KnowsWhole by_number seat.new) }
+    ensures knows_still { KnowsWhole by_number seat.old → KnowsWhole by_number seat.new }
+    ensures book_known { IfReached result (KnowsWhole maker_of h.new.book_seat) }
+    ensures book_knows_still { KnowsWhole maker_of h.old.book_seat → KnowsWhole maker_of h.new.book_seat }
     ensures seat { KeepsSeat seat.old seat.new }
     ensures taking { (thread : ThreadId) (room : ℕ) → CanTake thread room seat.old → CanTake thread room seat.new }
     ensures book { h.new.book ≡ h.old.book }

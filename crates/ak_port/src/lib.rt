@@ -15,8 +15,9 @@ mod reply_entry;
 mod reply_kept;
 mod reply_laws;
 mod reply_slot;
+mod taker_laws;
 
-pub use port::{CAPACITY_LIMIT, LIFE_LIMIT, Port, close, make, take, write};
+pub use port::{CAPACITY_LIMIT, LIFE_LIMIT, Port, close, make, take, write, write_at_turn};
 pub use port_book::PortBook;
 pub use port_entry::{CloseAnswer, How, PortEntry, PortEvent, TakeAnswer, WriteAnswer};
 pub use port_laws::{
@@ -27,3 +28,4 @@ pub use reply_book::ReplyBook;
 pub use reply_calls::{cancel, fill, fill_none, open_ask, wait_for};
 pub use reply_entry::{CancelAnswer, FillAnswer, ReplyEntry, ReplyEvent};
 pub use reply_laws::slots_are_settled_once;
+pub use taker_laws::{new_seats_can_take, nothing_comes_after_the_rest, takes_go_on};

@@ -1,7 +1,8 @@
 //! The calls on a shared reply book. Each may wait for its turn, and makes at most one entry.
 ghost use Rattle.std.specs.Prelude.{◌≡◌, ◌≤◌, false, length, None, Some, IfOk, IfErr, IfNone, IfSome, OnErr, IsSome, unwrap_or};
+ghost use Rattle.ak_turn.specs.Seats.{KnowsWhole};
 ghost use Rattle.ak_port.specs.Reply.{IsFlatText, FillsWith, none_text, open_stage, slots_after};
-ghost use Rattle.ak_port.specs.ReplySeats.{HasEnteredBook, HasLookedAtBook, HasFoundSettled, HasFoundFilled, IsItsSlot, MayCancel, MayTake};
+ghost use Rattle.ak_port.specs.ReplySeats.{maker_of, HasEnteredBook, HasLookedAtBook, HasFoundSettled, HasFoundFilled, IsItsSlot, MayCancel, MayTake};
 ghost use Rattle.ak_port.specs.SeatKept.{KeepsSeat};
 
 use crate::reply_book::ReplyBook;
@@ -24,6 +25,7 @@ pub fn open_ask<R: Wait>(
     requires thread { seat.old.thread ≡ clock.old.thread.0 }
     ensures seat { KeepsSeat seat.old seat.new }
     ensures clock { clock.new.thread ≡ clock.old.thread }
+    ensures known { KnowsWhole maker_of seat.new }
     ensures opened { IfOk result (λ n. HasEnteredBook clock.old clock.new (ReplyEvent.Opened n) seat.old seat.new) }
     ensures take { IfOk result (λ n. MayTake seat.new.thread n seat.new.front) }
     ensures cancel { IfOk result (λ n. MayCancel seat.new.thread n seat.new.front) }
@@ -52,6 +54,7 @@ fn try_fill<R: Wait>(
     requires text { IfSome flat IsFlatText }
     ensures seat { KeepsSeat seat.old seat.new }
     ensures clock { clock.new.thread ≡ clock.old.thread }
+    ensures known { KnowsWhole maker_of seat.new }
     ensures filled { result ≡ Ok FillAnswer.Filled → HasEnteredBook clock.old clock.new (ReplyEvent.Filled n (unwrap_or flat none_text)) seat.old seat.new }
     ensures duplicate { result ≡ Ok FillAnswer.Duplicate → HasFoundSettled n clock.old clock.new seat.old seat.new }
     ensures unopened { IfErr result (λ text. text ≡ flat) }
@@ -80,6 +83,7 @@ fn fill_in<R: Wait>(
     requires text { IfSome flat IsFlatText }
     ensures seat { KeepsSeat seat.old seat.new }
     ensures clock { clock.new.thread ≡ clock.old.thread }
+    ensures known { KnowsWhole maker_of seat.new }
     ensures filled { result ≡ FillAnswer.Filled → HasEnteredBook clock.old clock.new (ReplyEvent.Filled n (unwrap_or flat none_text)) seat.old seat.new }
     ensures duplicate { result ≡ FillAnswer.Duplicate → HasFoundSettled n clock.old clock.new seat.old seat.new }
 {
@@ -111,6 +115,7 @@ pub fn fill<R: Wait>(
     requires text { IsFlatText flat }
     ensures seat { KeepsSeat seat.old seat.new }
     ensures clock { clock.new.thread ≡ clock.old.thread }
+    ensures known { KnowsWhole maker_of seat.new }
     ensures filled { result ≡ FillAnswer.Filled → HasEnteredBook clock.old clock.new (ReplyEvent.Filled n flat) seat.old seat.new }
     ensures duplicate { result ≡ FillAnswer.Duplicate → HasFoundSettled n clock.old clock.new seat.old seat.new }
 {
@@ -130,6 +135,7 @@ pub fn fill_none<R: Wait>(
     requires thread { seat.old.thread ≡ clock.old.thread.0 }
     ensures seat { KeepsSeat seat.old seat.new }
     ensures clock { clock.new.thread ≡ clock.old.thread }
+    ensures known { KnowsWhole maker_of seat.new }
     ensures filled { result ≡ FillAnswer.Filled → HasEnteredBook clock.old clock.new (ReplyEvent.Filled n none_text) seat.old seat.new }
     ensures duplicate { result ≡ FillAnswer.Duplicate → HasFoundSettled n clock.old clock.new seat.old seat.new }
 {
@@ -151,6 +157,7 @@ pub fn cancel<R: Wait>(
     requires own { MayCancel seat.old.thread n seat.old.front }
     ensures seat { KeepsSeat seat.old seat.new }
     ensures clock { clock.new.thread ≡ clock.old.thread }
+    ensures known { KnowsWhole maker_of seat.new }
     ensures cancelled { result ≡ CancelAnswer.Cancelled → HasEnteredBook clock.old clock.new (ReplyEvent.Cancelled n) seat.old seat.new }
     ensures duplicate { result ≡ CancelAnswer.Duplicate → HasFoundFilled n clock.old clock.new seat.old seat.new }
 {
@@ -175,6 +182,7 @@ fn try_take<R: Wait>(
     requires own { MayTake seat.old.thread n seat.old.front }
     ensures seat { KeepsSeat seat.old seat.new }
     ensures clock { clock.new.thread ≡ clock.old.thread }
+    ensures known { KnowsWhole maker_of seat.new }
     ensures taken { IfSome result (λ _. HasEnteredBook clock.old clock.new (ReplyEvent.Taken n) seat.old seat.new) }
     ensures filled { IfSome result (λ flat. FillsWith n flat seat.new.front) }
     ensures text { IfSome result IsFlatText }
@@ -204,6 +212,7 @@ pub fn wait_for<R: Wait>(
     requires own { MayTake seat.old.thread n seat.old.front }
     ensures seat { KeepsSeat seat.old seat.new }
     ensures clock { clock.new.thread ≡ clock.old.thread }
+    ensures known { KnowsWhole maker_of seat.new }
     ensures taken { HasEnteredBook clock.old clock.new (ReplyEvent.Taken n) seat.old seat.new }
     ensures filled { FillsWith n result seat.new.front }
     ensures text { IsFlatText result }

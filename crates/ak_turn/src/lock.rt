@@ -1,4 +1,4 @@
-ghost use Rattle.std.specs.Prelude.{◌≡◌, ◌<◌, ◌^◌, All, None, Some, IfOk, false};
+ghost use Rattle.std.specs.Prelude.{◌≡◌, ◌≢◌, ◌<◌, ◌^◌, All, None, Some, IfOk, false};
 ghost use Rattle.std.specs.Arc.{arc_value};
 ghost use Rattle.ak_turn.specs.Lines.{last_stamp_of, maker, places};
 ghost use Rattle.ak_turn.specs.Seats.{IsGiven, KnowsWhole, first_seat, new_seat, titled_seat, joined_seat};
@@ -112,10 +112,12 @@ impl<B: Book> TurnLock<B> {
         Turn { lock: self, book }
     }
 
-    /// Waits while the object has just so many entries as `seen`, which a seat tells. No clause says what is
-    /// there then. Takes no memory.
-    pub fn wait_past<R: Wait>(&self, rt: &R, seen: u64) {
-        rest_for_entry(rt, &self.board.shared, &self.watchers, seen);
+    /// Waits while the object has just so many entries as `seen`, which a seat tells, and answers the other number that
+    /// it found. It looks without a seat, so no seat knows more after it. Takes no memory.
+    pub fn wait_past<R: Wait>(&self, rt: &R, seen: u64) -> u64
+        ensures { result ≢ seen }
+    {
+        rest_for_entry(rt, &self.board.shared, &self.watchers, seen)
     }
 
     /// A seat for a new thread. It has seen as much as the seat, and none of the entries is its own. The seat

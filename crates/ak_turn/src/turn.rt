@@ -1,7 +1,7 @@
 ghost use Rattle.std.specs.Prelude.{◌≡◌, ◌++◌, ◌∷◌, [], Some, true};
 ghost use Rattle.std.specs.Borrow.{sem};
 ghost use Rattle.ak_turn.specs.Lines.{maker};
-ghost use Rattle.ak_turn.specs.Seats.{at_leisure, entered_by, IsNext};
+ghost use Rattle.ak_turn.specs.Seats.{at_leisure, entered_by, IsNext, KnowsWhole};
 
 use crate::book::Book;
 use crate::lock::TurnLock;
@@ -39,7 +39,7 @@ impl<'a, B: Book> Turn<'a, B> {
 
     /// Gives the book back, with one new entry by the seat's thread or as it was, and passes the turn on. The
     /// seat is the one that has the turn; the book is at rest, with its opening. The seat has then seen the
-    /// whole list. Waits for nothing. Takes no memory.
+    /// whole list, and knows of it what it knew at the turn. Waits for nothing. Takes no memory.
     #[inline(always)]
     pub fn finish(self, seat: &mut Seat<B>)
         requires of { seat.old.lock ≡ self.lock }
@@ -49,6 +49,7 @@ impl<'a, B: Book> Turn<'a, B> {
         requires list { IsNext (maker B.plain B.by) seat.old (B.lines self.book) }
         ensures same { B.lines self.entry.book ≡ seat.old.front → seat.new ≡ at_leisure seat.old }
         ensures entered { (line : B.Line) → B.lines self.entry.book ≡ seat.old.front ++ line ∷ [] → seat.new ≡ at_leisure (entered_by seat.old line) }
+        ensures known { KnowsWhole (maker B.plain B.by) seat.old → KnowsWhole (maker B.plain B.by) seat.new }
     {
         let Turn { lock, book } = self;
         let common = &lock.board.shared;
