@@ -30,11 +30,12 @@ fn posted(answer: WriteAnswer) -> Result<u64, SendFault>
 }
 
 /// Writes the message with its envelope to the port, and answers its position there, counted from 0. It waits
-/// for its turn and, unless told not to, for room. `TooLong`, exactly where the flat text has over 4,096 bytes,
-/// comes before any step. `BadPort`, `Spent` and `WouldBlock` are the port's refusals, in this order, each with
-/// its entry there. `NoMemory` makes none. The seat is one at this port, without a turn, and of the thread of
-/// these hands. The envelope pops no more specifiers than there are. Where it has an address, the item has the
-/// duty to post a reply back. Where it is not to wait it has its answer in its one turn at the port. (The Be Book, The Application Kit, BMessenger: SendMessage().)
+/// for its turn and, unless told not to, for room. `TooLong`, exactly where the flat text has over 4,096
+/// bytes, comes before any step. `BadPort`, `Spent` and `WouldBlock` are the port's refusals, in this order,
+/// each with its entry there. `NoMemory` makes none. The seat is one at this port, without a turn, and of the
+/// thread of these hands. The envelope pops no more specifiers than there are. Where it has an address, the
+/// item has the duty to post a reply back. Where it is not to wait it has its answer in its one turn at the
+/// port. (The Be Book, The Application Kit, BMessenger: SendMessage().)
 pub fn post<R: Wait>(
     alloc: Global,
     h: &mut Hands,

@@ -230,9 +230,9 @@ fn try_take<R: Wait>(
 
 /// Takes the oldest pending items, as many as there are but no more than `most`, with their positions, to the
 /// end of `out`. Where nothing is pending it waits. Once the port is shut it takes all that is left, maybe
-/// nothing, which is the last that is taken: then all that the port ever accepted is taken. The thread is the port's taker and has not taken the rest; `out`
-/// has room for the port's capacity. The take is one entry. Takes no memory. (The Be Book, The Kernel Kit,
-/// Ports: read_port().)
+/// nothing, which is the last that is taken: then all that the port ever accepted is taken. The thread is the
+/// port's taker and has not taken the rest; `out` has room for the port's capacity. The take is one entry.
+/// Takes no memory. (The Be Book, The Kernel Kit, Ports: read_port().)
 pub fn take<R: Wait>(
     port: &Port,
     rt: &R,

@@ -112,8 +112,8 @@ impl<B: Book> TurnLock<B> {
         Turn { lock: self, book }
     }
 
-    /// Waits while the object has just so many entries as `seen`, which a seat tells, and answers the other number that
-    /// it found. It looks without a seat, so no seat knows more after it. Takes no memory.
+    /// Waits while the object has just so many entries as `seen`, which a seat tells, and answers the other
+    /// number that it found. It looks without a seat, so no seat knows more after it. Takes no memory.
     pub fn wait_past<R: Wait>(&self, rt: &R, seen: u64) -> u64
         ensures { result ≢ seen }
     {
