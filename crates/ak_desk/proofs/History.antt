@@ -19,6 +19,7 @@ use Rattle.ak_desk.specs.declared.entry.DeskEvent.{DeskEvent}
 use Rattle.ak_desk.specs.declared.entry.EntryRoute.{EntryRoute}
 use Rattle.ak_desk.specs.declared.task.Task.{Task}
 use Rattle.ak_desk.specs.declared.task.Task.TheVariants as task
+use Rattle.ak_desk.specs.Answering.{AnswersForward, AreAnswered}
 use Rattle.ak_desk.specs.Desk.{BegunData, ended_event, stamp_in, with_task}
 use Rattle.ak_desk.specs.DeskInside.{IsBegun}
 use Rattle.ak_desk.specs.Dispatch.{Dispatch, dispatch_of, entry_route}
@@ -26,8 +27,9 @@ use Rattle.ak_desk.specs.Laws.{ComesToDispatch}
 use Rattle.ak_desk.specs.Line.{LineData}
 use Rattle.ak_desk.specs.Machine.{DeskStep, DispatchStep, Dispatches, EventStep, IsBy, IsHistory, Replays, StampsRise, counted, counted_all, dispatches, gave_up, gives_up}
 use Rattle.ak_desk.specs.Place.{routed_of}
-use Rattle.ak_desk.specs.Task.{AnswersForward, Comes, IsDone, MayWant, TakesAnswer, came_to, heard_of, place_in, quits, task_of, wants, wants_none, want_of, words_of}
+use Rattle.ak_desk.specs.Task.{Comes, IsDone, MayWant, TakesAnswer, came_to, heard_of, place_in, quits, task_of, wants, wants_none, want_of, words_of}
 use Rattle.ak_desk.specs.Task as the
+use Rattle.ak_desk.proofs.InStep.{all_answered, first_may}
 
 -- ---- one line more
 pub counted_push : (n : ℕ) (lines : List LineData) (line : LineData) → counted_all n (lines ++ line ∷ []) ≡ counted (counted_all n lines) line.entry.event
@@ -176,12 +178,13 @@ module _ (opening : DeskState) (lines : List LineData) (b : BegunData) (s : Desk
       record { history = h.history; position = h.position; route = h.route; asked = h.asked; heard = h.heard ++ a ∷ []; comes = the.given h.asked h.heard b.task s a h.comes takes }
 
   -- ---- and ends
-  dispatches_so : (memory : Option ℕ) → dispatch_of b.before b.item h.heard memory ≡ came_to h.asked b.task s → Dispatches b.before b.item (words_of b.task) (quits b.task) s
-  dispatches_so memory e =
+  dispatches_so : (memory : Option ℕ) → IsDone b.task → dispatch_of b.before b.item h.heard memory ≡ came_to h.asked b.task s → Dispatches b.before b.item (words_of b.task) (quits b.task) s
+  dispatches_so memory done e =
       record {
         answers = h.heard;
         memory = memory;
         spelled = all_spelled h.asked h.heard b.task s h.comes;
+        answered = subst (λ (ws : List Want). AreAnswered ws h.heard) (sym (ap (λ (d : Dispatch). d.wants) e)) (all_answered b.before (task_of b.before.first (routed_of b.before b.item)) (first_may b.before.first (routed_of b.before b.item).message (routed_of b.before b.item).route) h.asked h.heard b.task s h.comes done);
         waits = ap (λ (d : Dispatch). d.waits) e;
         used = ap (λ (d : Dispatch). d.answers) e;
         words_are = ap (λ (d : Dispatch). d.words) e;
@@ -202,7 +205,7 @@ module _ (opening : DeskState) (lines : List LineData) (b : BegunData) (s : Desk
   pub ends_on : ComesToDispatch → IsDone b.task → (line : LineData) → line.entry.event ≡ ended_event b → line.item ≡ Some b.item → line.entry.by.0 ≡ 10000 + opening.looper → stamp_in lines < line.entry.stamp → IsHistory opening (lines ++ line ∷ []) s
   ends_on comes done line is item by lt =
       let whole = comes b.before b.item h.asked h.heard b.task s h.comes done in
-      let step = by_route (routed_of b.before b.item).route b.route h.route refl (dispatches_so whole.0 whole.1) in
+      let step = by_route (routed_of b.before b.item).route b.route h.route refl (dispatches_so whole.0 done whole.1) in
       history_push opening lines b.before line s h.history
       (record {
         by = subst (IsBy opening.looper line.entry.by.0) (sym is) by;
