@@ -2,7 +2,9 @@
 use Rattle.std.proofs.Common.{◌≡◌, ℕ, suc, ◌+◌, ◌-◌, ◌<◌, Bool, true, false, ◌||◌, List, [], ◌∷◌, ◌++◌, All, length, Option, None, Some, option_map, unwrap_or, slice_get, refl, sym, ap, subst, ◌∙◌, arith}
 use Rattle.std.proofs.lemmas.List.Elements.{All-nil, All-push}
 use Rattle.ak_flatten.specs.Item.{ItemData}
+use Rattle.ak_message.specs.Message.{MessageData}
 use Rattle.ak_action.specs.declared.answer.Answer.{Answer}
+use Rattle.ak_action.specs.declared.answer.AnswerWord.{AnswerWord}
 use Rattle.ak_action.specs.declared.answer.Want.{Want}
 use Rattle.ak_action.specs.declared.answer.Want.TheVariants as want
 use Rattle.ak_action.specs.declared.state.DeskState.{DeskState}
@@ -25,9 +27,9 @@ use Rattle.ak_desk.specs.DeskInside.{IsBegun}
 use Rattle.ak_desk.specs.Dispatch.{Dispatch, dispatch_of, entry_route}
 use Rattle.ak_desk.specs.Laws.{ComesToDispatch}
 use Rattle.ak_desk.specs.Line.{LineData}
-use Rattle.ak_desk.specs.Machine.{DeskStep, DispatchStep, Dispatches, EventStep, IsBy, IsHistory, Replays, StampsRise, counted, counted_all, dispatches, gave_up, gives_up}
+use Rattle.ak_desk.specs.Machine.{DeskStep, DispatchStep, Dispatches, EventStep, IsBy, IsHistory, Replays, Replies, StampsRise, counted, counted_all, dispatches, gave_up, gives_up}
 use Rattle.ak_desk.specs.Place.{routed_of}
-use Rattle.ak_desk.specs.Task.{Comes, IsDone, MayWant, TakesAnswer, came_to, heard_of, place_in, quits, task_of, wants, wants_none, want_of, words_of}
+use Rattle.ak_desk.specs.Task.{Comes, IsDone, MayWant, TakesAnswer, came_to, heard_of, place_in, quits, reply_of, task_of, wants, wants_none, want_of, words_of}
 use Rattle.ak_desk.specs.Task as the
 use Rattle.ak_desk.proofs.InStep.{all_answered, first_may}
 
@@ -155,6 +157,11 @@ module _ {before : DeskState} {first : Task} where
   all_spelled _ _ _ _ (the.found_none asked heard t s u v c may e) = all_spelled asked heard t s c
   all_spelled _ _ _ _ (the.given asked heard t s a c takes) = All-push IsSpelled heard a (all_spelled asked heard t s c) (spelled_taken t a takes)
 
+-- a dispatch, and its reply
+pub record Dispatched (s : DeskState) (item : ItemData) (words : List AnswerWord) (quit : Bool) (t : DeskState) (reply : Option MessageData) : Type 0 where
+  pub dispatch : Dispatches s item words quit t
+  pub replies : Replies s item words reply
+
 -- ---- what is begun goes on
 module _ (opening : DeskState) (lines : List LineData) (b : BegunData) (s : DeskState) (h : IsBegun opening lines b s) where
   pub wants_on : (w : Want) (u : Task) (v : DeskState) → MayWant b.task → want_of None b.task s ≡ wants w u v → IsBegun opening lines (with_task b u) v
@@ -191,6 +198,14 @@ module _ (opening : DeskState) (lines : List LineData) (b : BegunData) (s : Desk
         quit_is = ap (λ (d : Dispatch). d.quit) e;
         state_is = ap (λ (d : Dispatch). d.state) e;
       }
+
+  -- with the reply that goes with it
+  pub replies_so : ComesToDispatch → IsDone b.task → Dispatched b.before b.item (words_of b.task) (quits b.task) s (reply_of b.task)
+  unfolding dispatches_so
+  replies_so comes done =
+      let whole = comes b.before b.item h.asked h.heard b.task s h.comes done in
+      let d = dispatches_so whole.0 done whole.1 in
+      record { dispatch = d; replies = record { quit = quits b.task; leaves = s; dispatch = d; is = ap (λ (x : Dispatch). x.reply) whole.1 } }
 
   by_route : (r : Route) (er : EntryRoute) → er ≡ entry_route b.before r → r ≡ (routed_of b.before b.item).route → Dispatches b.before b.item (words_of b.task) (quits b.task) s → DispatchStep b.before er (Some b.item) (words_of b.task) (quits b.task) s
   by_route r er e is d = subst (λ (x : EntryRoute). DispatchStep b.before x (Some b.item) (words_of b.task) (quits b.task) s) (sym e) (step r is)

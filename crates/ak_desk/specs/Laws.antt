@@ -1,10 +1,12 @@
 -- What holds of all desks.
-use Rattle.std.specs.Prelude.{◌≡◌, ℕ, ◌+◌, Bool, List, [], ◌∷◌, ◌++◌, Option, None, Some}
+use Rattle.std.specs.Prelude.{◌≡◌, ℕ, ◌+◌, Bool, false, List, [], ◌∷◌, ◌++◌, Option, None, Some}
 use Rattle.ak_base.specs.declared.error.KitError.{KitError}
 use Rattle.ak_base.specs.declared.error.KitError.TheVariants as error
 use Rattle.ak_flatten.specs.Item.{ItemData}
 use Rattle.ak_message.specs.Message.{MessageData}
+use Rattle.ak_turn.specs.declared.clock.Clock.{Clock}
 use Rattle.ak_turn.specs.Lines.{made_by}
+use Rattle.ak_turn.specs.Seats.{IsGiven, at_leisure, entered_by}
 use Rattle.ak_action.specs.declared.answer.Answer.{Answer}
 use Rattle.ak_action.specs.declared.answer.Want.{Want}
 use Rattle.ak_action.specs.declared.state.DeskState.{DeskState}
@@ -16,13 +18,15 @@ use Rattle.ak_desk.specs.declared.entry.Edit.{Edit}
 use Rattle.ak_desk.specs.declared.entry.EditAnswer.TheVariants as answered
 use Rattle.ak_desk.specs.declared.entry.EntryRoute.{EntryRoute}
 use Rattle.ak_desk.specs.declared.entry.EntryRoute.TheVariants as entry
+use Rattle.ak_desk.specs.declared.made.Made.{Made}
 use Rattle.ak_desk.specs.declared.task.Task.{Task}
+use Rattle.ak_desk.specs.Desk.{HasDispatched}
 use Rattle.ak_desk.specs.Dispatch.{dispatch_of, entry_route}
 use Rattle.ak_desk.specs.Line.{LineData}
 use Rattle.ak_desk.specs.Machine.{DeskStep, DispatchStep, Replays, Replies, StepReplies, counted, dispatches, gave_up}
 use Rattle.ak_desk.specs.Place.{routed_of}
 use Rattle.ak_desk.specs.Replies.{error_reply, none_reply}
-use Rattle.ak_desk.specs.Shared.{by_number}
+use Rattle.ak_desk.specs.Shared.{DeskSeat, HasDispatchedThere, IsAtDesk, by_number}
 use Rattle.ak_desk.specs.Task.{Comes, IsDone, came_to, task_of}
 
 -- however the calls for one message go, what they come to is the dispatch with all its answers at once, where no memory ran out, or ran
@@ -135,3 +139,17 @@ DispatchesAreOwn =
     (looper : ℕ) (s : DeskState) (lines : List LineData) (t : DeskState)
     → Replays looper 0 s lines t
     → (dispatches lines ≡ dispatches (made_by by_number (10000 + looper) lines)) × (gave_up lines ≡ gave_up (made_by by_number (10000 + looper) lines))
+
+-- ---- a turn of the looper's own thread
+-- a message that is begun and ended between `lock` and `finish` is dispatched there, by what those two say of the seats
+abbrev pub ATurnDispatches : Type 0
+ATurnDispatches =
+    (clock clock' : Clock) (position : ℕ) (item : ItemData) (made : Made) (opening before after : DeskState) (lines lines' : List LineData) (seat given seat' : DeskSeat)
+    → HasDispatched clock clock' position item opening before after lines lines' made
+    → seat.turn ≡ false
+    → seat.thread ≡ clock.thread.0
+    → seat.opening ≡ Some opening
+    → IsGiven by_number seat given
+    → lines ≡ given.front
+    → ((line : LineData) → lines' ≡ given.front ++ line ∷ [] → seat' ≡ at_leisure (entered_by given line))
+    → HasDispatchedThere clock clock' position item made seat seat' × IsAtDesk seat'

@@ -39,3 +39,10 @@ pub fn an_entry_tells_its_reply()
 pub fn the_dispatches_are_its_own()
     ensures { law.DispatchesAreOwn }
 {}
+
+/// A message that the looper's own thread begins and ends in one turn at a shared desk is dispatched there:
+/// its entry is the last of the seat's front, which goes on from all that the seat had seen by entries of
+/// others alone, and is a list that the machine allows.
+pub fn a_turn_dispatches()
+    ensures { law.ATurnDispatches }
+{}
