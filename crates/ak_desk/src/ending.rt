@@ -1,4 +1,4 @@
-ghost use Rattle.std.specs.Prelude.{◌≡◌, ◌+◌, ◌++◌, ◌∷◌, ◌<◌, ◌≤◌, ◌^◌, [], true, false, None, Some, is_some, if◌then◌else◌, option_map, vec_len, vec_capacity};
+ghost use Rattle.std.specs.Prelude.{◌≡◌, ◌+◌, ◌++◌, ◌∷◌, ◌<◌, ◌≤◌, ◌^◌, [], true, false, None, Some, is_some, if◌then◌else◌, option_map, vec_len, vec_capacity, IfSome};
 ghost use Rattle.ak_desk.specs.Desk.{line_after, stamp_in, stamp_after};
 ghost use Rattle.ak_desk.specs.Dispatch.{fitting, ran_out};
 ghost use Rattle.ak_desk.specs.Replies.{none_reply};
@@ -19,7 +19,7 @@ use std::alloc::Global;
 use std::snapshot::Snapshot;
 
 impl Desk {
-    ghost use Rattle.ak_desk.specs.Desk.{clock_after, ended, given_up, made_by, DeskIsDone};
+    ghost use Rattle.ak_desk.specs.Desk.{clock_after, ended, given_up, made_by, DeskIsDone, EndsDispatch};
     ghost use Rattle.ak_desk.specs.Machine.{dispatches, gave_up};
 
     /// Ends the message that was begun: adds its entry, and tells what it came to. The entry's stamp is one
@@ -34,6 +34,7 @@ impl Desk {
         ensures desk { self.new ≡ ended self.old clock.old }
         ensures made { result ≡ made_by self.old.begun }
         ensures clock { clock.new ≡ clock_after self.old clock.old }
+        ensures dispatched { IfSome self.old.begun (EndsDispatch clock.old clock.new self.old self.new result) }
     {
         a_dispatch_comes_as_told();
         let alloc = *self.lines.allocator();

@@ -21,3 +21,28 @@ pub fn the_list_tells_the_handlers()
 {
     ak_action::words_replay();
 }
+
+/// Of an entry that the machine allows, the state before, where the message went, the item and the words
+/// tell whether the looper is to end, the state after and the reply. The word of a message that was sent on
+/// is one of four, and tells its reply; there is no entry of one that found its port full.
+pub fn an_entry_tells_its_reply()
+    ensures tells { law.EntryTellsReply }
+    ensures full { law.NoStepOfAFullForward }
+    ensures one { law.OneWordOneReply }
+    ensures forward { law.ForwardTellsReply }
+{
+    ak_action::words_replay();
+}
+
+/// Of a list that the machine allows, how many messages were dispatched, and whether one was given up, is
+/// told by the entries that the looper's own thread made.
+pub fn the_dispatches_are_its_own()
+    ensures { law.DispatchesAreOwn }
+{}
+
+/// A message that the looper's own thread begins and ends in one turn at a shared desk is dispatched there:
+/// its entry is the last of the seat's front, which goes on from all that the seat had seen by entries of
+/// others alone, and is a list that the machine allows.
+pub fn a_turn_dispatches()
+    ensures { law.ATurnDispatches }
+{}

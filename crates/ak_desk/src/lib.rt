@@ -21,6 +21,9 @@ mod task;
 
 pub use desk::Desk;
 pub use entry::{DeskEntry, DeskEvent, DeskLine, Edit, EditAnswer, EntryRoute};
-pub use laws::{a_dispatch_comes_as_told, the_list_tells_the_handlers};
+pub use laws::{
+    a_dispatch_comes_as_told, a_turn_dispatches, an_entry_tells_its_reply,
+    the_dispatches_are_its_own, the_list_tells_the_handlers,
+};
 pub use made::Made;
 pub use shared::edit_shared;
