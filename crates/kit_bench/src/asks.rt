@@ -67,16 +67,58 @@ fn ask_round<R: Threads + Wait + Sync>(
     let (replies, mut at_book) = TurnLock::new(alloc, ReplyBook::new(alloc)?, TAKER)?;
     let port: &Port = &shared;
     let book: &TurnLock<ReplyBook> = &replies;
-    let asker = Side {
-        at_port: port.split(&mut at_port, CLOSER),
-        at_book: book.split(&mut at_book, CLOSER),
-        item: question(alloc)?,
-    };
+    let other_port = port.split(&mut at_port, CLOSER);
+    let other_book = book.split(&mut at_book, CLOSER);
+    ask_by_seats(
+        rt, alloc, port, book, at_port, at_book, other_port, other_book, asks,
+    )
+}
+
+/// The first two seats are those of the thread that answers.
+fn ask_by_seats<R: Threads + Wait + Sync>(
+    rt: &R,
+    alloc: Global,
+    port: &Port,
+    book: &TurnLock<ReplyBook>,
+    at_port: Seat<PortBook>,
+    at_book: Seat<ReplyBook>,
+    other_port: Seat<PortBook>,
+    other_book: Seat<ReplyBook>,
+    asks: u32,
+) -> Result<u32, BenchFault>
+    requires port { StartsToTake port.now TAKER CAPACITY at_port }
+    requires book { IsSeated book.now 0 at_book }
+    requires other_port { IsSeated port.now 1 other_port }
+    requires other_book { IsSeated book.now 1 other_book }
+{
     let answerer = Side {
         at_port,
         at_book,
         item: small_reply(alloc)?,
     };
+    let asker = Side {
+        at_port: other_port,
+        at_book: other_book,
+        item: question(alloc)?,
+    };
+    ask_side_by_side(rt, alloc, port, book, answerer, asker, asks)
+}
+
+/// One thread answers what the other asks.
+fn ask_side_by_side<R: Threads + Wait + Sync>(
+    rt: &R,
+    alloc: Global,
+    port: &Port,
+    book: &TurnLock<ReplyBook>,
+    answerer: Side,
+    asker: Side,
+    asks: u32,
+) -> Result<u32, BenchFault>
+    requires port { StartsToTake port.now TAKER CAPACITY answerer.at_port }
+    requires book { IsSeated book.now 0 answerer.at_book }
+    requires asker_port { IsSeated port.now 1 asker.at_port }
+    requires asker_book { IsSeated book.now 1 asker.at_book }
+{
     let room = VecDeque::with_capacity(alloc, CAPACITY as usize)?;
     let (_, asked) = join(
         rt,

@@ -67,11 +67,30 @@ fn take_round<R: Threads + Wait + Sync>(
         thread: TAKER,
         time: 0,
     };
-    let (shared, mut seat) = make(alloc, shape.capacity, LIFE_LIMIT, TAKER, &mut clock)?;
+    let most = shape.capacity;
+    let (shared, mut seat) = make(alloc, most, LIFE_LIMIT, TAKER, &mut clock)?;
     let port: &Port = &shared;
     let closer = port.split(&mut seat, CLOSER);
-    let most = shape.capacity;
     let jobs = writers(alloc, port, &mut seat, most, shape.writers)?;
+    take_side_by_side(rt, alloc, port, seat, most, jobs, closer, each)
+}
+
+/// One thread takes, and others write so many items each. Answers how many were taken.
+fn take_side_by_side<R: Threads + Wait + Sync>(
+    rt: &R,
+    alloc: Global,
+    port: &Port,
+    seat: Seat<PortBook>,
+    most: u32,
+    jobs: Vec<Writer>,
+    closer: Seat<PortBook>,
+    each: u32,
+) -> Result<u64, BenchFault>
+    requires seat { StartsToTake port.now TAKER most seat }
+    requires most { 1 ≤ most }
+    requires jobs { All (λ writer. IsReady port.now writer.thread.0 writer.seat) jobs.items }
+    requires closer { IsSeated port.now 1 closer }
+{
     let room = VecDeque::with_capacity(alloc, most as usize)?;
     let (count, written) = join(
         rt,

@@ -57,16 +57,33 @@ fn first_target(shape: Shape) -> Target {
 /// The looper and the handlers after it: the next one of each is the one before it, and the last one is
 /// preferred.
 fn handlers(alloc: Global, shape: Shape) -> Result<HandlerSet<Held>, BenchFault> {
-    let mut set = HandlerSet::new(alloc, name(alloc, 0)?, held(alloc, shape, 0)?)?;
+    let mut set = looper(alloc, shape)?;
     for place in 1..shape.handlers {
-        add_handler(&mut set, name(alloc, place)?, held(alloc, shape, place)?)?;
+        let token = add_handler(&mut set, alloc, shape, place)?;
+        link_handler(&mut set, token)?;
     }
     Ok(set)
 }
 
-/// The next handler, whose next one is the one before it, and which is preferred.
-fn add_handler(set: &mut HandlerSet<Held>, name: Text, held: Held) -> Result<(), BenchFault> {
-    let token = set.add(name, held)?;
+/// The looper alone.
+fn looper(alloc: Global, shape: Shape) -> Result<HandlerSet<Held>, BenchFault> {
+    let looper = held(alloc, shape, 0)?;
+    Ok(HandlerSet::new(alloc, name(alloc, 0)?, looper)?)
+}
+
+/// The handler at that place, and its token.
+fn add_handler(
+    set: &mut HandlerSet<Held>,
+    alloc: Global,
+    shape: Shape,
+    place: u32,
+) -> Result<u64, BenchFault> {
+    let handler = held(alloc, shape, place)?;
+    Ok(set.add(name(alloc, place)?, handler)?)
+}
+
+/// Its next one is the one before it, and it is preferred.
+fn link_handler(set: &mut HandlerSet<Held>, token: u64) -> Result<(), BenchFault> {
     set.set_next(token, token.checked_sub(1))?;
     set.set_preferred(Some(token))?;
     Ok(())
