@@ -2,7 +2,7 @@
 
 use crate::fault::BenchFault;
 use crate::held::Held;
-use ak_base::{Code, Items, Text};
+use ak_base::{Bytes, Code, Items, Text, print_uint};
 use ak_filter::{DeliveryIs, Filter, FilterList, SourceIs};
 use ak_handler::{HandlerSet, LOOPER};
 use ak_message::{Kind, Message, Target};
@@ -90,8 +90,9 @@ fn link_handler(set: &mut HandlerSet<Held>, token: u64) -> Result<(), BenchFault
 }
 
 fn name(alloc: Global, place: u32) -> Result<Text, BenchFault> {
-    let name = place.to_string(alloc)?;
-    Ok(Text::from_bytes(alloc, name.as_bytes())?)
+    let mut name = Bytes::new(alloc);
+    print_uint(u64::from(place), &mut name)?;
+    Ok(Text::from_bytes(alloc, name.as_slice())?)
 }
 
 /// The name of the handler after that place, if there is one.

@@ -46,14 +46,14 @@ fn code(letters: &[u8; 4]) -> Code {
     Code(u32::from_be_bytes(*letters))
 }
 
-fn text_value(alloc: Global, text: &str) -> Result<Value, BenchFault> {
-    Ok(Value::Text(Text::from_bytes(alloc, text.as_bytes())?))
+fn text_value(alloc: Global, text: &[u8]) -> Result<Value, BenchFault> {
+    Ok(Value::Text(Text::from_bytes(alloc, text)?))
 }
 
 /// A question: one specifier, which names a property.
 pub fn ask(alloc: Global) -> Result<Message, BenchFault> {
     let mut specifier = Message::new(alloc, Code(1));
-    specifier.add(b"property", text_value(alloc, "Count")?)?;
+    specifier.add(b"property", text_value(alloc, b"Count")?)?;
     let mut message = Message::new(alloc, code(b"PGET"));
     message.add(b"specifiers", Value::from_message(alloc, specifier)?)?;
     Ok(message)
@@ -61,10 +61,10 @@ pub fn ask(alloc: Global) -> Result<Message, BenchFault> {
 
 /// An answer: three texts of 80 bytes, and an error number.
 fn reply(alloc: Global) -> Result<Message, BenchFault> {
-    let texts = [
-        "The window of the first view was moved to the workspace that a script had named.",
-        "The property is found by its name, and what stands there is a number of 32 bits.",
-        "Of the replies that had been asked for the last came before its time had passed.",
+    let texts: [&[u8]; 3] = [
+        b"The window of the first view was moved to the workspace that a script had named.",
+        b"The property is found by its name, and what stands there is a number of 32 bits.",
+        b"Of the replies that had been asked for the last came before its time had passed.",
     ];
     let mut message = Message::new(alloc, code(b"RPLY"));
     for text in texts {
