@@ -19,24 +19,13 @@ use Rattle.ak_desk.specs.declared.entry.EditAnswer.TheVariants as answered
 use Rattle.ak_desk.specs.declared.entry.EntryRoute.{EntryRoute}
 use Rattle.ak_desk.specs.declared.entry.EntryRoute.TheVariants as entry
 use Rattle.ak_desk.specs.declared.made.Made.{Made}
-use Rattle.ak_desk.specs.declared.task.Task.{Task}
 use Rattle.ak_desk.specs.Desk.{HasDispatched}
-use Rattle.ak_desk.specs.Dispatch.{dispatch_of, entry_route}
+use Rattle.ak_desk.specs.Dispatch.{entry_route}
 use Rattle.ak_desk.specs.Line.{LineData}
 use Rattle.ak_desk.specs.Machine.{DeskStep, DispatchStep, Replays, Replies, StepReplies, counted, dispatches, gave_up}
 use Rattle.ak_desk.specs.Place.{routed_of}
 use Rattle.ak_desk.specs.Replies.{error_reply, none_reply}
 use Rattle.ak_desk.specs.Shared.{DeskSeat, HasDispatchedThere, IsAtDesk, by_number}
-use Rattle.ak_desk.specs.Task.{Comes, IsDone, came_to, task_of}
-
--- however the calls for one message go, what they come to is the dispatch with all its answers at once, where no memory ran out, or ran
--- out at some place
-abbrev pub ComesToDispatch : Type 0
-ComesToDispatch =
-    (s : DeskState) (item : ItemData) (asked : List Want) (heard : List Answer) (t : Task) (v : DeskState)
-    → Comes s (task_of s.first (routed_of s item)) asked heard t v
-    → IsDone t
-    → (memory : Option ℕ) × (dispatch_of s item heard memory ≡ came_to asked t v)
 
 -- ---- every list that the machine allows
 -- a line stands on the state that those before it leave, and those behind it on the state that it leaves
@@ -144,12 +133,12 @@ DispatchesAreOwn =
 -- a message that is begun and ended between `lock` and `finish` is dispatched there, by what those two say of the seats
 abbrev pub ATurnDispatches : Type 0
 ATurnDispatches =
-    (clock clock' : Clock) (position : ℕ) (item : ItemData) (made : Made) (opening before after : DeskState) (lines lines' : List LineData) (seat given seat' : DeskSeat)
-    → HasDispatched clock clock' position item opening before after lines lines' made
+    (clock clock' : Clock) (position : ℕ) (item : ItemData) (asked : List Want) (heard : List Answer) (made : Made) (opening before after : DeskState) (lines lines' : List LineData) (seat given seat' : DeskSeat)
+    → HasDispatched clock clock' position item asked heard opening before after lines lines' made
     → seat.turn ≡ false
     → seat.thread ≡ clock.thread.0
     → seat.opening ≡ Some opening
     → IsGiven by_number seat given
     → lines ≡ given.front
     → ((line : LineData) → lines' ≡ given.front ++ line ∷ [] → seat' ≡ at_leisure (entered_by given line))
-    → HasDispatchedThere clock clock' position item made seat seat' × IsAtDesk seat'
+    → HasDispatchedThere clock clock' position item asked heard made seat seat' × IsAtDesk seat'
