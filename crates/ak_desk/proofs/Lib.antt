@@ -2,6 +2,7 @@ pub mod Accessing
 pub mod AtOnce
 pub mod Coming
 pub mod Editing
+pub mod Fitting
 pub mod Going
 pub mod History
 pub mod InStep
