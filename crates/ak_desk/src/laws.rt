@@ -2,9 +2,9 @@
 
 ghost use Rattle.ak_desk.specs.Laws as law;
 
-/// Of every list that the machine of a desk allows: each line stands on the state that those before it
-/// leave; a dispatched message has as its position how many were dispatched before it; a refused edit
-/// changes nothing; and the state is told by the opening and the list.
+/// What holds of every list that the machine of a desk allows. Each line stands on the state that those before
+/// it leave. A dispatched message has as its position how many were dispatched before it. A refused edit
+/// changes nothing. The opening and the list tell the state.
 pub fn the_list_tells_the_handlers()
     ensures follows { law.EachLineFollows }
     ensures positions { law.PositionsCount }

@@ -1,8 +1,8 @@
-//! The desk of one looper: its handlers with all that they hold, and the list of all that was done on it,
-//! each message with where it went, the words of its answers and whether the looper was to end, and each
-//! change of its handlers with its answer. The list tells the handlers: they are what it makes of the plan.
-//! A message is carried out step by step; the desk asks for one answer from outside at a time. A desk may stand
-//! behind a lock that threads share: `edit_shared` waits for its turn there, and nothing else here waits.
+//! The desk of one looper: its handlers with all that they hold, and the list of all that was done on it. The
+//! list has each message, with where it went, its answer words, and whether the looper was to end. It has each
+//! change of the handlers, with its answer. The list tells the handlers: they are what it makes of the plan. A
+//! message is carried out step by step; the desk asks for one answer from outside at a time. Nothing here waits
+//! but `edit_shared`, which edits a desk that threads share and waits for its turn.
 #![tactic(auto)]
 
 mod book;
