@@ -1,9 +1,10 @@
 -- What contracts see of a desk, and what each call makes of it.
-use Rattle.std.specs.Prelude.{◌≡◌, ℕ, ◌+◌, Bool, true, false, is_some, if◌then◌else◌, max, List, [], ◌∷◌, ◌++◌, Option, None, Some, IsSome, option_map}
-use Rattle.ak_flatten.specs.Item.{ItemData}
+use Rattle.std.specs.Prelude.{◌≡◌, ℕ, ◌+◌, ◌≤◌, Bool, true, false, is_some, if◌then◌else◌, max, List, [], ◌∷◌, ◌++◌, Option, None, Some, IsSome, option_map}
+use Rattle.ak_flatten.specs.Item.{ItemData, message_of}
 use Rattle.ak_flatten.specs.declared.item.Taken.{Taken}
 use Rattle.ak_turn.specs.declared.clock.Clock.{Clock}
 use Rattle.ak_turn.specs.Lines.{last_stamp_of}
+use Rattle.ak_message.specs.Fields.{specifier_count}
 use Rattle.ak_message.specs.Message.{MessageData}
 use Rattle.ak_action.specs.declared.answer.Answer.{Answer}
 use Rattle.ak_action.specs.declared.answer.AnswerWord.{AnswerWord}
@@ -142,6 +143,11 @@ IsTakenIn _ s s' = s' ≡ s
 pub record Hears (a : Answer) (b : BegunData) (s : DeskState) (b' : BegunData) (s' : DeskState) : Type 0 where
   pub message : b' ≡ record b { heard = b.heard ++ a ∷ [] }
   pub state : IsTakenIn a s s'
+
+-- what is sent on has as many specifiers popped as the item or more, and no more than its message has
+abbrev pub Forwards : Want → BegunData → Type 0
+Forwards (want.Forward looper popped) b = (b.item.popped ≤ popped) × (popped ≤ specifier_count (message_of b.item).fields)
+Forwards _ b = Unit {0}
 
 -- ---- what is asked of a caller
 -- a message is begun, and each want has its answer

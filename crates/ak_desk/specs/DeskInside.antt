@@ -1,5 +1,6 @@
 -- A desk as the code holds it: what contracts see of it, and what is always true of it.
 use Rattle.std.specs.Prelude.{◌≡◌, ℕ, ◌+◌, ◌<◌, Bool, true, false, List, [], ◌∷◌, ◌++◌, All, Option, None, Some, option_map, vec_len, vec_capacity}
+use Rattle.ak_flatten.specs.Item.{IsItem}
 use Rattle.ak_action.specs.declared.answer.Answer.{Answer}
 use Rattle.ak_action.specs.declared.answer.Want.{Want}
 use Rattle.ak_action.specs.declared.answer.Want.TheVariants as want
@@ -69,6 +70,7 @@ pub record IsBegun (opening : DeskState) (lines : List LineData) (b : BegunData)
   pub history : IsHistory opening lines b.before
   pub position : b.position ≡ dispatches lines
   pub route : b.route ≡ entry_route b.before (routed_of b.before b.item).route
+  pub fits : IsItem b.item
   pub far : ComesFar b t s b.came
 
 -- nothing is begun, or this

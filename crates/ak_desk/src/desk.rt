@@ -1,5 +1,5 @@
 ghost use Rattle.std.specs.Prelude.{◌≡◌, ◌+◌, ◌++◌, ◌∷◌, ◌<◌, ◌^◌, [], true, None, Some, ℕ, IfOk, OnErr, OnOk};
-ghost use Rattle.ak_flatten.specs.Item.{ItemData, message_of};
+ghost use Rattle.ak_flatten.specs.Item.{IsItem, message_of};
 ghost use Rattle.ak_route.specs.declared.outcome.Route.{Route};
 ghost use Rattle.ak_route.specs.declared.outcome.Route.TheVariants as route;
 ghost use Rattle.ak_desk.specs.Desk.{begun_at};
@@ -68,7 +68,7 @@ impl Model for Desk {
 }
 
 impl Desk {
-    ghost use Rattle.ak_desk.specs.Desk.{opened, begun_with, DeskAwaits, DeskIsDone, DeskMayWant, DeskTakes, Fails, Hears, Turns, Wants};
+    ghost use Rattle.ak_desk.specs.Desk.{opened, begun_with, DeskAwaits, DeskIsDone, DeskMayWant, DeskTakes, Fails, Forwards, Hears, OfBegun, Turns, Wants};
     ghost use Rattle.ak_action.specs.Opening.{FitsPlace, Opens};
     ghost use Rattle.ak_desk.specs.Machine.{IsHistory, dispatches};
 
@@ -141,8 +141,10 @@ impl Desk {
         ensures ok { IfOk result (λ w. Turns (Wants w) self.old self.new) }
         ensures err { OnErr result (Turns Fails self.old self.new) }
         ensures awaits { IfOk result (λ w. DeskAwaits w self.new) }
+        ensures forwards { IfOk result (λ w. OfBegun (Forwards w) self.new.begun) }
         ensures ends { OnErr result (DeskIsDone self.new) }
     {
+        ak_route::routes_pop_within();
         ak_action::runs_act();
         ak_action::calls_act();
         let alloc = *self.lines.allocator();
@@ -216,8 +218,11 @@ fn note(asked: &mut Said<Want>, want: &Want) -> bool
 
 fn begun_at(alloc: Global, state: &DeskState, taken: &Taken) -> Result<Begun, NoMemory>
     ensures seen { IfOk result (λ b. begun_seen b ≡ begun_at state.now taken.now) }
+    ensures item { IfOk result (λ b. IsItem b.item.value) }
     ensures task { IfOk result (λ b. b.task ≡ task_of state.now.first (routed_of state.now taken.now.item)) }
 {
+    // Reading how many specifiers are popped shows that no more are than there are.
+    let _popped = taken.item.popped();
     let mut message = taken.item.message(alloc)?;
     let route = routed(state, &taken.item, &mut message);
     Ok(Begun {

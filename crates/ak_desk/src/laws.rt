@@ -32,6 +32,13 @@ pub fn the_dispatches_are_its_own()
     ensures { law.DispatchesAreOwn }
 {}
 
+/// Of values, suites and fields that fit nothing is left out.
+pub fn what_fits_is_told()
+    ensures values { law.AllValuesAreTold }
+    ensures suites { law.AllSuitesAreTold }
+    ensures held { law.ShallowIsHeld }
+{}
+
 /// A message that the looper's own thread begins and ends in one turn at a shared desk is dispatched there:
 /// its entry is the last of the seat's front, which goes on from all that the seat had seen by entries of
 /// others alone, and is a list that the machine allows.
