@@ -64,7 +64,8 @@ impl Model for Values {
 }
 
 impl Values {
-    /// This value alone, which a message can hold. It is refused with `TooDeep`, and else only with `NoMemory`; then it is dropped.
+    /// This value alone, which a message can hold. It is refused with `TooDeep`, and else only with
+    /// `NoMemory`; then it is dropped.
     pub fn one(alloc: Global, value: Value) -> Result<Values, ValuesFault>
         ensures refused { IfSome (depth_fault (value_of value)) (λ f. result ≡ Err f) }
         ensures only { IfNone (depth_fault (value_of value)) (IsOkUnless result ValuesFault.NoMemory) }
