@@ -84,7 +84,6 @@ fn a_desk_is_edited_in_another_thread(rt: HostRuntime) -> Result<(), Fail> {
     let (lock, mut main) = TurnLock::new(alloc, unused(alloc)?, ThreadId(0))?;
     let guest = lock.split(&mut main, ThreadId(1));
     let mut last = lock.split(&mut main, ThreadId(2));
-    let lock = Arc::new(alloc, lock)?;
     let theirs = Arc::try_clone(&lock)?;
     let started = thread::spawn(
         &rt,
