@@ -1,16 +1,14 @@
 //! Lines that describe applications at the limits, so that reading them can be timed.
 
+use crate::digits::last_digit;
 use crate::fault::BenchFault;
-use ak_base::{Bytes, NoMemory, print_uint};
+use ak_base::{Bytes, NoMemory};
 use ak_describe::{APP_LOOPER_LIMIT, AppText, DescribeFault, read_description};
 use ak_message::{LinesFault, split_lines};
 use std::alloc::Global;
 
 /// How many handlers a looper has beside itself.
 const HANDLERS: u32 = 63;
-
-// Numbers from here on have three digits.
-const FIRST_NUMBER: u32 = 100;
 
 /// Reads the lines of so many applications that many times, and answers how many loopers were read in all. Of
 /// 16 applications the lines have 1 MiB.
@@ -78,7 +76,9 @@ fn handler_lines(out: &mut Bytes, letter: &[u8], next: u32, handler: u32) -> Res
 
 // Three digits for the number.
 fn number(out: &mut Bytes, number: u32) -> Result<(), NoMemory> {
-    print_uint(u64::from(number.saturating_add(FIRST_NUMBER)), out)
+    out.push(last_digit(number / 100))?;
+    out.push(last_digit(number / 10))?;
+    out.push(last_digit(number))
 }
 
 impl From<LinesFault> for BenchFault {

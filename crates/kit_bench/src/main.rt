@@ -23,6 +23,7 @@
 
 mod asks;
 mod descriptions;
+mod digits;
 mod fault;
 mod held;
 mod orders;

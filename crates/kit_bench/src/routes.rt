@@ -1,8 +1,9 @@
 //! The handlers through which a message goes, so that a route can be timed.
 
+use crate::digits::last_digit;
 use crate::fault::BenchFault;
 use crate::held::Held;
-use ak_base::{Bytes, Code, Items, Text, print_uint};
+use ak_base::{Code, Items, Text};
 use ak_filter::{DeliveryIs, Filter, FilterList, SourceIs};
 use ak_handler::{HandlerSet, LOOPER};
 use ak_message::{Kind, Message, Target};
@@ -89,9 +90,9 @@ fn link_handler(set: &mut HandlerSet<Held>, token: u64) -> Result<(), BenchFault
     Ok(())
 }
 
+// Two digits for the place.
 fn name(alloc: Global, place: u32) -> Result<Text, BenchFault> {
-    let mut name = Bytes::new(alloc);
-    print_uint(u64::from(place), &mut name)?;
+    let name = [last_digit(place / 10), last_digit(place)];
     Ok(Text::from_bytes(alloc, name.as_slice())?)
 }
 
