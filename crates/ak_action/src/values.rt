@@ -4,7 +4,7 @@ ghost use Rattle.ak_action.specs.Values.{AreValues, one_value, with_last, depth_
 
 use ak_base::NoMemory;
 use ak_message::{DEPTH_LIMIT, Kind, VALUE_LIMIT, Value};
-use std::alloc::{AllocError, AllocFailed, Global};
+use std::alloc::{AllocFailed, Global};
 use std::marker::Model;
 
 /// Why a value is not taken among values of one field. They are tested in this order.
@@ -16,16 +16,17 @@ pub enum ValuesFault {
     ValueLimit,
     /// It is a message in which messages stand 16 deep, so no message can hold it.
     TooDeep,
+    /// Memory ran out.
     NoMemory,
 }
 
-impl From<AllocError> for ValuesFault {
+impl From<NoMemory> for ValuesFault {
     ghost use Rattle.std.specs.Prelude.{◌≡◌};
     ghost use Rattle.ak_action.specs.declared.values.ValuesFault.TheVariants as fault;
 
     ghost from_gives = { λ _ e. e ≡ fault.NoMemory };
 
-    fn from(_error: AllocError) -> ValuesFault {
+    fn from(_error: NoMemory) -> ValuesFault {
         ValuesFault::NoMemory
     }
 }
@@ -41,8 +42,9 @@ impl<T: Drop> From<AllocFailed<T>> for ValuesFault {
     }
 }
 
-/// What a field of a message can hold: one value or more, at most 255, all of one kind, and where they are
-/// messages, of a depth below 16. Contracts see the kind and the list.
+/// What a field of a message is given, or a property is set to: one value or more, at most 255, all of one
+/// kind. Where they are messages, each has a depth below 16, so that a message can hold it; the first may be
+/// 16 deep where it was taken by `alone`. Contracts see the kind and the list.
 #[derive(Drop)]
 pub struct Values {
     kind: Kind,
@@ -62,7 +64,8 @@ impl Model for Values {
 }
 
 impl Values {
-    /// This value alone.
+    /// This value alone, which a message can hold. It is refused with `TooDeep`, and else only with
+    /// `NoMemory`; then it is dropped.
     pub fn one(alloc: Global, value: Value) -> Result<Values, ValuesFault>
         ensures refused { IfSome (depth_fault (value_of value)) (λ f. result ≡ Err f) }
         ensures only { IfNone (depth_fault (value_of value)) (IsOkUnless result ValuesFault.NoMemory) }
@@ -71,6 +74,14 @@ impl Values {
         if is_too_deep(&value) {
             return Err(ValuesFault::TooDeep);
         }
+        Ok(Values::alone(alloc, value)?)
+    }
+
+    /// This value alone, whatever it is: what a property is set to. A message that is made of it leaves out
+    /// what it cannot hold.
+    pub fn alone(alloc: Global, value: Value) -> Result<Values, NoMemory>
+        ensures { IfOk result (λ v. v ≡ one_value (value_of value)) }
+    {
         let kind = value.kind();
         let mut list = Vec::with_capacity(alloc, 1)?;
         list.push(value)?;
@@ -78,7 +89,7 @@ impl Values {
     }
 
     /// Adds a value at the end. The faults are tested in the order of `ValuesFault`. An `Err` changes
-    /// nothing, and the value is dropped.
+    /// nothing, and the value is dropped. `NoMemory` comes last.
     pub fn push(&mut self, value: Value) -> Result<(), ValuesFault>
         ensures refused { IfSome (push_fault self.old (value_of value)) (λ f. result ≡ Err f) }
         ensures only { IfNone (push_fault self.old (value_of value)) (IsOkUnless result ValuesFault.NoMemory) }
@@ -98,7 +109,7 @@ impl Values {
         Ok(())
     }
 
-    /// The kind of each of them.
+    /// The kind of each of them. Takes no memory.
     pub fn kind(&self) -> Kind
         ensures value { result ≡ self.now.kind }
         ensures are_values { AreValues self.now }
@@ -106,7 +117,7 @@ impl Values {
         self.kind
     }
 
-    /// The values in order.
+    /// The values in order, 1 to 255. Takes no memory.
     pub fn as_slice(&self) -> &[Value]
         ensures value { map value_of result.now ≡ self.now.list }
         ensures are_values { AreValues self.now }
@@ -114,7 +125,7 @@ impl Values {
         self.list.as_slice()
     }
 
-    /// Equal values.
+    /// Equal values. `NoMemory` where memory ran out.
     pub fn try_clone(&self) -> Result<Values, NoMemory>
         ensures { IfOk result (λ v. v ≡ self.now) }
     {

@@ -1,30 +1,35 @@
 -- What holds of all desks.
-use Rattle.std.specs.Prelude.{◌≡◌, ℕ, Bool, List, ◌∷◌, ◌++◌, Option}
+use Rattle.std.specs.Prelude.{◌≡◌, ℕ, ◌+◌, ◌<◌, ◌≤◌, Bool, false, List, [], ◌∷◌, ◌++◌, length, codes, All, Option, None, Some}
+use Rattle.ak_base.specs.declared.error.KitError.{KitError}
+use Rattle.ak_base.specs.declared.error.KitError.TheVariants as error
 use Rattle.ak_flatten.specs.Item.{ItemData}
+use Rattle.ak_message.specs.declared.kind.Kind.{Kind}
+use Rattle.ak_message.specs.Message.{FieldData, MessageData, ValueData, depth_of_value, kind_of}
+use Rattle.ak_turn.specs.declared.clock.Clock.{Clock}
+use Rattle.ak_turn.specs.Lines.{made_by}
+use Rattle.ak_turn.specs.Seats.{IsGiven, at_leisure, entered_by}
 use Rattle.ak_action.specs.declared.answer.Answer.{Answer}
 use Rattle.ak_action.specs.declared.answer.Want.{Want}
 use Rattle.ak_action.specs.declared.state.DeskState.{DeskState}
+use Rattle.ak_action.specs.Building.{held}
+use Rattle.ak_action.specs.Doing.{row_of}
 use Rattle.ak_handler.specs.declared.fault.HandlerFault.{HandlerFault}
 use Rattle.ak_action.specs.declared.answer.AnswerWord.{AnswerWord}
+use Rattle.ak_action.specs.declared.answer.AnswerWord.TheVariants as word
 use Rattle.ak_desk.specs.declared.entry.DeskEvent.TheVariants as event
 use Rattle.ak_desk.specs.declared.entry.Edit.{Edit}
 use Rattle.ak_desk.specs.declared.entry.EditAnswer.TheVariants as answered
 use Rattle.ak_desk.specs.declared.entry.EntryRoute.{EntryRoute}
-use Rattle.ak_desk.specs.declared.task.Task.{Task}
-use Rattle.ak_desk.specs.Dispatch.{dispatch_of}
+use Rattle.ak_desk.specs.declared.entry.EntryRoute.TheVariants as entry
+use Rattle.ak_desk.specs.declared.made.Made.{Made}
+use Rattle.ak_desk.specs.BuiltIns.{looper_suites, suites_of}
+use Rattle.ak_desk.specs.Desk.{HasDispatched}
+use Rattle.ak_desk.specs.Dispatch.{entry_route}
 use Rattle.ak_desk.specs.Line.{LineData}
-use Rattle.ak_desk.specs.Machine.{DeskStep, Replays, counted, dispatches}
+use Rattle.ak_desk.specs.Machine.{DeskStep, DispatchStep, Replays, Replies, StepReplies, counted, dispatches, gave_up}
 use Rattle.ak_desk.specs.Place.{routed_of}
-use Rattle.ak_desk.specs.Task.{Comes, IsDone, came_to, task_of}
-
--- however the calls for one message go, what they come to is the dispatch with all its answers at once, where no memory ran out, or ran
--- out at some place
-abbrev pub ComesToDispatch : Type 0
-ComesToDispatch =
-    (s : DeskState) (item : ItemData) (asked : List Want) (heard : List Answer) (t : Task) (v : DeskState)
-    → Comes s (task_of s.first (routed_of s item)) asked heard t v
-    → IsDone t
-    → (memory : Option ℕ) × (dispatch_of s item heard memory ≡ came_to asked t v)
+use Rattle.ak_desk.specs.Replies.{error_field, error_reply, none_reply, reply_with, values_reply}
+use Rattle.ak_desk.specs.Shared.{DeskSeat, HasDispatchedThere, IsAtDesk, by_number}
 
 -- ---- every list that the machine allows
 -- a line stands on the state that those before it leave, and those behind it on the state that it leaves
@@ -61,3 +66,105 @@ RefusedEditsChangeNothing =
 abbrev pub StateIsOne : Type 0
 StateIsOne =
     (looper n : ℕ) (s : DeskState) (lines : List LineData) (t u : DeskState) → Replays looper n s lines t → Replays looper n s lines u → t ≡ u
+
+-- ---- an entry tells what it came to
+-- exactly one reply goes with the entry
+pub record HasOneReply (s : DeskState) (r : EntryRoute) (item : Option ItemData) (words : List AnswerWord) : Type 0 where
+  pub reply : Option MessageData
+  pub replies : StepReplies s r item words reply
+  pub alone : (other : Option MessageData) → StepReplies s r item words other → other ≡ reply
+
+-- the state before, where the message went, the item and the words tell the quit mark, the state after and the reply
+abbrev pub EntryTellsReply : Type 0
+EntryTellsReply =
+    (s : DeskState) (r : EntryRoute) (item : Option ItemData) (words : List AnswerWord) (quit quit' : Bool) (t t' : DeskState)
+    → DispatchStep s r item words quit t
+    → DispatchStep s r item words quit' t'
+    → (quit ≡ quit') × (t ≡ t') × HasOneReply s r item words
+
+-- a message that is sent on waits for room
+abbrev pub NoStepOfAFullForward : Type 0
+NoStepOfAFullForward =
+    (s : DeskState) (looper : ℕ) (item : ItemData) (quit : Bool) (t : DeskState)
+    → DispatchStep s (entry.Forward looper) (Some item) (word.Error error.WouldBlock ∷ []) quit t
+    → ⊥
+
+abbrev pub OneWordOneReply : Type 0
+OneWordOneReply =
+    (s : DeskState) (item : ItemData) (w : AnswerWord) (reply other : Option MessageData)
+    → Replies s item (w ∷ []) reply
+    → Replies s item (w ∷ []) other
+    → reply ≡ other
+
+-- what the word of a message that was sent on may be
+abbrev pub TellsForward : KitError → Type 0
+TellsForward error.Ok = Unit {0}
+TellsForward error.BadPortId = Unit {0}
+TellsForward error.Spent = Unit {0}
+TellsForward error.NoMemory = Unit {0}
+TellsForward _ = ⊥
+
+-- and the reply with each: none, the refusal, or NONE without memory
+abbrev pub reply_of_error : KitError → Option MessageData
+reply_of_error error.Ok = None
+reply_of_error error.BadPortId = Some (error_reply error.BadPortId)
+reply_of_error error.Spent = Some (error_reply error.Spent)
+reply_of_error _ = Some none_reply
+
+pub record ToldByWord (words : List AnswerWord) (reply : Option MessageData) : Type 0 where
+  pub error : KitError
+  pub may : TellsForward error
+  pub words_are : words ≡ word.Error error ∷ []
+  pub reply_is : reply ≡ reply_of_error error
+
+-- a message that is routed so has the one word, which tells its reply
+abbrev pub ForwardTellsReply : Type 0
+ForwardTellsReply =
+    (s : DeskState) (looper : ℕ) (item : ItemData) (words : List AnswerWord) (reply : Option MessageData)
+    → entry.Forward looper ≡ entry_route s (routed_of s item).route
+    → Replies s item words reply
+    → ToldByWord words reply
+
+-- ---- what a looper knows by its own entries
+-- the dispatches are among the entries that its own thread made, and so is the one that was given up
+abbrev pub DispatchesAreOwn : Type 0
+DispatchesAreOwn =
+    (looper : ℕ) (s : DeskState) (lines : List LineData) (t : DeskState)
+    → Replays looper 0 s lines t
+    → (dispatches lines ≡ dispatches (made_by by_number (10000 + looper) lines)) × (gave_up lines ≡ gave_up (made_by by_number (10000 + looper) lines))
+
+-- ---- a turn of the looper's own thread
+-- a message that is begun and ended between `lock` and `finish` is dispatched there, by what those two say of the seats
+abbrev pub ATurnDispatches : Type 0
+ATurnDispatches =
+    (clock clock' : Clock) (position : ℕ) (item : ItemData) (asked : List Want) (heard : List Answer) (made : Made) (opening before after : DeskState) (lines lines' : List LineData) (seat given seat' : DeskSeat)
+    → HasDispatched clock clock' position item asked heard opening before after lines lines' made
+    → seat.turn ≡ false
+    → seat.thread ≡ clock.thread.0
+    → seat.opening ≡ Some opening
+    → IsGiven by_number seat given
+    → lines ≡ given.front
+    → ((line : LineData) → lines' ≡ given.front ++ line ∷ [] → seat' ≡ at_leisure (entered_by given line))
+    → HasDispatchedThere clock clock' position item asked heard made seat seat' × IsAtDesk seat'
+
+-- ---- nothing that fits is left out
+-- the field of these values, where there are any
+abbrev pub result_of : List ValueData → List FieldData
+result_of [] = []
+result_of (v ∷ vs) = (record { name = codes "result"; kind = kind_of v; values = v ∷ vs }) ∷ []
+
+-- of at most 255 values of one kind, none too deep for a message, a reply has all, in order
+abbrev pub AllValuesAreTold : Type 0
+AllValuesAreTold =
+    (kind : Kind) (vs : List ValueData) → length vs ≤ 255 → All (λ v. kind_of v ≡ kind) vs → All (λ v. depth_of_value v < 16) vs
+    → values_reply (Some vs) ≡ reply_with (result_of vs ++ error_field error.Ok ∷ [])
+
+-- of at most 16 suites all are told, before those of what the handler is
+abbrev pub AllSuitesAreTold : Type 0
+AllSuitesAreTold =
+    (s : DeskState) (token : ℕ) → length (row_of s token).suites ≤ 16
+    → suites_of s token ≡ (row_of s token).suites ++ codes "suite/vnd.Be-handler" ∷ looper_suites s token
+
+-- a value that is not too deep for a message is held
+abbrev pub ShallowIsHeld : Type 0
+ShallowIsHeld = (v : ValueData) → depth_of_value v < 16 → held (Some v) ≡ v ∷ []

@@ -3,9 +3,10 @@
 ghost use Rattle.std.specs.Prelude.{◌≡◌, ◌+◌, ◌<◌, ◌^◌, None, Some, false, ℕ, IfOk, OnErr};
 ghost use Rattle.ak_action.specs.declared.state.DeskState.{DeskState};
 ghost use Rattle.ak_action.specs.Acts.{error_of};
+ghost use Rattle.ak_desk.specs.Answering.{AnswersForward};
 ghost use Rattle.ak_desk.specs.Dispatch.{forward_reply};
 ghost use Rattle.ak_desk.specs.Replies.{error_reply};
-ghost use Rattle.ak_desk.specs.Task.{taken_as, ready, task_by, Awaits, MayWant, AnswersForward, TakesAnswer, IsDone, IsNoReaction, wants, wants_none, want_of, place_in, starved, heard_of, words_of, reply_of, quits};
+ghost use Rattle.ak_desk.specs.Task.{taken_as, ready, task_by, Awaits, MayWant, TakesAnswer, IsDone, IsNoReaction, wants, wants_none, want_of, place_in, starved, heard_of, words_of, reply_of, quits};
 
 use crate::built_in::{built_in_quits, built_in_reply};
 use crate::properties::property_replied;
@@ -109,7 +110,7 @@ impl Task {
         ensures awaits { IfOk result (λ w. Awaits w self.new) }
         ensures ends { OnErr result (IsDone self.new) }
     {
-        match mem::replace(self, starved(alloc)) {
+        match mem::replace(self, starved(alloc, false)) {
             Task::Property {
                 token,
                 place,
@@ -120,8 +121,11 @@ impl Task {
                 Ok(Want::Done)
             }
             Task::BuiltIn { token, message } => {
+                let quit = built_in_quits(state, &message);
+                // Whether the looper is to end does not hang on memory for the reply.
+                *self = starved(alloc, quit);
                 let reply = built_in_reply(alloc, state, token, &message)?;
-                *self = done(None, Some(reply), built_in_quits(state, &message));
+                *self = done(None, Some(reply), quit);
                 Ok(Want::Done)
             }
             Task::Forward {
@@ -158,7 +162,7 @@ impl Task {
         ensures heard { (s : DeskState) → heard_of self.old s a ≡ record { task = self.new; state = s } }
         ensures goes_on { MayWant self.new }
     {
-        if let Task::Forwarding { spare } = mem::replace(self, starved(alloc)) {
+        if let Task::Forwarding { spare } = mem::replace(self, starved(alloc, false)) {
             *self = forwarded(alloc, spare, a);
         }
     }
@@ -214,11 +218,11 @@ fn ready(reply: Message) -> Task
     done(None, Some(reply), false)
 }
 
-// There was no memory for it.
-fn starved(alloc: Global) -> Task
-    ensures { result ≡ starved }
+// There was no memory for its reply.
+fn starved(alloc: Global, quit: bool) -> Task
+    ensures { result ≡ starved quit }
 {
-    done(Some(KitError::NoMemory), Some(none_reply(alloc)), false)
+    done(Some(KitError::NoMemory), Some(none_reply(alloc)), quit)
 }
 
 fn done(word: Option<KitError>, reply: Option<Message>, quit: bool) -> Task
@@ -236,7 +240,7 @@ fn forwarded(alloc: Global, spare: Spare, a: Answer) -> Task
         Answer::Written(_) => done(Some(KitError::Ok), None, false),
         Answer::Closed => refused(spare, KitError::BadPortId),
         Answer::Spent => refused(spare, KitError::Spent),
-        _ => starved(alloc),
+        _ => starved(alloc, false),
     }
 }
 

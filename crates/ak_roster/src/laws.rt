@@ -14,7 +14,8 @@ pub fn no_team_returns()
     ensures gone { law.NoTeamReturns }
 {}
 
-/// At most one team of a path runs whose mode is single, and of a signature whose mode is exclusive.
+/// Of two running teams the later one has another path where its mode is single, and another signature where it
+/// is exclusive.
 pub fn modes_hold()
     ensures { law.ModesHold }
 {}
@@ -28,6 +29,14 @@ pub fn the_least_is_found()
 pub fn limits_hold()
     ensures limits { law.LimitsHold }
     ensures doors { law.DoorsAreGivenOnce }
+{}
+
+/// The threads that have a part of a looper's door are main, the looper, the first looper of its team, the
+/// keeper, and just those by which the list has an entry of that door. So a thread that is none of these four
+/// is given a part where its own entries have none of that door, which its seat at the lock tells it.
+pub fn holders_are_told()
+    ensures holders { law.HoldersAreTold }
+    ensures strangers { law.StrangersAreTold }
 {}
 
 /// What a name is compared with is what stands after the last slash of a path.

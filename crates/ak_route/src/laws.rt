@@ -2,8 +2,8 @@
 
 ghost use Rattle.ak_route.specs.Laws as law;
 
-/// A message settles by the filters of the handlers that it is passed to, each list once and no other, and
-/// those of the handler where it stays ran. No more steps are needed than there are handlers.
+/// A message settles by the filters of the handlers that it is passed to, each list once and no other. Those
+/// of the handler where it stays ran. No more steps are needed than there are handlers.
 pub fn filters_run_at_most_once()
     ensures once { law.FiltersRunAtMostOnce }
     ensures all { law.AllFiltersRun }
@@ -20,7 +20,7 @@ pub fn takers_are_there()
     ensures { law.TakerIsThere }
 {}
 
-/// A message without specifiers is for its first target.
+/// A message without specifiers that are left is for its first target, and stays as it was.
 pub fn no_specifiers_no_steps()
     ensures { law.NoSpecifiersNoSteps }
 {}
@@ -34,4 +34,10 @@ pub fn forwards_are_to_later_loopers()
 /// A message is delivered to a property of the handler's table, to one of its reactions, or as built in.
 pub fn takers_lie_within()
     ensures { law.TakerLiesWithin }
+{}
+
+/// Routing changes nothing of a message but its code, and pops some of its specifiers: never more than it
+/// has, and none is put back.
+pub fn routes_pop_within()
+    ensures { law.RoutesPopWithin }
 {}

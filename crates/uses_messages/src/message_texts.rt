@@ -185,12 +185,12 @@ fn read_parts(alloc: Global, parts: Parts) -> Read {
     read(alloc, text_of(alloc, parts)?.as_slice())
 }
 
-// 16 messages in one another, and what a text and these messages show.
+// How a message in a message begins, and what the outermost one is read as.
 const DEEP: &[u8] = b"MSGG:{'abcd' m=";
 
 const ABCD: Read = Ok((Kind::Message, 0x6162_6364, None));
 
-static LIMITED: [(Parts, Read); 7] = [
+static LIMITED: [(Parts, Read); 11] = [
     ((b"\"", b"x", 1024, b"\""), Ok((Kind::Text, 1024, None))),
     ((b"\"", b"x", 1025, b"\""), Err(Limit)),
     // the rest of the word is tested all the same
@@ -202,6 +202,11 @@ static LIMITED: [(Parts, Read); 7] = [
     ((b"", DEEP, 16, b"1}}}}}}}}}}}}}}}}"), ABCD),
     ((b"", DEEP, 17, b"1}}}}}}}}}}}}}}}}}"), Err(Limit)),
     ((b"", DEEP, 16, b"x}}}}}}}}}}}}}}}}"), Err(BadValue)),
+    // the last of 17 without words, with others, and without braces; and the last of 16 without words
+    ((b"", DEEP, 16, b"MSGG:{}}}}}}}}}}}}}}}}}"), Err(Limit)),
+    ((b"", DEEP, 16, b"MSGG:{ x =}}}}}}}}}}}}}}}}}"), Err(Limit)),
+    ((b"", DEEP, 16, b"MSGG:x}}}}}}}}}}}}}}}}"), Err(BadValue)),
+    ((b"", DEEP, 15, b"MSGG:{}}}}}}}}}}}}}}}}"), Err(BadValue)),
 ];
 
 #[test]

@@ -172,10 +172,15 @@ fn a_sum_is_of_one_kind(rt: HostRuntime) -> Result<(), Fail> {
 
 // ---- what is not there
 fn copying(alloc: Global, name: &[u8]) -> Result<Template, Fail> {
+    giving(alloc, Given::Property(text(alloc, name)?))
+}
+
+// A message with one field, which gets this.
+fn giving(alloc: Global, given: Given) -> Result<Template, Fail> {
     let mut fields = TemplateFields::new(alloc);
     fields.add(TemplateField {
         name: text(alloc, b"copy")?,
-        given: Given::Property(text(alloc, name)?),
+        given,
     })?;
     Ok(Template {
         what: Code(21),
@@ -290,10 +295,26 @@ fn names_copied(alloc: Global, depth: u32) -> Result<Option<u32>, Fail> {
     Ok(left.1)
 }
 
+// How many fields a reply has whose only one is given a message so deep.
+fn names_given(alloc: Global, depth: u32) -> Result<Option<u32>, Fail> {
+    let values = Values::alone(alloc, nested(alloc, depth)?)?;
+    let message = giving(alloc, Given::Values(values))?;
+    let left = left_by(alloc, Value::Int32(5), Action::Reply { message })?;
+    Ok(left.1)
+}
+
+fn names_left(alloc: Global) -> Result<[Option<u32>; 4], Fail> {
+    Ok([
+        names_copied(alloc, 15)?,
+        names_copied(alloc, 16)?,
+        names_given(alloc, 15)?,
+        names_given(alloc, 16)?,
+    ])
+}
+
 // A value that no message can hold is left out.
 #[test]
 fn a_template_leaves_out_what_is_too_deep(rt: HostRuntime) -> Result<(), Fail> {
-    let copied = [names_copied(rt.alloc(), 15)?, names_copied(rt.alloc(), 16)?];
-    assert_eq!(rt; copied, [Some(1), Some(0)]);
+    assert_eq!(rt; names_left(rt.alloc())?, [Some(1), Some(0), Some(1), Some(0)]);
     Ok(())
 }

@@ -187,11 +187,13 @@ fn full(alloc: Global) -> Result<Values, Fail> {
 }
 
 // What a value that is too deep is refused for: alone, beside another one, beside one of another kind, and
-// beside as many as there can be; and one of another kind beside those.
-fn value_faults(alloc: Global) -> Result<[Option<ValuesFault>; 6], Fail> {
+// beside as many as there can be; and one of another kind beside those. Then, beside one that is too deep
+// itself and was taken alone, another such one, and one that is not.
+fn value_faults(alloc: Global) -> Result<[Option<ValuesFault>; 8], Fail> {
     let mut values = Values::one(alloc, deep(alloc, 15)?)?;
     let mut other = Values::one(alloc, Value::Bool(true))?;
     let mut full = full(alloc)?;
+    let mut alone = Values::alone(alloc, deep(alloc, 16)?)?;
     Ok([
         Values::one(alloc, deep(alloc, 16)?).err(),
         values.push(deep(alloc, 16)?).err(),
@@ -199,6 +201,8 @@ fn value_faults(alloc: Global) -> Result<[Option<ValuesFault>; 6], Fail> {
         full.push(deep(alloc, 16)?).err(),
         full.push(Value::Bool(true)).err(),
         values.push(deep(alloc, 15)?).err(),
+        alone.push(deep(alloc, 16)?).err(),
+        alone.push(deep(alloc, 15)?).err(),
     ])
 }
 
@@ -222,6 +226,8 @@ fn kinds_are_tested_before_how_many_and_that_before_depth(rt: HostRuntime) -> Re
         Some(ValuesFault::BadType),
         Some(ValuesFault::ValueLimit),
         Some(ValuesFault::BadType),
+        None,
+        Some(ValuesFault::TooDeep),
         None,
     ];
     assert_eq!(rt; value_faults(rt.alloc())?, wanted);

@@ -3,11 +3,12 @@ ghost use Rattle.std.specs.Prelude.{◌≡◌, false};
 ghost use Rattle.ak_turn.specs.Steps.{IsNewName};
 ghost use Rattle.ak_port.specs.PortCalls.{CanTake};
 
-use super::calls::{Said, put, take_first, take_one};
+use super::calls::{Said, put, put_at_turn, take_first, take_one};
 use ak_base::{Code, NoMemory, ThreadId};
 use ak_port::{
     CloseAnswer, Port, PortBook, PortEvent, TakeAnswer, a_write_has_one_answer, close, make,
-    nothing_is_written_after_shut, ports_stay_within_limits, written_is_taken_or_pending,
+    new_seats_can_take, nothing_comes_after_the_rest, nothing_is_written_after_shut,
+    ports_stay_within_limits, takes_go_on, written_is_taken_or_pending,
 };
 use ak_turn::{Book, Clock, Seat};
 use std::alloc::Global;
@@ -27,10 +28,24 @@ fn write_three<R: Wait>(rt: &R, alloc: Global) -> Result<[Said; 3], Fail> {
     Ok([first, second, third])
 }
 
+// What two writes answer at a port of capacity 1 and life 3, each in a turn that is taken first.
+fn write_two_at_turns<R: Wait>(rt: &R, alloc: Global) -> Result<[Said; 2], Fail> {
+    let mut clock = Clock {
+        thread: ThreadId(0),
+        time: 0,
+    };
+    let (port, mut seat) = make(alloc, 1, 3, ThreadId(0), &mut clock)?;
+    let first = put_at_turn(rt, alloc, &port, &mut seat, &mut clock, 1)?;
+    let second = put_at_turn(rt, alloc, &port, &mut seat, &mut clock, 2)?;
+    Ok([first, second])
+}
+
 #[test]
 fn a_port_of_capacity_2_and_life_2(rt: HostRuntime) -> Result<(), Fail> {
-    let told = [Said::Wrote(0), Said::Wrote(1), Said::Spent];
-    assert_eq!(rt; write_three(&rt, rt.alloc())?, told);
+    let alloc = rt.alloc();
+    let told = (write_three(&rt, alloc)?, write_two_at_turns(&rt, alloc)?);
+    let three = [Said::Wrote(0), Said::Wrote(1), Said::Spent];
+    assert_eq!(rt; told, (three, [Said::Wrote(0), Said::Full]));
     Ok(())
 }
 
@@ -219,4 +234,7 @@ fn the_laws_of_ports_are_called() {
     nothing_is_written_after_shut();
     ports_stay_within_limits();
     a_write_has_one_answer();
+    takes_go_on();
+    new_seats_can_take();
+    nothing_comes_after_the_rest();
 }
