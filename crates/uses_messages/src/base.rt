@@ -6,17 +6,25 @@ use ak_base::{
     is_word_byte, print_int, print_uint, read_int,
 };
 use std::alloc::Global;
+use std::process::Abort;
 use std::test::Fail;
 
 // ---- texts and raw values
-#[test]
-fn takes_texts(rt: HostRuntime) -> Result<(), Fail> {
-    let long = [b'x'; 1025];
-    let text = Text::from_bytes(rt.alloc(), &long[..1024])?;
-    same(&rt, "long", text.as_bytes(), &long[..1024]);
-    let copy = Text::from_bytes(rt.alloc(), "p\u{e9}".as_bytes())?.try_clone()?;
-    let wanted = ("p\u{e9}", [b'p', 0xc3, 0xa9].as_slice());
-    same(&rt, "a copy", (copy.as_str(), copy.as_bytes()), wanted);
+// A text of these bytes has them, and a copy too.
+fn text_is_kept(rt: &impl Abort, alloc: Global, bytes: &[u8]) -> Result<(), Fail> {
+    let text = Text::from_bytes(alloc, bytes)?;
+    let copy = text.try_clone()?;
+    let told = (text.as_bytes(), copy.as_bytes(), copy.as_str().as_bytes());
+    same(rt, ("text", bytes.len()), told, (bytes, bytes, bytes));
+    Ok(())
+}
+
+// The same of a raw value.
+fn raw_is_kept(rt: &impl Abort, alloc: Global, bytes: &[u8]) -> Result<(), Fail> {
+    let raw = Raw::from_bytes(alloc, bytes)?;
+    let copy = raw.try_clone()?;
+    let told = (raw.as_bytes(), copy.as_bytes());
+    same(rt, ("raw", bytes.len()), told, (bytes, bytes));
     Ok(())
 }
 
@@ -24,95 +32,76 @@ fn text_fault(alloc: Global, bytes: &[u8]) -> Option<TextFault> {
     Text::from_bytes(alloc, bytes).err()
 }
 
-#[test]
-fn refuses_bytes(rt: HostRuntime) {
-    let told = [
-        text_fault(rt.alloc(), &[b'x'; 1025]),
-        text_fault(rt.alloc(), &[0xff; 1025]),
-        text_fault(rt.alloc(), &[0xff, 0]),
-        text_fault(rt.alloc(), &[0x41, 0]),
-    ];
-    let wanted = [
-        TextFault::TooLong,
-        TextFault::TooLong,
-        TextFault::NotUtf8,
-        TextFault::Zero,
-    ];
-    same(&rt, "long, long and bad, bad, zero", told, wanted.map(Some));
-}
-
-#[test]
-fn raw_values_have_at_most_1024_bytes(rt: HostRuntime) -> Result<(), Fail> {
-    let long = [0xff; 1024];
-    let raw = Raw::from_bytes(rt.alloc(), &long)?;
-    same(&rt, "long", raw.as_bytes(), long.as_slice());
-    let copy = raw.try_clone()?;
-    same(&rt, "a copy", copy.as_bytes(), long.as_slice());
-    Ok(())
-}
-
 fn raw_fault(alloc: Global, bytes: &[u8]) -> Option<RawFault> {
     Raw::from_bytes(alloc, bytes).err()
 }
 
 #[test]
-fn a_raw_value_of_1025_bytes_is_refused(rt: HostRuntime) {
-    let fault = raw_fault(rt.alloc(), &[0xff; 1025]);
-    same(&rt, "1025", fault, Some(RawFault::TooLong));
-}
-
-// ---- bytes and items
-#[test]
-fn holds_a_vec(rt: HostRuntime) -> Result<(), Fail> {
-    let items = Items::from_vec(vec![in rt.alloc(); 3u8, 1, 2]?);
-    same(&rt, "items", items.as_slice(), [3, 1, 2].as_slice());
-    let vec = items.into_vec();
-    same(&rt, "vec", vec.as_slice(), [3, 1, 2].as_slice());
+fn texts_and_raw_values_have_at_most_1024_bytes(rt: HostRuntime) -> Result<(), Fail> {
+    let alloc = rt.alloc();
+    text_is_kept(&rt, alloc, &[b'x'; 1024])?;
+    text_is_kept(&rt, alloc, b"p\xc3\xa9")?;
+    raw_is_kept(&rt, alloc, &[0xff; 1024])?;
+    let told = (
+        text_fault(alloc, &[b'x'; 1025]),
+        text_fault(alloc, &[0xff; 1025]),
+        text_fault(alloc, &[0xff, 0]),
+        text_fault(alloc, &[0x41, 0]),
+        raw_fault(alloc, &[0xff; 1025]),
+    );
+    let wanted = (
+        Some(TextFault::TooLong),
+        Some(TextFault::TooLong),
+        Some(TextFault::NotUtf8),
+        Some(TextFault::Zero),
+        Some(RawFault::TooLong),
+    );
+    same(&rt, "long, long and bad, bad, zero, raw", told, wanted);
     Ok(())
 }
 
-fn abc(alloc: Global) -> Result<Bytes, NoMemory> {
-    let mut out = Bytes::new(alloc);
+// ---- bytes and items
+// The numbers 3, 1 and 2 are held, and given back.
+fn items_are_held(rt: &impl Abort, alloc: Global) -> Result<(), Fail> {
+    let items = Items::from_vec(vec![in alloc; 3u8, 1, 2]?);
+    same(rt, "items", items.as_slice(), [3, 1, 2].as_slice());
+    let vec = items.into_vec();
+    same(rt, "vec", vec.as_slice(), [3, 1, 2].as_slice());
+    Ok(())
+}
+
+// Bytes that have none yet grow to `abc`, are overwritten and cleared.
+fn bytes_are_changed(rt: &impl Abort, label: &str, mut out: Bytes) -> Result<(), NoMemory> {
     out.push(b'a')?;
     out.extend(b"bc")?;
     out.extend(b"")?;
-    Ok(out)
-}
-
-#[test]
-fn grows_and_is_overwritten(rt: HostRuntime) -> Result<(), Fail> {
-    let mut out = abc(rt.alloc())?;
-    same(&rt, "abc", out.as_slice(), b"abc".as_slice());
+    same(rt, label, out.as_slice(), b"abc".as_slice());
     if out.len() == 3 {
         out.overwrite(1, b"xy");
     }
     same(
-        &rt,
-        "axy",
+        rt,
+        label,
         (out.as_slice(), out.len()),
         (b"axy".as_slice(), 3),
     );
-    Ok(())
-}
-
-#[test]
-fn is_cleared(rt: HostRuntime) -> Result<(), Fail> {
-    let mut out = abc(rt.alloc())?;
     out.clear();
-    same(&rt, "cleared", out.as_slice(), b"".as_slice());
+    same(rt, label, out.as_slice(), b"".as_slice());
     Ok(())
 }
 
 #[test]
-fn grows_past_its_capacity(rt: HostRuntime) -> Result<(), Fail> {
-    let mut out = Bytes::with_capacity(rt.alloc(), 2)?;
-    out.extend(b"abc")?;
-    same(&rt, "abc", out.as_slice(), b"abc".as_slice());
+fn items_and_bytes_are_held_and_changed(rt: HostRuntime) -> Result<(), Fail> {
+    let alloc = rt.alloc();
+    items_are_held(&rt, alloc)?;
+    bytes_are_changed(&rt, "new", Bytes::new(alloc))?;
+    // they grow past their capacity
+    bytes_are_changed(&rt, "room for 2", Bytes::with_capacity(alloc, 2)?)?;
     Ok(())
 }
 
 // ---- errors
-const ERRORS: [(KitError, i32, &str); 20] = [
+static ERRORS: [(KitError, i32, &str); 20] = [
     (KitError::Ok, 0, "B_OK"),
     (KitError::NoMemory, -1, "B_NO_MEMORY"),
     (KitError::BadType, -2, "B_BAD_TYPE"),
@@ -140,167 +129,126 @@ const ERRORS: [(KitError, i32, &str); 20] = [
 ];
 
 #[test]
-fn numbers_and_names(rt: HostRuntime) {
-    for (error, number, name) in ERRORS {
-        same(&rt, name, (error.number(), error.name()), (number, name));
+fn errors_have_numbers_and_names(rt: HostRuntime) {
+    for (error, number, name) in &ERRORS {
+        same(&rt, *name, (error.number(), error.name()), (*number, *name));
     }
 }
 
-// ---- codes
-const CODES: [(u32, &[u8]); 5] = [
-    (0x5047_4554, b"'PGET'"),
-    (0, b"0x00000000"),
-    (0x2741_4141, b"0x27414141"),
-    (0x4141_415C, b"0x4141415c"),
-    (0x207E_5F21, b"' ~_!'"),
+// ---- codes and numbers
+// What is printed.
+#[derive(Clone, Copy)]
+enum Printed {
+    Code(Code),
+    Int(i64),
+    Uint(u64),
+}
+
+static PRINTED: [(Printed, &[u8]); 25] = [
+    (Printed::Code(Code(0x5047_4554)), b"'PGET'"),
+    (Printed::Code(Code(0)), b"0x00000000"),
+    (Printed::Code(Code(0x2741_4141)), b"0x27414141"),
+    (Printed::Code(Code(0x4141_415C)), b"0x4141415c"),
+    (Printed::Code(Code(0x207E_5F21)), b"' ~_!'"),
+    (Printed::Code(Code::GET), b"'PGET'"),
+    (Printed::Code(Code::SET), b"'PSET'"),
+    (Printed::Code(Code::COUNT), b"'PCNT'"),
+    (Printed::Code(Code::CREATE), b"'PCRT'"),
+    (Printed::Code(Code::DELETE), b"'PDEL'"),
+    (Printed::Code(Code::EXECUTE), b"'PEXE'"),
+    (Printed::Code(Code::SUITES), b"'SUIT'"),
+    (Printed::Code(Code::REPLY), b"'RPLY'"),
+    (Printed::Code(Code::NO_REPLY), b"'NONE'"),
+    (Printed::Code(Code::NOT_UNDERSTOOD), b"'MNOT'"),
+    (Printed::Code(Code::QUIT_REQUESTED), b"'_QRQ'"),
+    (Printed::Code(Code::ARGV_RECEIVED), b"'_ARG'"),
+    (Printed::Code(Code::READY_TO_RUN), b"'_RTR'"),
+    (Printed::Int(0), b"0"),
+    (Printed::Int(-1), b"-1"),
+    (Printed::Int(3), b"3"),
+    (Printed::Int(2_147_483_647), b"2147483647"),
+    (Printed::Int(-2_147_483_648), b"-2147483648"),
+    (Printed::Int(i64::MIN), b"-9223372036854775808"),
+    (Printed::Uint(u64::MAX), b"18446744073709551615"),
 ];
 
-// Whether that text is printed of the code.
-fn is_printed(alloc: Global, code: Code, text: &[u8]) -> Result<bool, NoMemory> {
+// Whether that text is printed.
+fn is_printed(alloc: Global, printed: Printed, text: &[u8]) -> Result<bool, NoMemory> {
     let mut out = Bytes::new(alloc);
-    code.print(&mut out)?;
+    match printed {
+        Printed::Code(code) => code.print(&mut out)?,
+        Printed::Int(n) => print_int(n, &mut out)?,
+        Printed::Uint(n) => print_uint(n, &mut out)?,
+    }
     Ok(out.as_slice() == text)
 }
 
-#[test]
-fn prints_and_reads_codes(rt: HostRuntime) {
-    for (number, text) in CODES {
-        let code = Code(number);
-        let told = (is_printed(rt.alloc(), code, text), Code::read(text));
-        same(&rt, code, told, (Ok(true), Some(code)));
+// What a text is read as: a code or a number, or neither.
+type Meaning = (Option<Code>, Option<i128>);
+
+fn read(text: &[u8]) -> Meaning {
+    (Code::read(text), read_int(text))
+}
+
+fn meaning_of(printed: Printed) -> Meaning {
+    match printed {
+        Printed::Code(code) => (Some(code), None),
+        Printed::Int(n) => (None, Some(i128::from(n))),
+        Printed::Uint(n) => (None, Some(i128::from(n))),
     }
 }
 
-const NO_CODES: [&[u8]; 10] = [
-    b"0X50474554",
-    b"0x5047455",
-    b"'PGE'",
-    b"PGET",
-    b"0x5047455G",
-    b"0xABCDEF00",
-    b"'PG'T'",
-    b"'PG\\T'",
-    b"'PGETS'",
-    b"",
+// Texts that are not printed, and what they are read as.
+static NOT_PRINTED: [(&[u8], Meaning); 21] = [
+    (b"0x50474554", (Some(Code(0x5047_4554)), None)),
+    (b"0X50474554", (None, None)),
+    (b"0x5047455", (None, None)),
+    (b"'PGE'", (None, None)),
+    (b"PGET", (None, None)),
+    (b"0x5047455G", (None, None)),
+    (b"0xABCDEF00", (None, None)),
+    (b"'PG'T'", (None, None)),
+    (b"'PG\\T'", (None, None)),
+    (b"'PGETS'", (None, None)),
+    (b"", (None, None)),
+    (
+        b"99999999999999999999",
+        (None, Some(99_999_999_999_999_999_999)),
+    ),
+    (b"100000000000000000000", (None, None)),
+    (b"+3", (None, None)),
+    (b"03", (None, None)),
+    (b"00", (None, None)),
+    (b"-0", (None, None)),
+    (b"-03", (None, None)),
+    (b"-", (None, None)),
+    (b"--1", (None, None)),
+    (b"1a", (None, None)),
 ];
 
 #[test]
-fn other_forms_of_a_code_are_refused(rt: HostRuntime) {
-    let code = Code::read(b"0x50474554");
-    same(&rt, "0x50474554", code, Some(Code(0x5047_4554)));
-    for text in NO_CODES {
-        same(&rt, text, Code::read(text), None);
+fn codes_and_numbers_are_printed_and_read(rt: HostRuntime) {
+    for (printed, text) in &PRINTED {
+        let told = (is_printed(rt.alloc(), *printed, text), read(text));
+        same(&rt, *text, told, (Ok(true), meaning_of(*printed)));
     }
-}
-
-const NAMED: [(Code, &[u8]); 13] = [
-    (Code::GET, b"'PGET'"),
-    (Code::SET, b"'PSET'"),
-    (Code::COUNT, b"'PCNT'"),
-    (Code::CREATE, b"'PCRT'"),
-    (Code::DELETE, b"'PDEL'"),
-    (Code::EXECUTE, b"'PEXE'"),
-    (Code::SUITES, b"'SUIT'"),
-    (Code::REPLY, b"'RPLY'"),
-    (Code::NO_REPLY, b"'NONE'"),
-    (Code::NOT_UNDERSTOOD, b"'MNOT'"),
-    (Code::QUIT_REQUESTED, b"'_QRQ'"),
-    (Code::ARGV_RECEIVED, b"'_ARG'"),
-    (Code::READY_TO_RUN, b"'_RTR'"),
-];
-
-#[test]
-fn names_codes(rt: HostRuntime) {
-    for (code, text) in NAMED {
-        same(&rt, text, Code::read(text), Some(code));
-    }
-}
-
-// ---- numbers
-const INTS: [(i64, &[u8]); 6] = [
-    (0, b"0"),
-    (-1, b"-1"),
-    (3, b"3"),
-    (2_147_483_647, b"2147483647"),
-    (-2_147_483_648, b"-2147483648"),
-    (i64::MIN, b"-9223372036854775808"),
-];
-
-// Whether that text is printed of the number.
-fn is_int(alloc: Global, n: i64, text: &[u8]) -> Result<bool, NoMemory> {
-    let mut out = Bytes::new(alloc);
-    print_int(n, &mut out)?;
-    Ok(out.as_slice() == text)
-}
-
-#[test]
-fn prints_and_reads_ints(rt: HostRuntime) {
-    for (n, text) in INTS {
-        let told = (is_int(rt.alloc(), n, text), read_int(text));
-        same(&rt, n, told, (Ok(true), Some(i128::from(n))));
-    }
-}
-
-// What is printed of the greatest number, and what is read of that text.
-fn is_greatest(alloc: Global, text: &[u8]) -> Result<(bool, Option<i128>), NoMemory> {
-    let mut out = Bytes::new(alloc);
-    print_uint(u64::MAX, &mut out)?;
-    Ok((out.as_slice() == text, read_int(out.as_slice())))
-}
-
-#[test]
-fn prints_and_reads_the_greatest_number(rt: HostRuntime) {
-    let told = is_greatest(rt.alloc(), b"18446744073709551615");
-    same(
-        &rt,
-        "u64",
-        told,
-        Ok((true, Some(18_446_744_073_709_551_615))),
-    );
-}
-
-const NO_INTS: [&[u8]; 10] = [
-    b"+3",
-    b"03",
-    b"00",
-    b"-0",
-    b"-03",
-    b"",
-    b"-",
-    b"--1",
-    b"1a",
-    b"100000000000000000000",
-];
-
-#[test]
-fn other_forms_of_a_number_are_refused(rt: HostRuntime) {
-    let longest = Some(99_999_999_999_999_999_999);
-    same(&rt, "20 digits", read_int(b"99999999999999999999"), longest);
-    for text in NO_INTS {
-        same(&rt, text, read_int(text), None);
+    for (text, meaning) in &NOT_PRINTED {
+        same(&rt, *text, read(text), *meaning);
     }
 }
 
 // ---- words
-#[test]
-fn tells_words(rt: HostRuntime) {
-    let rows: [(&[u8], bool); 9] = [
-        (b"a", true),
-        (b"a/b-c_d.e:f", true),
-        (b"Az09", true),
-        (&[b'a'; 64], true),
-        (&[b'a'; 65], false),
-        (b"", false),
-        (b"a b", false),
-        (b"a\"b", false),
-        (&[0xc3, 0xa9], false),
-    ];
-    for (bytes, wanted) in rows {
-        same(&rt, bytes, is_word(bytes), wanted);
-    }
-    let told = (is_word_byte(b'/'), is_word_byte(b'@'));
-    same(&rt, "/, @", told, (true, false));
-}
+static WORDS: [(&[u8], bool); 9] = [
+    (b"a", true),
+    (b"a/b-c_d.e:f", true),
+    (b"Az09", true),
+    (&[b'a'; 64], true),
+    (&[b'a'; 65], false),
+    (b"", false),
+    (b"a b", false),
+    (b"a\"b", false),
+    (&[0xc3, 0xa9], false),
+];
 
 // The letter of its form, its text, and its team.
 fn told(word: &AppWord) -> (u8, &[u8], u32) {
@@ -322,18 +270,29 @@ fn word(alloc: Global, form: u8, text: &[u8], team: u32) -> Result<AppWord, Text
     }
 }
 
-const APP_WORDS: [(u8, &[u8], u32); 4] = [
+static APP_WORDS: [(u8, &[u8], u32); 4] = [
     (b'p', b"/boot/demo", 0),
     (b's', b"application/x-vnd.demo", 0),
     (b'n', b"demo", 0),
     (b't', b"", 7),
 ];
 
+// A copy of a word is told as the word is.
+fn is_copied(rt: &impl Abort, alloc: Global, row: (u8, &[u8], u32)) -> Result<(), Fail> {
+    let copy = word(alloc, row.0, row.1, row.2)?.try_clone()?;
+    same(rt, "a copy", told(&copy), row);
+    Ok(())
+}
+
 #[test]
-fn words_are_copied(rt: HostRuntime) -> Result<(), Fail> {
-    for (form, text, team) in APP_WORDS {
-        let copy = word(rt.alloc(), form, text, team)?.try_clone()?;
-        same(&rt, text, told(&copy), (form, text, team));
+fn words_are_told_and_copied(rt: HostRuntime) -> Result<(), Fail> {
+    for (bytes, wanted) in &WORDS {
+        same(&rt, *bytes, is_word(bytes), *wanted);
+    }
+    let told = (is_word_byte(b'/'), is_word_byte(b'@'));
+    same(&rt, "/, @", told, (true, false));
+    for row in &APP_WORDS {
+        is_copied(&rt, rt.alloc(), *row)?;
     }
     Ok(())
 }

@@ -1,14 +1,15 @@
 // Filters, and lists of them.
 
 use crate::compare::same;
-use ak_base::{Code, Text};
+use ak_base::{Code, NoMemory, Text};
 use ak_filter::{DeliveryIs, Filter, FilterFault, FilterList, Head, SourceIs, admits};
 use std::alloc::Global;
+use std::process::Abort;
 use std::test::Fail;
 
-const SOURCES: [SourceIs; 3] = [SourceIs::Any, SourceIs::Local, SourceIs::Remote];
+static SOURCES: [SourceIs; 3] = [SourceIs::Any, SourceIs::Local, SourceIs::Remote];
 
-const DELIVERIES: [DeliveryIs; 3] = [DeliveryIs::Any, DeliveryIs::Dropped, DeliveryIs::Programmed];
+static DELIVERIES: [DeliveryIs; 3] = [DeliveryIs::Any, DeliveryIs::Dropped, DeliveryIs::Programmed];
 
 fn filter(what: Option<Code>, source: SourceIs, delivery: DeliveryIs) -> Filter {
     Filter {
@@ -32,7 +33,7 @@ fn admitting(what: Option<Code>, h: &Head) -> [bool; 9] {
 }
 
 // Whether the message is local, whether it was dropped, and which filters admit it.
-const ADMITTED: [(bool, bool, [bool; 9]); 4] = [
+static ADMITTED: [(bool, bool, [bool; 9]); 4] = [
     (
         true,
         true,
@@ -57,148 +58,122 @@ const ADMITTED: [(bool, bool, [bool; 9]); 4] = [
 
 #[test]
 fn each_criterion_is_any_or_fits(rt: HostRuntime) {
-    for (local, dropped, wanted) in ADMITTED {
+    for (local, dropped, wanted) in &ADMITTED {
         let head = Head {
             what: Code::GET,
-            local,
-            dropped,
+            local: *local,
+            dropped: *dropped,
         };
         let told = [
             admitting(None, &head),
             admitting(Some(Code::GET), &head),
             admitting(Some(Code::SET), &head),
         ];
-        same(&rt, (local, dropped), told, [wanted, wanted, [false; 9]]);
+        same(
+            &rt,
+            (*local, *dropped),
+            told,
+            [*wanted, *wanted, [false; 9]],
+        );
     }
 }
 
-// A filter that has each part.
-fn whole(alloc: Global) -> Result<Filter, Fail> {
-    Ok(Filter {
+// A filter that has each part, with that name.
+fn whole(to: Option<Text>) -> Filter {
+    Filter {
         what: Some(Code::GET),
         source: SourceIs::Remote,
         delivery: DeliveryIs::Dropped,
         skip: true,
-        to: Some(Text::from_bytes(alloc, b"other")?),
+        to,
         set_what: Some(Code::SET),
-    })
+    }
 }
 
-// The parts beside the name.
-fn told(filter: &Filter) -> (Option<Code>, SourceIs, DeliveryIs, bool, Option<Code>) {
+// The parts of a filter, of which the name is the last.
+type Parts<'a> = (
+    Option<Code>,
+    SourceIs,
+    DeliveryIs,
+    bool,
+    Option<Code>,
+    Option<&'a str>,
+);
+
+fn told(filter: &Filter) -> Parts<'_> {
+    let name = match &filter.to {
+        Some(name) => Some(name.as_str()),
+        None => None,
+    };
     (
         filter.what,
         filter.source,
         filter.delivery,
         filter.skip,
         filter.set_what,
+        name,
     )
 }
 
-fn name_of(filter: &Filter) -> Option<&[u8]> {
-    match &filter.to {
-        Some(name) => Some(name.as_bytes()),
-        None => None,
-    }
-}
-
-#[test]
-fn a_copy_has_each_part(rt: HostRuntime) -> Result<(), Fail> {
-    let copy = whole(rt.alloc())?.try_clone()?;
-    let parts = (
+// A copy of that filter has each part.
+fn is_copied(rt: &impl Abort, filter: Filter, name: Option<&str>) -> Result<(), NoMemory> {
+    let copy = filter.try_clone()?;
+    let wanted = (
         Some(Code::GET),
         SourceIs::Remote,
         DeliveryIs::Dropped,
         true,
         Some(Code::SET),
+        name,
     );
-    let name = Some(b"other".as_slice());
-    same(&rt, "a copy", (told(&copy), name_of(&copy)), (parts, name));
+    same(rt, "a copy", told(&copy), wanted);
     Ok(())
 }
 
-// Whether a copy of a filter without a name has none.
-fn has_no_name(alloc: Global) -> Result<bool, Fail> {
-    let mut filter = whole(alloc)?;
-    filter.to = None;
-    Ok(filter.try_clone()?.to.is_none())
-}
-
 #[test]
-fn a_copy_of_a_filter_without_a_name_has_none(rt: HostRuntime) -> Result<(), Fail> {
-    same(&rt, "none", has_no_name(rt.alloc())?, true);
-    Ok(())
+fn a_copy_has_each_part(rt: HostRuntime) -> Result<(), Fail> {
+    is_copied(&rt, whole(None), None)?;
+    let name = Text::from_bytes(rt.alloc(), b"other")?;
+    Ok(is_copied(&rt, whole(Some(name)), Some("other"))?)
 }
 
-fn skips(what: u32) -> Filter {
-    Filter {
-        what: Some(Code(what)),
-        source: SourceIs::Any,
-        delivery: DeliveryIs::Any,
-        skip: true,
-        to: None,
-        set_what: None,
-    }
+// Adds a filter of that code.
+fn push(list: &mut FilterList, code: u32) -> Result<(), FilterFault> {
+    list.push(filter(Some(Code(code)), SourceIs::Any, DeliveryIs::Any))
 }
 
-// The code of the filter at that place.
-fn code_at(list: &FilterList, place: usize) -> Option<Code> {
-    list.as_slice().get(place).and_then(|filter| filter.what)
-}
+// How many filters there are, and the first of the codes from 0 to 31 that is not that of the filter at that place.
+type Seen = (usize, Option<u32>);
 
-#[test]
-fn a_new_list_is_empty(rt: HostRuntime) {
-    let list = FilterList::new(rt.alloc());
-    same(&rt, "len", list.as_slice().len(), 0);
-}
-
-// A list of 32 filters, with the codes from 0 on.
-fn with_32(alloc: Global) -> Result<FilterList, Fail> {
-    let mut list = FilterList::new(alloc);
-    for what in 0..32 {
-        list.push(skips(what))?;
-    }
-    Ok(list)
-}
-
-// The first of the codes from 0 to 31 that is not that of the filter at that place.
-fn first_other(list: &FilterList) -> Option<u32> {
+fn seen(list: &FilterList) -> Seen {
+    let filters = list.as_slice();
     for code in 0..32u32 {
-        if code_at(list, code as usize) != Some(Code(code)) {
-            return Some(code);
+        let what = filters.get(code as usize).and_then(|filter| filter.what);
+        if what != Some(Code(code)) {
+            return (filters.len(), Some(code));
         }
     }
-    None
+    (filters.len(), None)
+}
+
+// A new list, a copy of it with the codes 0 and 1, the answer where there are 32 and one more is added, and the list then.
+fn lists(alloc: Global) -> Result<(Seen, Seen, Result<(), FilterFault>, Seen), Fail> {
+    let mut list = FilterList::new(alloc);
+    let empty = seen(&list);
+    push(&mut list, 0)?;
+    push(&mut list, 1)?;
+    let copy = list.try_clone()?;
+    for code in 2..32 {
+        push(&mut list, code)?;
+    }
+    let answer = push(&mut list, 32);
+    Ok((empty, seen(&copy), answer, seen(&list)))
 }
 
 #[test]
 fn a_list_takes_32_filters(rt: HostRuntime) -> Result<(), Fail> {
-    let mut list = with_32(rt.alloc())?;
-    let answer = list.push(skips(32));
-    let told = (answer, list.as_slice().len(), first_other(&list));
-    same(
-        &rt,
-        "a filter more",
-        told,
-        (Err(FilterFault::FilterLimit), 32, None),
-    );
-    Ok(())
-}
-
-// A copy of a list with the codes 1 and 2, made before a third filter is added to the list.
-fn copied_before_more(alloc: Global) -> Result<FilterList, Fail> {
-    let mut list = FilterList::new(alloc);
-    list.push(skips(1))?;
-    list.push(skips(2))?;
-    let copy = list.try_clone()?;
-    list.push(skips(3))?;
-    Ok(copy)
-}
-
-#[test]
-fn a_copy_has_the_same_filters(rt: HostRuntime) -> Result<(), Fail> {
-    let copy = copied_before_more(rt.alloc())?;
-    let told = (copy.as_slice().len(), code_at(&copy, 0), code_at(&copy, 1));
-    same(&rt, "a copy", told, (2, Some(Code(1)), Some(Code(2))));
+    let limit = Err(FilterFault::FilterLimit);
+    let wanted = ((0, Some(0)), (2, Some(2)), limit, (32, None));
+    same(&rt, "new, copy, 33, list", lists(rt.alloc())?, wanted);
     Ok(())
 }

@@ -1,14 +1,15 @@
 // Messages as flat text, and back.
 
 use crate::compare::same;
-use crate::messages::number;
-use ak_base::{Bytes, Code, NoMemory, Raw, Text};
+use crate::plain::{Field, Plain, message, number, value};
+use ak_base::{Bytes, Code};
 use ak_flatten::{FlatFault, FlatKind, FlattenFault, UnflattenFault, flat_len, flatten, unflatten};
-use ak_message::{AddFault, Address, Message, Target, Value};
+use ak_message::{Message, Target};
 use std::alloc::Global;
 use std::process::Abort;
 use std::test::Fail;
 
+// ---- what is written and read again
 // PGET without fields.
 const QUESTION: [u8; 12] = *b"AKM1PGET\0\0\0\0";
 
@@ -16,176 +17,118 @@ const QUESTION: [u8; 12] = *b"AKM1PGET\0\0\0\0";
 const REPLY: [u8; 47] =
     *b"AKM1RPLY\0\0\0\x02LONG\x06result\x01\0\x04\0\0\0\x03LONG\x05error\x01\0\x04\0\0\0\0";
 
-fn reply(alloc: Global) -> Result<Message, AddFault> {
-    let mut message = Message::new(alloc, Code::REPLY);
-    message.add(b"result", Value::Int32(3))?;
-    message.add(b"error", Value::Int32(0))?;
-    Ok(message)
-}
+// A message, and its flat text.
+type Row = (Code, &'static [Field], &'static [u8]);
 
-// A message with a text of 1,024 bytes, so many times.
-fn long(alloc: Global, times: u32) -> Result<Message, Fail> {
-    let mut message = Message::new(alloc, Code(1));
-    for _ in 0..times {
-        message.add(b"t", Value::Text(Text::from_bytes(alloc, &[b'x'; 1024])?))?;
-    }
-    Ok(message)
-}
+// Messages without fields and with two, and then one value of each kind.
+static WRITTEN: [Row; 17] = [
+    (Code::GET, &[], &QUESTION),
+    (
+        Code::REPLY,
+        &[(b"result", Plain::Int32(3)), (b"error", Plain::Int32(0))],
+        &REPLY,
+    ),
+    (
+        Code(7),
+        &[(b"v", Plain::Bool(true))],
+        b"AKM1\0\0\0\x07\0\0\0\x01BOOL\x01v\x01\0\x01\x01",
+    ),
+    (
+        Code(7),
+        &[(b"v", Plain::Bool(false))],
+        b"AKM1\0\0\0\x07\0\0\0\x01BOOL\x01v\x01\0\x01\0",
+    ),
+    (
+        Code(7),
+        &[(b"v", Plain::Int8(-1))],
+        b"AKM1\0\0\0\x07\0\0\0\x01BYTE\x01v\x01\0\x01\xff",
+    ),
+    (
+        Code(7),
+        &[(b"v", Plain::Int16(-2))],
+        b"AKM1\0\0\0\x07\0\0\0\x01SHRT\x01v\x01\0\x02\xff\xfe",
+    ),
+    (
+        Code(7),
+        &[(b"v", Plain::Int32(-3))],
+        b"AKM1\0\0\0\x07\0\0\0\x01LONG\x01v\x01\0\x04\xff\xff\xff\xfd",
+    ),
+    (
+        Code(7),
+        &[(b"v", Plain::Int64(-4))],
+        b"AKM1\0\0\0\x07\0\0\0\x01LLNG\x01v\x01\0\x08\xff\xff\xff\xff\xff\xff\xff\xfc",
+    ),
+    (
+        Code(7),
+        &[(b"v", Plain::UInt8(0xfe))],
+        b"AKM1\0\0\0\x07\0\0\0\x01UBYT\x01v\x01\0\x01\xfe",
+    ),
+    (
+        Code(7),
+        &[(b"v", Plain::UInt16(0x102))],
+        b"AKM1\0\0\0\x07\0\0\0\x01USHT\x01v\x01\0\x02\x01\x02",
+    ),
+    (
+        Code(7),
+        &[(b"v", Plain::UInt32(0x1020304))],
+        b"AKM1\0\0\0\x07\0\0\0\x01ULNG\x01v\x01\0\x04\x01\x02\x03\x04",
+    ),
+    (
+        Code(7),
+        &[(b"v", Plain::UInt64(5))],
+        b"AKM1\0\0\0\x07\0\0\0\x01ULLG\x01v\x01\0\x08\0\0\0\0\0\0\0\x05",
+    ),
+    (
+        Code(7),
+        &[(b"v", Plain::Words(b"hi"))],
+        b"AKM1\0\0\0\x07\0\0\0\x01CSTR\x01v\x01\0\x02hi",
+    ),
+    (
+        Code(7),
+        &[(b"v", Plain::Bare(Code::GET))],
+        b"AKM1\0\0\0\x07\0\0\0\x01MSGG\x01v\x01\0\x0cAKM1PGET\0\0\0\0",
+    ),
+    (
+        Code(7),
+        &[(b"v", Plain::For(Target::Token(2)))],
+        b"AKM1\0\0\0\x07\0\0\0\x01MSNG\x01v\x01\0\x0d\0\0\0\x01\x01\0\0\0\0\0\0\0\x02",
+    ),
+    (
+        Code(7),
+        &[(b"v", Plain::For(Target::Preferred))],
+        b"AKM1\0\0\0\x07\0\0\0\x01MSNG\x01v\x01\0\x0d\0\0\0\x01\0\0\0\0\0\0\0\0\0",
+    ),
+    (
+        Code(7),
+        &[(b"v", Plain::Raw(b"\0"))],
+        b"AKM1\0\0\0\x07\0\0\0\x01RAWT\x01v\x01\0\x01\0",
+    ),
+];
 
 // The flat text of the message that the bytes are a flat text of.
-pub(crate) fn again(alloc: Global, bytes: &[u8]) -> Result<Bytes, Fail> {
+fn again(alloc: Global, bytes: &[u8]) -> Result<Bytes, Fail> {
     let read = unflatten(alloc, bytes)?;
     Ok(flatten(alloc, &read)?)
 }
 
-// How long the flat text is told to be, and how long it is.
-pub(crate) fn lengths(alloc: Global, message: &Message) -> (u64, Result<usize, FlattenFault>) {
-    let written = match flatten(alloc, message) {
-        Ok(bytes) => Ok(bytes.as_slice().len()),
-        Err(fault) => Err(fault),
-    };
-    (flat_len(message), written)
+// That is the flat text of the message, which is read and written again.
+fn is_written(rt: &impl Abort, alloc: Global, row: Row) -> Result<(), Fail> {
+    let (what, fields, flat) = row;
+    let message = message(alloc, what, fields)?;
+    let bytes = flatten(alloc, &message)?;
+    same(
+        rt,
+        flat,
+        (bytes.as_slice(), flat_len(&message)),
+        (flat, flat.len() as u64),
+    );
+    is_read_back(rt, alloc, flat)
 }
 
-// That is the flat text of the message, and so long.
-fn is_written(
-    rt: &impl Abort,
-    alloc: Global,
-    message: &Message,
-    told: &[u8],
-    len: u64,
-) -> Result<(), Fail> {
-    let bytes = flatten(alloc, message)?;
-    same(rt, len, (bytes.as_slice(), flat_len(message)), (told, len));
-    Ok(())
-}
-
-#[test]
-fn messages_are_flattened(rt: HostRuntime) -> Result<(), Fail> {
-    let alloc = rt.alloc();
-    let question = Message::new(alloc, Code::GET);
-    is_written(&rt, alloc, &question, &QUESTION, 12)?;
-    let reply = reply(alloc)?;
-    is_written(&rt, alloc, &reply, &REPLY, 47)
-}
-
-// The same of a message with so many texts of 1,024 bytes.
-fn lengths_of_long(alloc: Global, times: u32) -> Result<(u64, Result<usize, FlattenFault>), Fail> {
-    Ok(lengths(alloc, &long(alloc, times)?))
-}
-
-#[test]
-fn long_messages_are_refused(rt: HostRuntime) -> Result<(), Fail> {
-    let three = lengths_of_long(rt.alloc(), 3)?;
-    let four = lengths_of_long(rt.alloc(), 4)?;
-    let wanted = [(3097, Ok(3097)), (4123, Err(FlattenFault::TooLong))];
-    same(&rt, "three, four", [three, four], wanted);
-    Ok(())
-}
-
-// A value in plain data.
-#[derive(Clone, Copy)]
-enum Plain {
-    Bool(bool),
-    Int8(i8),
-    Int16(i16),
-    Int32(i32),
-    Int64(i64),
-    UInt8(u8),
-    UInt16(u16),
-    UInt32(u32),
-    UInt64(u64),
-    Words(&'static [u8]),
-    // A PGET without fields.
-    Question,
-    // The messenger of looper 1 for that target.
-    For(Target),
-    Raw(&'static [u8]),
-}
-
-fn value(alloc: Global, plain: Plain) -> Result<Value, Fail> {
-    Ok(match plain {
-        Plain::Bool(b) => Value::Bool(b),
-        Plain::Int8(n) => Value::Int8(n),
-        Plain::Int16(n) => Value::Int16(n),
-        Plain::Int32(n) => Value::Int32(n),
-        Plain::Int64(n) => Value::Int64(n),
-        Plain::UInt8(n) => Value::UInt8(n),
-        Plain::UInt16(n) => Value::UInt16(n),
-        Plain::UInt32(n) => Value::UInt32(n),
-        Plain::UInt64(n) => Value::UInt64(n),
-        Plain::Words(words) => Value::Text(Text::from_bytes(alloc, words)?),
-        Plain::Question => Value::from_message(alloc, Message::new(alloc, Code::GET))?,
-        Plain::For(target) => Value::Messenger(Address { looper: 1, target }),
-        Plain::Raw(bytes) => Value::Raw(Raw::from_bytes(alloc, bytes)?),
-    })
-}
-
-// One value of each kind, and what is written of it behind its type code, the name `v` and a 1.
-static VALUES: [(Plain, &[u8]); 15] = [
-    (Plain::Bool(true), b"BOOL\x01v\x01\0\x01\x01"),
-    (Plain::Bool(false), b"BOOL\x01v\x01\0\x01\0"),
-    (Plain::Int8(-1), b"BYTE\x01v\x01\0\x01\xff"),
-    (Plain::Int16(-2), b"SHRT\x01v\x01\0\x02\xff\xfe"),
-    (Plain::Int32(-3), b"LONG\x01v\x01\0\x04\xff\xff\xff\xfd"),
-    (
-        Plain::Int64(-4),
-        b"LLNG\x01v\x01\0\x08\xff\xff\xff\xff\xff\xff\xff\xfc",
-    ),
-    (Plain::UInt8(0xfe), b"UBYT\x01v\x01\0\x01\xfe"),
-    (Plain::UInt16(0x102), b"USHT\x01v\x01\0\x02\x01\x02"),
-    (
-        Plain::UInt32(0x1020304),
-        b"ULNG\x01v\x01\0\x04\x01\x02\x03\x04",
-    ),
-    (Plain::UInt64(5), b"ULLG\x01v\x01\0\x08\0\0\0\0\0\0\0\x05"),
-    (Plain::Words(b"hi"), b"CSTR\x01v\x01\0\x02hi"),
-    (Plain::Question, b"MSGG\x01v\x01\0\x0cAKM1PGET\0\0\0\0"),
-    (
-        Plain::For(Target::Token(2)),
-        b"MSNG\x01v\x01\0\x0d\0\0\0\x01\x01\0\0\0\0\0\0\0\x02",
-    ),
-    (
-        Plain::For(Target::Preferred),
-        b"MSNG\x01v\x01\0\x0d\0\0\0\x01\0\0\0\0\0\0\0\0\0",
-    ),
-    (Plain::Raw(b"\0"), b"RAWT\x01v\x01\0\x01\0"),
-];
-
-// The flat text of a message with that value alone.
-fn alone(alloc: Global, plain: Plain) -> Result<Bytes, Fail> {
-    let mut message = Message::new(alloc, Code(7));
-    message.add(b"v", value(alloc, plain)?)?;
-    Ok(flatten(alloc, &message)?)
-}
-
-// The flat text has one field, which is written so.
-fn has_field(flat: &[u8], written: &[u8]) -> bool {
-    flat.len() == 12 + written.len()
-        && flat.starts_with(b"AKM1\0\0\0\x07\0\0\0\x01")
-        && flat.ends_with(written)
-}
-
-// Whether the value is written so, and read back.
-fn is_alone(alloc: Global, plain: Plain, written: &[u8]) -> Result<[bool; 2], Fail> {
-    let bytes = alone(alloc, plain)?;
-    let again = again(alloc, bytes.as_slice())?;
-    Ok([
-        has_field(bytes.as_slice(), written),
-        again.as_slice() == bytes.as_slice(),
-    ])
-}
-
-#[test]
-fn values_are_written(rt: HostRuntime) -> Result<(), Fail> {
-    for &(plain, written) in &VALUES {
-        same(
-            &rt,
-            written,
-            is_alone(rt.alloc(), plain, written)?,
-            [true; 2],
-        );
-    }
+// The flat text is read, and written again.
+pub(crate) fn is_read_back(rt: &impl Abort, alloc: Global, flat: &[u8]) -> Result<(), Fail> {
+    let bytes = again(alloc, flat)?;
+    same(rt, "again", bytes.as_slice(), flat);
     Ok(())
 }
 
@@ -202,59 +145,74 @@ fn outline_of(alloc: Global, bytes: &[u8]) -> Result<Outline, Fail> {
     ))
 }
 
-#[test]
-fn flat_texts_are_read(rt: HostRuntime) -> Result<(), Fail> {
-    let question = outline_of(rt.alloc(), &QUESTION)?;
-    let reply = outline_of(rt.alloc(), &REPLY)?;
-    let wanted = [
-        (Code::GET, 0, None, None),
-        (Code::REPLY, 2, Some(3), Some(0)),
-    ];
-    same(&rt, "question, reply", [question, reply], wanted);
-    Ok(())
-}
-
-fn with_one_specifier(alloc: Global) -> Result<Message, Fail> {
-    let mut message = Message::new(alloc, Code::GET);
-    message.add(
-        b"specifiers",
-        Value::from_message(alloc, Message::new(alloc, Code(1)))?,
-    )?;
-    Ok(message)
-}
-
-// How many specifiers of the message are popped that the bytes are a flat text of.
-fn popped_in(alloc: Global, bytes: &[u8]) -> Result<u32, Fail> {
-    Ok(unflatten(alloc, bytes)?.popped())
-}
-
 // What is popped of a message, whether its flat text is the one that was written before, and what is popped of the
 // message that is read.
 fn told_of_popped(alloc: Global) -> Result<(u32, bool, u32), Fail> {
-    let mut message = with_one_specifier(alloc)?;
-    let bytes = flatten(alloc, &message)?;
+    let mut message = message(alloc, Code::GET, &[(b"specifiers", Plain::Bare(Code(1)))])?;
+    let before = flatten(alloc, &message)?;
     if message.specifiers() >= 1 {
         message.set_popped(1);
     }
-    let is_same = flatten(alloc, &message)?.as_slice() == bytes.as_slice();
+    let bytes = flatten(alloc, &message)?;
+    let read = unflatten(alloc, bytes.as_slice())?;
     Ok((
         message.popped(),
-        is_same,
-        popped_in(alloc, bytes.as_slice())?,
+        bytes.as_slice() == before.as_slice(),
+        read.popped(),
     ))
 }
 
 #[test]
-fn what_is_popped_is_not_written(rt: HostRuntime) -> Result<(), Fail> {
-    same(&rt, "popped", told_of_popped(rt.alloc())?, (1, true, 0));
+fn messages_are_written_and_read_back(rt: HostRuntime) -> Result<(), Fail> {
+    let alloc = rt.alloc();
+    for row in &WRITTEN {
+        is_written(&rt, alloc, *row)?;
+    }
+    let told = [outline_of(alloc, &QUESTION)?, outline_of(alloc, &REPLY)?];
+    let wanted = [
+        (Code::GET, 0, None, None),
+        (Code::REPLY, 2, Some(3), Some(0)),
+    ];
+    same(&rt, "question, reply", told, wanted);
+    same(&rt, "popped", told_of_popped(alloc)?, (1, true, 0));
     Ok(())
 }
 
-// A flat text of so many messages, each in the field `m` of the next one.
-fn nested(alloc: Global, depth: u32) -> Result<Bytes, NoMemory> {
+// ---- limits
+// How long the flat text is told to be, and how long it is.
+fn lengths(alloc: Global, message: &Message) -> (u64, Result<usize, FlattenFault>) {
+    let written = match flatten(alloc, message) {
+        Ok(bytes) => Ok(bytes.as_slice().len()),
+        Err(fault) => Err(fault),
+    };
+    (flat_len(message), written)
+}
+
+static LONG: [u8; 1024] = [b'x'; 1024];
+
+// The lengths of a message with three texts of 1,024 bytes and a fourth one, if there is one. Where it is not too long, it
+// is read back.
+fn lengths_of_long(
+    rt: &impl Abort,
+    alloc: Global,
+    fourth: Option<&'static [u8]>,
+) -> Result<(u64, Result<usize, FlattenFault>), Fail> {
+    let text: Field = (b"t", Plain::Words(&LONG));
+    let mut message = message(alloc, Code::GET, &[text; 3])?;
+    if let Some(text) = fourth {
+        message.add(b"t", value(alloc, Plain::Words(text))?)?;
+    }
+    if let Ok(bytes) = flatten(alloc, &message) {
+        is_read_back(rt, alloc, bytes.as_slice())?;
+    }
+    Ok(lengths(alloc, &message))
+}
+
+// A flat text in so many messages, each in the field `m` of the next one.
+pub(crate) fn wrapped(alloc: Global, flat: &[u8], depth: u32) -> Result<Bytes, Fail> {
     let mut bytes = Bytes::new(alloc);
-    bytes.extend(&QUESTION)?;
-    for _ in 1..depth {
+    bytes.extend(flat)?;
+    for _ in 0..depth {
         let mut outer = Bytes::new(alloc);
         outer.extend(b"AKM1PGET\0\0\0\x01MSGG\x01m\x01")?;
         outer.extend(&(bytes.as_slice().len().min(9999) as u16).to_be_bytes())?;
@@ -264,34 +222,23 @@ fn nested(alloc: Global, depth: u32) -> Result<Bytes, NoMemory> {
     Ok(bytes)
 }
 
-fn fault_of(alloc: Global, bytes: &[u8]) -> Option<FlatFault> {
+pub(crate) fn fault_of(alloc: Global, bytes: &[u8]) -> Option<FlatFault> {
     match unflatten(alloc, bytes) {
         Err(UnflattenFault::Bad(fault)) => Some(fault),
         _ => None,
     }
 }
 
-// Whether 16 messages are read and written again, and the first fault of 17.
-fn told_of_deep(alloc: Global) -> Result<(bool, Option<FlatFault>), Fail> {
-    let deepest = nested(alloc, 16)?;
-    let again = again(alloc, deepest.as_slice())?;
-    let deeper = nested(alloc, 17)?;
-    let is_read = again.as_slice() == deepest.as_slice();
-    Ok((is_read, fault_of(alloc, deeper.as_slice())))
-}
-
-#[test]
-fn messages_stand_16_deep(rt: HostRuntime) -> Result<(), Fail> {
+// 16 messages in one another are read and written again; 17 are not read.
+fn are_16_deep(rt: &impl Abort, alloc: Global) -> Result<(), Fail> {
+    let deepest = wrapped(alloc, &QUESTION, 15)?;
+    is_read_back(rt, alloc, deepest.as_slice())?;
+    let deeper = wrapped(alloc, &QUESTION, 16)?;
     let fault = FlatFault {
         place: 336,
         kind: FlatKind::TooDeep,
     };
-    same(
-        &rt,
-        "16, 17",
-        told_of_deep(rt.alloc())?,
-        (true, Some(fault)),
-    );
+    same(rt, "17", fault_of(alloc, deeper.as_slice()), Some(fault));
     Ok(())
 }
 
@@ -384,18 +331,36 @@ static FAULTY: [Faulty<'static>; 26] = [
 ];
 
 fn first_faults_are_told(rt: &impl Abort, alloc: Global, rows: &[Faulty<'_>]) {
-    for &(bytes, place, kind) in rows {
-        let fault = FlatFault { place, kind };
-        same(rt, bytes, fault_of(alloc, bytes), Some(fault));
+    for (bytes, place, kind) in rows {
+        let fault = FlatFault {
+            place: *place,
+            kind: *kind,
+        };
+        same(rt, *bytes, fault_of(alloc, bytes), Some(fault));
     }
 }
 
 #[test]
-fn the_first_fault_is_told(rt: HostRuntime) -> Result<(), Fail> {
+fn long_deep_and_faulty_texts_are_refused(rt: HostRuntime) -> Result<(), Fail> {
     let alloc = rt.alloc();
-    let long = vec![in alloc; 0u8; 4097]?;
-    let too_long = (long.as_slice(), 4096, FlatKind::TooLong);
-    let not_longer = (&long[..4096], 0, FlatKind::Magic);
+    let told = [
+        lengths_of_long(&rt, alloc, None)?,
+        lengths_of_long(&rt, alloc, Some(&[b'x'; 997]))?,
+        lengths_of_long(&rt, alloc, Some(&[b'x'; 998]))?,
+        lengths_of_long(&rt, alloc, Some(&LONG))?,
+    ];
+    let too_long = Err(FlattenFault::TooLong);
+    let wanted = [
+        (3097, Ok(3097)),
+        (4096, Ok(4096)),
+        (4097, too_long),
+        (4123, too_long),
+    ];
+    same(&rt, "three, 997, 998, 1024", told, wanted);
+    are_16_deep(&rt, alloc)?;
+    let zeros = [0u8; 4097];
+    let too_long = (zeros.as_slice(), 4096, FlatKind::TooLong);
+    let not_longer = (&zeros[..4096], 0, FlatKind::Magic);
     first_faults_are_told(&rt, alloc, &[too_long, not_longer]);
     first_faults_are_told(&rt, alloc, &FAULTY);
     Ok(())

@@ -11,6 +11,7 @@ use ak_outside::{
 use std::alloc::Global;
 use std::io;
 use std::io::{ErrorKind, Read, Write};
+use std::process::Abort;
 use std::test::Fail;
 
 // This many bytes, none of which is like the one before it.
@@ -22,6 +23,11 @@ fn text(alloc: Global, n: u32) -> Result<Bytes, NoMemory> {
     Ok(bytes)
 }
 
+// A source of that text, of which the calls with these numbers are refused.
+fn source(alloc: Global, text: Bytes, refused: &[u64]) -> Result<TextSource, Fail> {
+    Ok(TextSource::new(text, Vec::from_slice(alloc, refused)?))
+}
+
 // The length that is read of a text of that length, if it can be read, and whether the text begins so.
 fn length_read(
     alloc: Global,
@@ -30,7 +36,7 @@ fn length_read(
     refused: u64,
 ) -> Result<Result<(usize, bool), ReadFault>, Fail> {
     let whole = text(alloc, length)?;
-    let mut source = TextSource::new(text(alloc, length)?, vec![in alloc; refused]?);
+    let mut source = source(alloc, text(alloc, length)?, &[refused])?;
     match read_all(alloc, &mut source, limit) {
         Ok(bytes) => {
             let begins = whole.as_slice().starts_with(bytes.as_slice());
@@ -40,36 +46,58 @@ fn length_read(
     }
 }
 
-#[test]
-fn reads_to_the_end_or_past_the_limit(rt: HostRuntime) -> Result<(), Fail> {
-    // the text's length, the limit, the call that is refused, or 0, and the length that is read
+// A text's length, the limit, the call that is refused, or 0, and the length that is read.
+static LENGTHS: [(u32, u32, u64, Option<usize>); 15] = [
+    (0, 0, 0, Some(0)),
+    (1, 0, 0, Some(1)),
+    (2, 0, 0, Some(1)),
+    (10_000, 20_000, 0, Some(10_000)),
+    (10_000, 10_001, 0, Some(10_000)),
+    (10_000, 10_000, 0, Some(10_000)),
+    (10_000, 9_999, 0, Some(10_000)),
+    (10_000, 9_998, 0, Some(9_999)),
+    (10_000, 4_095, 0, Some(4_096)),
+    (10_000, 4_096, 0, Some(4_097)),
+    // three reads give the text, and where there is room a fourth finds its end
+    (10_000, 20_000, 1, None),
+    (10_000, 20_000, 2, None),
+    (10_000, 20_000, 4, None),
+    (10_000, 20_000, 5, Some(10_000)),
+    (10_000, 9_999, 4, Some(10_000)),
+];
+
+// The text `hello`, whose first and third reads are refused, is given two bytes at a time.
+fn gives_its_text(rt: &impl Abort, alloc: Global) -> Result<(), Fail> {
+    let mut text = Bytes::new(alloc);
+    text.extend(b"hello")?;
+    let mut source = source(alloc, text, &[1, 3])?;
+    let mut buf = *b"..";
     let rows = [
-        (0, 0, 0, Some(0)),
-        (1, 0, 0, Some(1)),
-        (2, 0, 0, Some(1)),
-        (10_000, 20_000, 0, Some(10_000)),
-        (10_000, 10_001, 0, Some(10_000)),
-        (10_000, 10_000, 0, Some(10_000)),
-        (10_000, 9_999, 0, Some(10_000)),
-        (10_000, 9_998, 0, Some(9_999)),
-        (10_000, 4_095, 0, Some(4_096)),
-        (10_000, 4_096, 0, Some(4_097)),
-        // three reads give the text, and where there is room a fourth finds its end
-        (10_000, 20_000, 1, None),
-        (10_000, 20_000, 2, None),
-        (10_000, 20_000, 4, None),
-        (10_000, 20_000, 5, Some(10_000)),
-        (10_000, 9_999, 4, Some(10_000)),
+        (SourceRead::Failed, *b".."),
+        (SourceRead::Read(2), *b"he"),
+        (SourceRead::Failed, *b"he"),
+        (SourceRead::Read(2), *b"ll"),
+        (SourceRead::Read(1), *b"ol"),
+        (SourceRead::Read(0), *b"ol"),
     ];
-    for (length, limit, refused, want) in rows {
-        let told = length_read(rt.alloc(), length, limit, refused)?;
-        let wanted = match want {
-            Some(n) => Ok((n, true)),
-            None => Err(ReadFault::Failed),
-        };
-        same(&rt, (length, limit, refused), told, wanted);
+    for wanted in &rows {
+        let read = source.read(&mut buf);
+        same(rt, "hello", (read, buf), *wanted);
     }
     Ok(())
+}
+
+#[test]
+fn texts_are_read(rt: HostRuntime) -> Result<(), Fail> {
+    for (length, limit, refused, want) in &LENGTHS {
+        let told = length_read(rt.alloc(), *length, *limit, *refused)?;
+        let wanted = match want {
+            Some(n) => Ok((*n, true)),
+            None => Err(ReadFault::Failed),
+        };
+        same(&rt, (*length, *limit, *refused), told, wanted);
+    }
+    gives_its_text(&rt, rt.alloc())
 }
 
 // Takes one byte at a time.
@@ -86,40 +114,68 @@ impl<K: Sink> Sink for Narrow<K> {
     }
 }
 
-type Written = Result<(), WriteFailed>;
-
-// A sink that refuses the call of that number.
-fn refusing(alloc: Global, call: u64) -> Result<ListSink, Fail> {
-    Ok(ListSink::new(alloc, vec![in alloc; call]?))
+// A sink that refuses the calls of these numbers.
+fn refusing(alloc: Global, calls: &[u64]) -> Result<ListSink, Fail> {
+    Ok(ListSink::new(alloc, Vec::from_slice(alloc, calls)?))
 }
 
-#[test]
-fn writes_the_whole_piece(rt: HostRuntime) -> Result<(), Fail> {
-    let mut sink = refusing(rt.alloc(), 2)?;
-    let told = [
-        write_all(&mut sink, b"ab"),
-        write_all(&mut sink, b""),
-        write_all(&mut sink, b"cd"),
-        write_all(&mut sink, b"ef"),
-    ];
-    let wanted: [Written; 4] = [Ok(()), Ok(()), Err(WriteFailed), Ok(())];
-    same(&rt, "ab, none, cd, ef", told, wanted);
-    same(&rt, "written", sink.written(), b"abef".as_slice());
-    Ok(())
+// What is answered where four pieces are written, each whole.
+fn write_four<K: Sink>(sink: &mut K) -> [Result<(), WriteFailed>; 4] {
+    [
+        write_all(sink, b"abc"),
+        write_all(sink, b""),
+        write_all(sink, b"defg"),
+        write_all(sink, b"h"),
+    ]
 }
 
-#[test]
-fn writes_the_whole_piece_by_many_calls(rt: HostRuntime) -> Result<(), Fail> {
-    let sink = refusing(rt.alloc(), 6)?;
+// The second call is refused.
+fn is_written_by_few_calls(rt: &impl Abort, mut sink: ListSink) {
+    let told = write_four(&mut sink);
+    let wanted = (
+        [Ok(()), Ok(()), Err(WriteFailed), Ok(())],
+        b"abch".as_slice(),
+    );
+    same(rt, "abc, none, defg, h", (told, sink.written()), wanted);
+}
+
+// The sixth call is refused.
+fn is_written_by_many_calls(rt: &impl Abort, sink: ListSink) {
     let mut narrow = Narrow { sink };
-    let told = [
-        write_all(&mut narrow, b"abc"),
-        write_all(&mut narrow, b""),
-        write_all(&mut narrow, b"defg"),
+    let told = write_four(&mut narrow);
+    let wanted = (
+        [Ok(()), Ok(()), Err(WriteFailed), Ok(())],
+        b"abcdeh".as_slice(),
+    );
+    same(
+        rt,
+        "a, b, c and so on",
+        (told, narrow.sink.written()),
+        wanted,
+    );
+}
+
+// The second and the third call are refused.
+fn keeps_what_is_written(rt: &impl Abort, mut sink: ListSink) {
+    same(rt, "before", sink.written(), b"".as_slice());
+    let rows = [
+        (b"ab".as_slice(), SinkWrite::Wrote(2), b"ab".as_slice()),
+        (b"c", SinkWrite::Failed, b"ab"),
+        (b"d", SinkWrite::Failed, b"ab"),
+        (b"efg", SinkWrite::Wrote(3), b"abefg"),
     ];
-    let wanted: [Written; 3] = [Ok(()), Ok(()), Err(WriteFailed)];
-    same(&rt, "abc, none, defg", told, wanted);
-    same(&rt, "written", narrow.sink.written(), b"abcde".as_slice());
+    for (piece, want, kept) in &rows {
+        let wrote = sink.write(piece);
+        same(rt, *piece, (wrote, sink.written()), (*want, *kept));
+    }
+}
+
+#[test]
+fn pieces_are_written(rt: HostRuntime) -> Result<(), Fail> {
+    let alloc = rt.alloc();
+    is_written_by_few_calls(&rt, refusing(alloc, &[2])?);
+    is_written_by_many_calls(&rt, refusing(alloc, &[6])?);
+    keeps_what_is_written(&rt, refusing(alloc, &[2, 3])?);
     Ok(())
 }
 
@@ -157,19 +213,15 @@ impl Write for Full {
     }
 }
 
-#[test]
-fn reads_from_the_system(rt: HostRuntime) {
+// What three reads of `abc` give, two bytes at a time.
+type Read3 = ((SourceRead, [u8; 2]), (SourceRead, [u8; 2]), SourceRead);
+
+fn read_abc() -> Read3 {
     let mut buf = [0u8; 2];
     let mut source = StdSource::new(b"abc".as_slice());
     let first = (source.read(&mut buf), buf);
     let second = (source.read(&mut buf), buf);
-    let told = (first, second, source.read(&mut buf));
-    let wanted = (
-        (SourceRead::Read(2), *b"ab"),
-        (SourceRead::Read(1), *b"cb"),
-        SourceRead::Read(0),
-    );
-    same(&rt, "abc", told, wanted);
+    (first, second, source.read(&mut buf))
 }
 
 // Two reads of a source that has not failed yet. Where both fail, two faults are counted.
@@ -180,34 +232,10 @@ fn read_twice(source: &mut StdSource<Broken>) -> [SourceRead; 2]
     [source.read(&mut buf), source.read(&mut buf)]
 }
 
-#[test]
-fn reads_fail_with_the_system(rt: HostRuntime) {
-    let mut source = StdSource::new(Broken);
-    same(
-        &rt,
-        "reads",
-        read_twice(&mut source),
-        [SourceRead::Failed; 2],
-    );
-}
-
 // What is written of two pieces to the system, and what it has then.
 fn write_twice(kept: &mut Vec<u8>) -> [SinkWrite; 2] {
     let mut sink = StdSink::new(kept);
     [sink.write(b"ab"), sink.write(b"c")]
-}
-
-#[test]
-fn writes_to_the_system(rt: HostRuntime) {
-    let mut kept = Vec::new(rt.alloc());
-    let told = write_twice(&mut kept);
-    same(
-        &rt,
-        "ab, c",
-        told,
-        [SinkWrite::Wrote(2), SinkWrite::Wrote(1)],
-    );
-    same(&rt, "kept", kept.as_slice(), b"abc".as_slice());
 }
 
 // A write to a sink that has not failed yet. Where it fails, one fault is counted, and else none.
@@ -219,56 +247,28 @@ fn write_first<W: Write + Drop>(sink: &mut StdSink<W>) -> SinkWrite
 }
 
 #[test]
-fn writes_fail_with_the_system(rt: HostRuntime) {
+fn the_system_is_read_and_written(rt: HostRuntime) {
+    let abc = (
+        (SourceRead::Read(2), *b"ab"),
+        (SourceRead::Read(1), *b"cb"),
+        SourceRead::Read(0),
+    );
+    same(&rt, "abc", read_abc(), abc);
+    let failed = [SourceRead::Failed; 2];
+    same(
+        &rt,
+        "reads",
+        read_twice(&mut StdSource::new(Broken)),
+        failed,
+    );
     let broken = write_first(&mut StdSink::new(Broken));
     let full = write_first(&mut StdSink::new(Full));
     same(&rt, "broken, full", [broken, full], [SinkWrite::Failed; 2]);
-}
-
-// A sink that refuses the second and the third call.
-fn refusing_two(alloc: Global) -> Result<ListSink, Fail> {
-    Ok(ListSink::new(alloc, vec![in alloc; 2, 3]?))
-}
-
-#[test]
-fn keeps_what_is_written(rt: HostRuntime) -> Result<(), Fail> {
-    let mut sink = refusing_two(rt.alloc())?;
-    same(&rt, "before", sink.written(), b"".as_slice());
-    let rows = [
-        (b"ab".as_slice(), SinkWrite::Wrote(2), b"ab".as_slice()),
-        (b"c", SinkWrite::Failed, b"ab"),
-        (b"d", SinkWrite::Failed, b"ab"),
-        (b"efg", SinkWrite::Wrote(3), b"abefg"),
-    ];
-    for (piece, want, kept) in rows {
-        let wrote = sink.write(piece);
-        same(&rt, piece, (wrote, sink.written()), (want, kept));
-    }
-    Ok(())
-}
-
-// The text `hello`, whose first and third reads are refused.
-fn hello(alloc: Global) -> Result<TextSource, Fail> {
-    let mut bytes = Bytes::new(alloc);
-    bytes.extend(b"hello")?;
-    Ok(TextSource::new(bytes, vec![in alloc; 1, 3]?))
-}
-
-#[test]
-fn gives_its_text(rt: HostRuntime) -> Result<(), Fail> {
-    let mut source = hello(rt.alloc())?;
-    let mut buf = *b"..";
-    let rows = [
-        (SourceRead::Failed, *b".."),
-        (SourceRead::Read(2), *b"he"),
-        (SourceRead::Failed, *b"he"),
-        (SourceRead::Read(2), *b"ll"),
-        (SourceRead::Read(1), *b"ol"),
-        (SourceRead::Read(0), *b"ol"),
-    ];
-    for (want, kept) in rows {
-        let read = source.read(&mut buf);
-        same(&rt, "hello", (read, buf), (want, kept));
-    }
-    Ok(())
+    let mut kept = Vec::new(rt.alloc());
+    let told = write_twice(&mut kept);
+    let wanted = (
+        [SinkWrite::Wrote(2), SinkWrite::Wrote(1)],
+        b"abc".as_slice(),
+    );
+    same(&rt, "ab, c", (told, kept.as_slice()), wanted);
 }

@@ -4,7 +4,7 @@ ghost use Rattle.std.specs.Prelude.{◌≡◌, ◌≤◌, ◌<◌, ◌==◌, ◌
 ghost use Rattle.std.specs.List.{position};
 
 use crate::compare::same;
-use crate::messages::number;
+use crate::plain::number;
 use ak_base::{Code, Items, Text};
 use ak_filter::FilterList;
 use ak_message::{Kind, Message, Value};
@@ -23,60 +23,8 @@ fn row(alloc: Global, name: &[u8], commands: &[Code], forms: &[u32]) -> Result<P
     })
 }
 
-// What is looked for, by code, index and form, and the place of the first row that fits.
-type Case = (Code, u32, u32, Option<usize>);
-
-fn are_found(rt: &impl Abort, table: &PropertyTable, name: &Text, cases: &[Case]) {
-    for &(what, index, form, place) in cases {
-        let found = table.find_match(what, index, form, name);
-        same(rt, (what, index, form), found, place);
-    }
-}
-
-// The place of the first row of that name that takes GET without an index, in form 1.
-fn place_of(alloc: Global, table: &PropertyTable, name: &[u8]) -> Result<Option<usize>, Fail> {
-    Ok(table.find_match(Code::GET, 0, 1, &Text::from_bytes(alloc, name)?))
-}
-
-// No row has a name that is nearly `Count`.
-fn are_not_found(rt: &impl Abort, alloc: Global, table: &PropertyTable) -> Result<(), Fail> {
-    let names: [&[u8]; 4] = [b"Coun", b"Counts", b"count", b""];
-    for name in names {
-        same(rt, name, place_of(alloc, table, name)?, None);
-    }
-    Ok(())
-}
-
-#[test]
-fn one_row_fits_by_name_form_and_command(rt: HostRuntime) -> Result<(), Fail> {
-    let alloc = rt.alloc();
-    let mut table = PropertyTable::new(alloc);
-    let count = Text::from_bytes(alloc, b"Count")?;
-    are_found(&rt, &table, &count, &[(Code::GET, 0, 1, None)]);
-    table.add_row(row(alloc, b"Count", &[Code::GET], &[1])?)?;
-    let cases = [
-        (Code::GET, 0, 1, Some(0)),
-        (Code::SET, 0, 1, None),
-        (Code::SET, 1, 1, Some(0)),
-        (Code::GET, 0, 2, None),
-        (Code::SET, 1, 2, None),
-        (Code::GET, u32::MAX, 1, Some(0)),
-    ];
-    are_found(&rt, &table, &count, &cases);
-    are_not_found(&rt, alloc, &table)
-}
-
 // A row in plain data: its name, commands and forms.
 type Plain = (&'static [u8], &'static [Code], &'static [u32]);
-
-static ROWS: [Plain; 6] = [
-    (b"Count", &[Code::GET], &[1]),
-    (b"Count", &[Code::SET], &[1, 2]),
-    (b"Other", &[], &[]),
-    (b"Count", &[], &[2, 6]),
-    (b"Count", &[Code::GET, Code::DELETE], &[]),
-    (b"Count", &[Code::GET], &[1]),
-];
 
 fn table_of(alloc: Global, rows: &[Plain]) -> Result<PropertyTable, Fail> {
     let mut table = PropertyTable::new(alloc);
@@ -86,28 +34,73 @@ fn table_of(alloc: Global, rows: &[Plain]) -> Result<PropertyTable, Fail> {
     Ok(table)
 }
 
-#[test]
-fn the_first_row_that_fits_is_found(rt: HostRuntime) -> Result<(), Fail> {
-    let alloc = rt.alloc();
-    let table = table_of(alloc, &ROWS)?;
-    let cases = [
-        (Code::GET, 0, 1, Some(0)),
-        (Code::SET, 0, 1, Some(1)),
-        (Code::SET, 0, 2, Some(1)),
-        (Code::GET, 0, 2, Some(3)),
-        (Code::EXECUTE, 0, 6, Some(3)),
-        (Code::DELETE, 0, 1, Some(4)),
-        (Code::DELETE, 0, 3, Some(4)),
-        (Code::EXECUTE, 0, 1, None),
-        (Code::SET, 0, 3, None),
-        (Code::EXECUTE, 1, 1, Some(0)),
-        (Code::EXECUTE, 2, 2, Some(1)),
-        (Code::EXECUTE, 1, 3, Some(4)),
-    ];
-    let count = Text::from_bytes(alloc, b"Count")?;
-    are_found(&rt, &table, &count, &cases);
-    let other = Text::from_bytes(alloc, b"Other")?;
-    are_found(&rt, &table, &other, &[(Code::EXECUTE, 0, 9, Some(2))]);
+// What is looked for, by name, code, index and form, and the place of the first row that fits.
+type Case = (&'static [u8], Code, u32, u32, Option<usize>);
+
+static TABLES: [(&[Plain], &[Case]); 3] = [
+    (&[], &[(b"Count", Code::GET, 0, 1, None)]),
+    (
+        &[(b"Count", &[Code::GET], &[1])],
+        &[
+            (b"Count", Code::GET, 0, 1, Some(0)),
+            (b"Count", Code::SET, 0, 1, None),
+            (b"Count", Code::SET, 1, 1, Some(0)),
+            (b"Count", Code::GET, 0, 2, None),
+            (b"Count", Code::SET, 1, 2, None),
+            (b"Count", Code::GET, u32::MAX, 1, Some(0)),
+            // no row has a name that is nearly `Count`
+            (b"Coun", Code::GET, 0, 1, None),
+            (b"Counts", Code::GET, 0, 1, None),
+            (b"count", Code::GET, 0, 1, None),
+            (b"", Code::GET, 0, 1, None),
+        ],
+    ),
+    (
+        &[
+            (b"Count", &[Code::GET], &[1]),
+            (b"Count", &[Code::SET], &[1, 2]),
+            (b"Other", &[], &[]),
+            (b"Count", &[], &[2, 6]),
+            (b"Count", &[Code::GET, Code::DELETE], &[]),
+            (b"Count", &[Code::GET], &[1]),
+        ],
+        &[
+            (b"Count", Code::GET, 0, 1, Some(0)),
+            (b"Count", Code::SET, 0, 1, Some(1)),
+            (b"Count", Code::SET, 0, 2, Some(1)),
+            (b"Count", Code::GET, 0, 2, Some(3)),
+            (b"Count", Code::EXECUTE, 0, 6, Some(3)),
+            (b"Count", Code::DELETE, 0, 1, Some(4)),
+            (b"Count", Code::DELETE, 0, 3, Some(4)),
+            (b"Count", Code::EXECUTE, 0, 1, None),
+            (b"Count", Code::SET, 0, 3, None),
+            (b"Count", Code::EXECUTE, 1, 1, Some(0)),
+            (b"Count", Code::EXECUTE, 2, 2, Some(1)),
+            (b"Count", Code::EXECUTE, 1, 3, Some(4)),
+            (b"Other", Code::EXECUTE, 0, 9, Some(2)),
+        ],
+    ),
+];
+
+fn place_of(
+    alloc: Global,
+    table: &PropertyTable,
+    name: &[u8],
+    what: Code,
+    index: u32,
+    form: u32,
+) -> Result<Option<usize>, Fail> {
+    let name = Text::from_bytes(alloc, name)?;
+    Ok(table.find_match(what, index, form, &name))
+}
+
+// In a table of these rows what is looked for is found, or is not.
+fn are_found(rt: &impl Abort, alloc: Global, rows: &[Plain], cases: &[Case]) -> Result<(), Fail> {
+    let table = table_of(alloc, rows)?;
+    for (name, what, index, form, wanted) in cases {
+        let place = place_of(alloc, &table, name, *what, *index, *form)?;
+        same(rt, (*name, *what, *index, *form), place, *wanted);
+    }
     Ok(())
 }
 
@@ -129,31 +122,27 @@ fn table_of_letters(alloc: Global, count: u8) -> Result<PropertyTable, Fail>
     Ok(table)
 }
 
-// Each of 64 rows is found at its place.
-fn all_are_found(rt: &impl Abort, alloc: Global, table: &PropertyTable) -> Result<(), Fail> {
-    for i in 0..64 {
-        let place = place_of(alloc, table, &letters(i))?;
-        same(rt, i, place, Some(usize::from(i)));
-    }
-    Ok(())
-}
+// What is told of a table of 64 rows: what one row more is answered, how many there are then, where that one is found, and
+// the first of the others that is not at its place, with where it is.
+type Full = (
+    Result<(), RowFault>,
+    usize,
+    Option<usize>,
+    Option<(u8, Option<usize>)>,
+);
 
-// What one row more is answered, how many there are then, and where that one is found.
-fn added(
-    alloc: Global,
-    table: &mut PropertyTable,
-) -> Result<(Result<(), RowFault>, usize, Option<usize>), Fail> {
+fn told_of_full(alloc: Global) -> Result<Full, Fail> {
+    let mut table = table_of_letters(alloc, 64)?;
     let answer = table.add_row(row(alloc, b"extra", &[], &[])?);
-    let place = place_of(alloc, table, b"extra")?;
-    Ok((answer, table.as_slice().len(), place))
-}
-
-#[test]
-fn a_table_takes_64_rows(rt: HostRuntime) -> Result<(), Fail> {
-    let mut table = table_of_letters(rt.alloc(), 64)?;
-    let told = added(rt.alloc(), &mut table)?;
-    same(&rt, "extra", told, (Err(RowFault::RowLimit), 64, None));
-    all_are_found(&rt, rt.alloc(), &table)
+    let extra = place_of(alloc, &table, b"extra", Code::GET, 0, 1)?;
+    let mut other = None;
+    for i in 0..64 {
+        let place = place_of(alloc, &table, &letters(i), Code::GET, 0, 1)?;
+        if place != Some(usize::from(i)) {
+            other = Some((i, place));
+        }
+    }
+    Ok((answer, table.as_slice().len(), extra, other))
 }
 
 // A copy of a table with `Count` and `Other`, made before that table takes another row.
@@ -184,19 +173,13 @@ fn name_at(table: &PropertyTable, place: usize) -> Option<&str> {
     Some(row.name.as_str())
 }
 
-fn copy_of_first(alloc: Global, table: &PropertyTable) -> Result<PropertyRow, Fail> {
-    let Some(row) = table.as_slice().first() else {
+// A copy of the first row of the copy has what the row has, and the second is there too.
+fn are_copied(rt: &impl Abort, alloc: Global) -> Result<(), Fail> {
+    let copy = copied(alloc)?;
+    let Some(row) = copy.as_slice().first() else {
         return Err("no row".into());
     };
-    Ok(row.try_clone(alloc)?)
-}
-
-#[test]
-fn a_copy_has_the_same_rows(rt: HostRuntime) -> Result<(), Fail> {
-    let copy = copied(rt.alloc())?;
-    let others = (copy.as_slice().len(), name_at(&copy, 1));
-    same(&rt, "len, second", others, (2, Some("Other")));
-    let first = copy_of_first(rt.alloc(), &copy)?;
+    let first = row.try_clone(alloc)?;
     let commands = [Code::GET, Code::SET];
     let wanted = (
         "Count",
@@ -205,8 +188,26 @@ fn a_copy_has_the_same_rows(rt: HostRuntime) -> Result<(), Fail> {
         commands.as_slice(),
         [1, 6].as_slice(),
     );
-    same(&rt, "first", told(&first), wanted);
+    same(rt, "first", told(&first), wanted);
+    let others = (copy.as_slice().len(), name_at(&copy, 1));
+    same(rt, "len, second", others, (2, Some("Other")));
     Ok(())
+}
+
+#[test]
+fn the_first_row_that_fits_is_found(rt: HostRuntime) -> Result<(), Fail> {
+    let alloc = rt.alloc();
+    for (rows, cases) in &TABLES {
+        are_found(&rt, alloc, rows, cases)?;
+    }
+    let limit = Err(RowFault::RowLimit);
+    same(
+        &rt,
+        "64, extra",
+        told_of_full(alloc)?,
+        (limit, 64, None, None),
+    );
+    are_copied(&rt, alloc)
 }
 
 // ---- suites
@@ -241,23 +242,6 @@ fn field_at(reply: &Message, i: u32) -> Option<Field<'_>> {
     Some((field.name, field.kind, field.values.len()))
 }
 
-// The code, what is popped, the number `error`, and how many names there are.
-fn head(reply: &Message) -> (Code, u32, Option<i32>, u32) {
-    (
-        reply.what(),
-        reply.popped(),
-        number(reply, b"error", 0),
-        reply.count_names(),
-    )
-}
-
-// The fields at these places are so.
-fn has_fields(rt: &impl Abort, reply: &Message, fields: &[(u32, Field<'_>)]) {
-    for (place, field) in fields {
-        same(rt, *place, field_at(reply, *place), Some(*field));
-    }
-}
-
 fn text_at<'a>(reply: &'a Message, name: &str, index: u8) -> &'a [u8] {
     match reply.find(name.as_bytes(), Kind::Text, u32::from(index)) {
         Ok(Value::Text(text)) => text.as_bytes(),
@@ -280,41 +264,36 @@ fn are_letters(rt: &impl Abort, reply: &Message, name: &str, count: u8)
     }
 }
 
-#[test]
-fn without_rows_no_properties_are_told(rt: HostRuntime) -> Result<(), Fail> {
-    let reply = reply(rt.alloc(), 1, 0)?;
-    same(
-        &rt,
-        "head",
-        head(&reply),
-        (Code(0x5250_4C59), 0, Some(0), 2),
+// The message that is told of so many suites and rows: its code and `error`, that nothing is popped, its fields and their
+// texts.
+fn are_told(
+    rt: &impl Abort,
+    alloc: Global,
+    count: u8,
+    rows: u8,
+    fields: &[(u32, Field<'_>)],
+) -> Result<(), Fail>
+    requires suites { count ≤ 64 }
+    requires rows { rows ≤ 64 }
+{
+    let reply = reply(alloc, count, rows)?;
+    let head = (
+        reply.what(),
+        reply.popped(),
+        number(&reply, b"error", 0),
+        reply.count_names() as usize,
     );
-    let fields: [(u32, Field<'_>); 2] = [
-        (0, (b"suites", Kind::Text, 1)),
-        (1, (b"error", Kind::Int32, 1)),
-    ];
-    has_fields(&rt, &reply, &fields);
-    are_letters(&rt, &reply, "suites", 1);
-    Ok(())
-}
-
-#[test]
-fn suites_and_properties_are_told_in_order(rt: HostRuntime) -> Result<(), Fail> {
-    let reply = reply(rt.alloc(), 19, 64)?;
     same(
-        &rt,
+        rt,
         "head",
-        head(&reply),
-        (Code(0x5250_4C59), 0, Some(0), 3),
+        head,
+        (Code(0x5250_4C59), 0, Some(0), fields.len()),
     );
-    let fields: [(u32, Field<'_>); 3] = [
-        (0, (b"suites", Kind::Text, 19)),
-        (1, (b"properties", Kind::Text, 64)),
-        (2, (b"error", Kind::Int32, 1)),
-    ];
-    has_fields(&rt, &reply, &fields);
-    are_letters(&rt, &reply, "suites", 19);
-    are_letters(&rt, &reply, "properties", 64);
+    for (place, field) in fields {
+        same(rt, *place, field_at(&reply, *place), Some(*field));
+    }
+    are_letters(rt, &reply, "suites", count);
+    are_letters(rt, &reply, "properties", rows);
     Ok(())
 }
 
@@ -372,7 +351,20 @@ fn parts(handler: &OneReaction) -> (usize, usize, [Option<u32>; 2]) {
 }
 
 #[test]
-fn a_handler_tells_its_parts(rt: HostRuntime) {
+fn suites_and_properties_are_told_in_order(rt: HostRuntime) -> Result<(), Fail> {
+    let fields: [(u32, Field<'_>); 2] = [
+        (0, (b"suites", Kind::Text, 1)),
+        (1, (b"error", Kind::Int32, 1)),
+    ];
+    // without rows no properties are told
+    are_told(&rt, rt.alloc(), 1, 0, &fields)?;
+    let fields: [(u32, Field<'_>); 3] = [
+        (0, (b"suites", Kind::Text, 19)),
+        (1, (b"properties", Kind::Text, 64)),
+        (2, (b"error", Kind::Int32, 1)),
+    ];
+    are_told(&rt, rt.alloc(), 19, 64, &fields)?;
     let handler = sample(rt.alloc());
     same(&rt, "parts", parts(&handler), (0, 0, [Some(0), None]));
+    Ok(())
 }

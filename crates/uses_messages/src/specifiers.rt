@@ -1,8 +1,9 @@
 // The specifiers of a message: added, read and popped.
 
 use crate::compare::same;
-use crate::messages::{number, words};
+use crate::plain::{number, words};
 use AddFault::{BadType, FieldLimit};
+use Op::{Direct, Fields, Index, Indexes, Number, Pop};
 use ak_base::{Code, Text};
 use ak_message::{AddFault, At, AtRef, Kind, Message, Specifier, Value};
 use ak_specifier::{BadScript, add_specifier, current, left, pop};
@@ -11,10 +12,10 @@ use std::process::Abort;
 use std::test::Fail;
 
 // What a specifier says beside its form and its property: `index`, `range`, `id` and `name`.
-type Said<'a> = (Option<i32>, Option<i32>, Option<i32>, Option<&'a str>);
+pub(crate) type Said<'a> = (Option<i32>, Option<i32>, Option<i32>, Option<&'a str>);
 
 // Each form once, by its number.
-const FORMS: [(u32, Said<'static>); 7] = [
+static FORMS: [(u32, Said<'static>); 7] = [
     (1, (None, None, None, None)),
     (2, (Some(105), None, None, None)),
     (3, (Some(105), None, None, None)),
@@ -29,7 +30,7 @@ fn text(alloc: Global, words: &[u8]) -> Result<Text, Fail> {
 }
 
 // The specifier of that form in the table.
-fn specifier(alloc: Global, form: u32) -> Result<Specifier, Fail> {
+pub(crate) fn specifier(alloc: Global, form: u32) -> Result<Specifier, Fail> {
     let at = match form {
         1 => At::Direct,
         2 => At::Index(105),
@@ -90,7 +91,7 @@ fn add_letters(
     Ok(message.add(b"specifiers", Value::from_message(alloc, specifier)?)?)
 }
 
-fn said(at: AtRef<'_>) -> (u32, Said<'_>) {
+pub(crate) fn said(at: AtRef<'_>) -> (u32, Said<'_>) {
     match at {
         AtRef::Direct => (1, (None, None, None, None)),
         AtRef::Index(index) => (2, (Some(index), None, None, None)),
@@ -108,32 +109,11 @@ fn read(message: &Message) -> Result<(&str, (u32, Said<'_>)), BadScript> {
     Ok((specifier.property.as_str(), said(specifier.at)))
 }
 
-fn index(message: &Message) -> Option<i32> {
+fn index_of(message: &Message) -> Option<i32> {
     match current(message).ok()?.at {
         AtRef::Index(index) => Some(index),
         _ => None,
     }
-}
-
-// A message with the specifier of that form in the table.
-fn with_form(alloc: Global, form: u32) -> Result<Message, Fail> {
-    let mut message = Message::new(alloc, Code(1));
-    add_specifier(alloc, &mut message, specifier(alloc, form)?)?;
-    Ok(message)
-}
-
-#[test]
-fn forms_are_read_back(rt: HostRuntime) -> Result<(), Fail> {
-    for row in FORMS {
-        let message = with_form(rt.alloc(), row.0)?;
-        same(
-            &rt,
-            row.0,
-            (left(&message), read(&message)),
-            (1, Ok(("p", row))),
-        );
-    }
-    Ok(())
 }
 
 // The form and the property of a specifier's message, and what it says.
@@ -152,21 +132,29 @@ fn written(message: &Message) -> Result<Written<'_>, Fail> {
     Ok((specifier.what(), words(specifier, b"property", 0), said))
 }
 
-#[test]
-fn forms_are_written(rt: HostRuntime) -> Result<(), Fail> {
-    for (form, said) in FORMS {
-        let message = with_form(rt.alloc(), form)?;
-        same(&rt, form, written(&message)?, (Code(form), Some("p"), said));
-    }
+// A specifier of that form is written as it says, and read back.
+fn is_kept(rt: &impl Abort, alloc: Global, form: u32, says: Said<'_>) -> Result<(), Fail> {
+    let mut message = Message::new(alloc, Code(1));
+    add_specifier(alloc, &mut message, specifier(alloc, form)?)?;
+    let told = (left(&message), read(&message));
+    same(rt, form, told, (1, Ok(("p", (form, says)))));
+    same(rt, form, written(&message)?, (Code(form), Some("p"), says));
+    Ok(())
+}
+
+// A specifier of that form that has each field twice, and a further one, is read by the first values.
+fn is_read_first(rt: &impl Abort, alloc: Global, form: u32, says: Said<'_>) -> Result<(), Fail> {
+    let mut message = Message::new(alloc, Code(1));
+    add_letters(alloc, &mut message, form, b"xpqijrsnmdey")?;
+    same(rt, form, read(&message), Ok(("p", (form, says))));
     Ok(())
 }
 
 #[test]
-fn first_values_count_and_other_fields_do_not(rt: HostRuntime) -> Result<(), Fail> {
-    for row in FORMS {
-        let mut message = Message::new(rt.alloc(), Code(1));
-        add_letters(rt.alloc(), &mut message, row.0, b"xpqijrsnmdey")?;
-        same(&rt, row.0, read(&message), Ok(("p", row)));
+fn forms_are_written_and_read_back(rt: HostRuntime) -> Result<(), Fail> {
+    for (form, says) in &FORMS {
+        is_kept(&rt, rt.alloc(), *form, *says)?;
+        is_read_first(&rt, rt.alloc(), *form, *says)?;
     }
     Ok(())
 }
@@ -203,148 +191,180 @@ static BADLY_FORMED: [(u32, &[u8]); 29] = [
     (0x8000_0001, b"pirnd"),
 ];
 
-// A message with the index 3, and then a specifier of that form with these fields.
-fn behind_an_index(alloc: Global, form: u32, letters: &[u8]) -> Result<Message, Fail> {
-    let mut message = Message::new(alloc, Code(1));
-    add_index(alloc, &mut message, 3)?;
-    add_letters(alloc, &mut message, form, letters)?;
-    Ok(message)
+// ---- what is done, and what is answered
+// What is done to the specifiers of a message.
+#[derive(Clone, Copy)]
+enum Op {
+    // An index is added, or a specifier without one.
+    Index(i32),
+    Direct,
+    // The indexes from 0 on, before the end.
+    Indexes(i32),
+    // 63 fields that are none.
+    Fields,
+    // A number under that name.
+    Number(&'static [u8], i32),
+    Pop,
 }
 
-type Popped = Result<(), BadScript>;
-
-// How many are left, whether the current one is badly formed, the answer where it is popped, and the index that is
-// current then.
-fn popped(message: &mut Message) -> (u32, bool, Popped, Option<i32>) {
-    let before = left(message);
-    let is_refused = current(message).is_err();
-    let answer = pop(message);
-    (before, is_refused, answer, index(message))
-}
-
-#[test]
-fn badly_formed_specifiers_are_refused(rt: HostRuntime) -> Result<(), Fail> {
-    for &(form, letters) in &BADLY_FORMED {
-        let mut message = behind_an_index(rt.alloc(), form, letters)?;
-        let wanted = (2, true, Ok(()), Some(3));
-        same(&rt, (form, letters), popped(&mut message), wanted);
-    }
-    Ok(())
-}
-
-// How many are left, the index that is current, and the answer where it is popped.
-fn index_popped(message: &mut Message) -> (u32, Option<i32>, Popped) {
-    (left(message), index(message), pop(message))
-}
-
-// The message has no specifier that is left: 0 of them, none is read, and none is popped.
-const NONE_LEFT: (u32, bool, Popped, Option<i32>) = (0, true, Err(BadScript), None);
-
-// The indexes 0, 1 and 2 behind what the message has.
-fn add_indexes(alloc: Global, message: &mut Message) -> Result<(), Fail> {
-    for n in 0..3 {
+fn add_indexes(alloc: Global, message: &mut Message, end: i32) -> Result<(), Fail> {
+    for n in 0..end {
         add_index(alloc, message, n)?;
     }
     Ok(())
 }
 
-// How many are popped, how many are left, and the index that is current.
-fn told_of(message: &Message) -> (u32, u32, Option<i32>) {
-    (message.popped(), left(message), index(message))
-}
-
-#[test]
-fn the_last_one_is_current(rt: HostRuntime) -> Result<(), Fail> {
-    let mut message = Message::new(rt.alloc(), Code(1));
-    same(&rt, "before", popped(&mut message), NONE_LEFT);
-    add_indexes(rt.alloc(), &mut message)?;
-    for (more, n) in [(3, 2), (2, 1), (1, 0)] {
-        same(&rt, n, index_popped(&mut message), (more, Some(n), Ok(())));
-    }
-    same(&rt, "after", popped(&mut message), NONE_LEFT);
-    same(&rt, "popped", message.popped(), 3);
-    add_index(rt.alloc(), &mut message, 7)?;
-    same(&rt, "then", told_of(&message), (0, 4, Some(7)));
-    Ok(())
-}
-
-// What is answered where a specifier is added.
-fn added(alloc: Global, message: &mut Message) -> Result<Result<(), AddFault>, Fail> {
-    Ok(add_specifier(alloc, message, specifier(alloc, 1)?))
-}
-
-// What is answered where a specifier is added, how many names there are then, and the number.
-fn added_to_number(
-    alloc: Global,
-    message: &mut Message,
-) -> Result<(Result<(), AddFault>, u32, Option<i32>), Fail> {
-    let answer = added(alloc, message)?;
-    let five = number(message, b"specifiers", 0);
-    Ok((answer, message.count_names(), five))
-}
-
-#[test]
-fn another_kind_is_refused(rt: HostRuntime) -> Result<(), Fail> {
-    let mut message = Message::new(rt.alloc(), Code(1));
-    message.add(b"specifiers", Value::Int32(5))?;
-    same(&rt, "a number", popped(&mut message), NONE_LEFT);
-    let told = added_to_number(rt.alloc(), &mut message)?;
-    same(&rt, "add", told, (Err(BadType), 1, Some(5)));
-    Ok(())
-}
-
-// As many specifiers as there may be.
-fn all_that_fit(alloc: Global) -> Result<Message, Fail> {
-    let mut message = Message::new(alloc, Code(1));
-    for n in 0..255 {
-        add_index(alloc, &mut message, n)?;
-    }
-    Ok(message)
-}
-
-#[test]
-fn specifiers_are_limited(rt: HostRuntime) -> Result<(), Fail> {
-    let mut message = all_that_fit(rt.alloc())?;
-    let popped = pop(&mut message);
-    let told = (popped, added(rt.alloc(), &mut message)?, told_of(&message));
-    let wanted = (Ok(()), Err(FieldLimit), (1, 254, Some(253)));
-    same(&rt, "pop, add", told, wanted);
-    Ok(())
-}
-
-// A message with 63 fields.
-fn with_63_fields(alloc: Global) -> Result<Message, Fail> {
-    let mut message = Message::new(alloc, Code(1));
+fn add_fields(message: &mut Message) -> Result<(), AddFault> {
     for letter in b"0123456789ABCDEFGHIJKLMNOPQRSTUVWXYZabcdefghijklmnopqrstuvwxyz_" {
         message.add(&[*letter], Value::Int32(1))?;
     }
-    Ok(message)
+    Ok(())
 }
 
-// A copy with a field more takes no specifier: what is answered, and how many names and specifiers there are then.
-fn added_to_full(
+// What an addition and a pop are answered.
+type Answer = (Result<(), AddFault>, Result<(), BadScript>);
+
+fn done(alloc: Global, message: &mut Message, op: Op) -> Result<Answer, Fail> {
+    let mut answer = (Ok(()), Ok(()));
+    match op {
+        Index(n) => add_index(alloc, message, n)?,
+        Direct => answer.0 = add_specifier(alloc, message, specifier(alloc, 1)?),
+        Indexes(end) => add_indexes(alloc, message, end)?,
+        Fields => answer.0 = add_fields(message),
+        Number(name, n) => answer.0 = message.add(name, Value::Int32(n)),
+        Pop => answer.1 = pop(message),
+    }
+    Ok(answer)
+}
+
+// How many specifiers are left and how many are popped, whether the current one is refused, its index, how many names
+// there are, and a number in place of specifiers.
+type State = (u32, u32, bool, Option<i32>, u32, Option<i32>);
+
+fn state_of(message: &Message) -> State {
+    (
+        left(message),
+        message.popped(),
+        current(message).is_err(),
+        index_of(message),
+        message.count_names(),
+        number(message, b"specifiers", 0),
+    )
+}
+
+// Each step is answered so and leads there, where they are taken in this order.
+fn are_done(
+    rt: &impl Abort,
     alloc: Global,
-    message: &Message,
-) -> Result<(Result<(), AddFault>, u32, u32), Fail> {
-    let mut full = message.try_clone()?;
-    full.add(b"more", Value::Int32(1))?;
-    let answer = added(alloc, &mut full)?;
-    Ok((answer, full.count_names(), left(&full)))
+    label: &str,
+    steps: &[(Op, Answer, State)],
+) -> Result<(), Fail> {
+    let mut message = Message::new(alloc, Code(1));
+    for (place, (op, answer, state)) in steps.iter().enumerate() {
+        let told = done(alloc, &mut message, *op)?;
+        same(
+            rt,
+            (label, place),
+            (told, state_of(&message)),
+            (*answer, *state),
+        );
+    }
+    Ok(())
+}
+
+const DONE: Answer = (Ok(()), Ok(()));
+
+const NOT_POPPED: Answer = (Ok(()), Err(BadScript));
+
+static SCRIPTS: [(&str, &[(Op, Answer, State)]); 5] = [
+    (
+        "the last one is current",
+        &[
+            (Pop, NOT_POPPED, (0, 0, true, None, 0, None)),
+            (Indexes(3), DONE, (3, 0, false, Some(2), 1, None)),
+            (Pop, DONE, (2, 1, false, Some(1), 1, None)),
+            (Pop, DONE, (1, 2, false, Some(0), 1, None)),
+            (Pop, DONE, (0, 3, true, None, 1, None)),
+            (Pop, NOT_POPPED, (0, 3, true, None, 1, None)),
+            (Index(7), DONE, (4, 0, false, Some(7), 1, None)),
+        ],
+    ),
+    (
+        "another kind is refused",
+        &[
+            (
+                Number(b"specifiers", 5),
+                DONE,
+                (0, 0, true, None, 1, Some(5)),
+            ),
+            (Pop, NOT_POPPED, (0, 0, true, None, 1, Some(5))),
+            (
+                Direct,
+                (Err(BadType), Ok(())),
+                (0, 0, true, None, 1, Some(5)),
+            ),
+        ],
+    ),
+    (
+        "specifiers are limited",
+        &[
+            (Indexes(255), DONE, (255, 0, false, Some(254), 1, None)),
+            (Pop, DONE, (254, 1, false, Some(253), 1, None)),
+            (
+                Direct,
+                (Err(FieldLimit), Ok(())),
+                (254, 1, false, Some(253), 1, None),
+            ),
+        ],
+    ),
+    (
+        "fields are limited",
+        &[
+            (Fields, DONE, (0, 0, true, None, 63, None)),
+            (Number(b"more", 1), DONE, (0, 0, true, None, 64, None)),
+            (
+                Direct,
+                (Err(FieldLimit), Ok(())),
+                (0, 0, true, None, 64, None),
+            ),
+        ],
+    ),
+    (
+        "the 64th field has room for more",
+        &[
+            (Fields, DONE, (0, 0, true, None, 63, None)),
+            (Index(0), DONE, (1, 0, false, Some(0), 64, None)),
+            (Index(1), DONE, (2, 0, false, Some(1), 64, None)),
+        ],
+    ),
+];
+
+// How a message stands with the index 3 and then a specifier of that form with these fields, what a pop is answered, and
+// how it stands then.
+type Refused = (State, Result<(), BadScript>, State);
+
+fn told_of_refused(alloc: Global, form: u32, letters: &[u8]) -> Result<Refused, Fail> {
+    let mut message = Message::new(alloc, Code(1));
+    add_index(alloc, &mut message, 3)?;
+    add_letters(alloc, &mut message, form, letters)?;
+    let before = state_of(&message);
+    let answer = pop(&mut message);
+    Ok((before, answer, state_of(&message)))
 }
 
 #[test]
-fn fields_are_limited(rt: HostRuntime) -> Result<(), Fail> {
-    let mut message = with_63_fields(rt.alloc())?;
-    let full = added_to_full(rt.alloc(), &message)?;
-    same(&rt, "full", full, (Err(FieldLimit), 64, 0));
-    // The field `specifiers` is the 64th, and then has room for more.
-    add_index(rt.alloc(), &mut message, 0)?;
-    add_index(rt.alloc(), &mut message, 1)?;
-    same(
-        &rt,
-        "then",
-        (message.count_names(), left(&message)),
-        (64, 2),
+fn specifiers_are_added_and_popped(rt: HostRuntime) -> Result<(), Fail> {
+    for (label, steps) in &SCRIPTS {
+        are_done(&rt, rt.alloc(), label, steps)?;
+    }
+    let wanted = (
+        (2, 0, true, None, 1, None),
+        Ok(()),
+        (1, 1, false, Some(3), 1, None),
     );
+    for (form, letters) in &BADLY_FORMED {
+        let told = told_of_refused(rt.alloc(), *form, letters)?;
+        same(&rt, (*form, *letters), told, wanted);
+    }
     Ok(())
 }
