@@ -103,9 +103,9 @@ fn positions<R: Wait>(rt: &R, alloc: Global) -> Result<[Option<u64>; 4], Fail> {
         thread: ThreadId(1),
         time: 0,
     };
-    for code in 0..3 {
-        put(rt, alloc, port, &mut writer, &mut other, code)?;
-    }
+    put(rt, alloc, port, &mut writer, &mut other, 1)?;
+    put(rt, alloc, port, &mut writer, &mut other, 2)?;
+    put(rt, alloc, port, &mut writer, &mut other, 3)?;
     close(port, rt, &mut writer, &mut other);
     let (mut taken, _book) = take_all_there_is(rt, alloc, port, seat, clock, 3)?;
     Ok([
