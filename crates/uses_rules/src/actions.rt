@@ -315,6 +315,9 @@ fn names_left(alloc: Global) -> Result<[Option<u32>; 4], Fail> {
 // A value that no message can hold is left out.
 #[test]
 fn a_template_leaves_out_what_is_too_deep(rt: HostRuntime) -> Result<(), Fail> {
-    assert_eq!(rt; names_left(rt.alloc())?, [Some(1), Some(0), Some(1), Some(0)]);
+    assert_eq!(rt;
+        names_left(rt.alloc())?,
+        [Some(1), Some(0), Some(1), Some(0)]
+    );
     Ok(())
 }

@@ -6,8 +6,6 @@
 #[cfg(test)]
 mod actions;
 #[cfg(test)]
-mod described;
-#[cfg(test)]
 mod desk;
 #[cfg(test)]
 mod lists;
