@@ -1,13 +1,10 @@
 //! Where the first target and the specifiers lead.
 use super::fixture::{
-    ARGV, AT_A, AT_B, AT_LOOPER, B_REACTS, BUILT_IN, BUILT_IN_A, BUILT_IN_B, COUNT, DROPPED,
-    FORWARD, GET, Held, LOST, Other, PING, PREFERRED, QUIT, READY, Row, SET, SUITES, TO_A, TO_B,
-    TO_LOOPER, demo, first_unfiltered,
+    A_AND_B, ARGV, AT_A, AT_B, AT_LOOPER, B_REACTS, BUILT_IN, BUILT_IN_A, BUILT_IN_B, COUNT,
+    COUNTING, Change, DROPPED, FORWARD, GET, LOST, PING, PREFERRED, QUIT, READY, Row, SET, SUITES,
+    Scene, TO_A, TO_B, TO_LOOPER,
 };
-use ak_handler::HandlerSet;
 use ak_message::Target;
-use std::alloc::Global;
-use std::test::Fail;
 
 static ROUTES: [Row; 42] = [
     (false, PREFERRED, GET, b"T.Hb", AT_B, 1, GET),
@@ -101,24 +98,6 @@ static BAD_TO_TOKENS: [Row; 18] = [
     (true, TO_B, PING, b"!9", LOST, 0, PING),
 ];
 
-// Tables of `demo`: the routes; specifiers that are badly formed, to the preferred handler, which is the looper, and
-// to tokens; and those that count once they are current.
-fn at_demo(alloc: Global) -> Result<[Option<Other>; 4], Fail> {
-    let set = demo(alloc)?;
-    Ok([
-        first_unfiltered(alloc, &set, &ROUTES)?,
-        first_unfiltered(alloc, &set, &BAD_TO_PREFERRED)?,
-        first_unfiltered(alloc, &set, &BAD_TO_TOKENS)?,
-        first_unfiltered(alloc, &set, &BAD_ONCE_CURRENT)?,
-    ])
-}
-
-#[test]
-fn messages_are_routed(rt: HostRuntime) -> Result<(), Fail> {
-    assert_eq!(rt; at_demo(rt.alloc())?, [None, None, None, None]);
-    Ok(())
-}
-
 // Without a match the looper is asked, which leads on to another handler, and to the same one.
 static WITH_A_PREFERRED: [Row; 6] = [
     (false, PREFERRED, GET, b"T.", AT_A, 0, GET),
@@ -135,31 +114,6 @@ static WITHOUT_A_NEXT_ONE: [Row; 1] = [(false, TO_A, QUIT, b"", LOST, 0, QUIT)];
 // The token of `a` leads nowhere.
 static ONCE_REMOVED: [Row; 1] = [(false, TO_A, GET, b"T.", DROPPED, 0, GET)];
 
-fn preferring_a(alloc: Global) -> Result<HandlerSet<Held>, Fail> {
-    let mut set = demo(alloc)?;
-    set.set_preferred(Some(1))?;
-    Ok(set)
-}
-
-// Tables of `demo` where `a` is preferred: the routes, and specifiers that are badly formed; then without a next one to
-// `a`; and once that is removed.
-fn with_a_preferred(alloc: Global) -> Result<[Option<Other>; 4], Fail> {
-    let mut set = preferring_a(alloc)?;
-    let preferred = first_unfiltered(alloc, &set, &WITH_A_PREFERRED)?;
-    let bad = first_unfiltered(alloc, &set, &BAD_TO_PREFERRED)?;
-    set.set_next(1, None)?;
-    let alone = first_unfiltered(alloc, &set, &WITHOUT_A_NEXT_ONE)?;
-    set.remove(1)?;
-    let removed = first_unfiltered(alloc, &set, &ONCE_REMOVED)?;
-    Ok([preferred, bad, alone, removed])
-}
-
-#[test]
-fn the_preferred_handler_is_asked_first(rt: HostRuntime) -> Result<(), Fail> {
-    assert_eq!(rt; with_a_preferred(rt.alloc())?, [None, None, None, None]);
-    Ok(())
-}
-
 static BEFORE_B: [Row; 2] = [
     (false, TO_A, PING, b"", B_REACTS, 0, PING),
     (false, TO_A, QUIT, b"", LOST, 0, QUIT),
@@ -170,19 +124,77 @@ static WITHOUT_B: [Row; 2] = [
     (false, TO_A, QUIT, b"", BUILT_IN, 0, QUIT),
 ];
 
-// Where `b`, which has no next one, is next to `a`, and once `b` is removed.
-fn with_b_next_to_a(alloc: Global) -> Result<[Option<Other>; 2], Fail> {
-    let mut set = demo(alloc)?;
-    set.set_next(2, None)?;
-    set.set_next(1, Some(2))?;
-    let before = first_unfiltered(alloc, &set, &BEFORE_B)?;
-    set.remove(2)?;
-    let without = first_unfiltered(alloc, &set, &WITHOUT_B)?;
-    Ok([before, without])
+const fn scene(label: &'static str, changes: &'static [Change], rows: &'static [Row]) -> Scene {
+    Scene {
+        label,
+        own: COUNTING,
+        beside: A_AND_B,
+        changes,
+        common: &[],
+        rows,
+    }
 }
 
-#[test]
-fn the_looper_is_next_to_one_whose_next_is_removed(rt: HostRuntime) -> Result<(), Fail> {
-    assert_eq!(rt; with_b_next_to_a(rt.alloc())?, [None, None]);
-    Ok(())
+const PREFER_A: &[Change] = &[Change::Prefer(1)];
+
+const PREFER_A_ALONE: &[Change] = &[Change::Prefer(1), Change::Next(1, None)];
+
+const PREFER_A_AND_REMOVE_IT: &[Change] = &[
+    Change::Prefer(1),
+    Change::Next(1, None),
+    Change::Remove(1),
+];
+
+// `b`, which has no next one, is next to `a`.
+const B_NEXT_TO_A: &[Change] = &[Change::Next(2, None), Change::Next(1, Some(2))];
+
+const B_NEXT_TO_A_REMOVED: &[Change] = &[
+    Change::Next(2, None),
+    Change::Next(1, Some(2)),
+    Change::Remove(2),
+];
+
+/// Scenes of `demo`. Specifiers that are badly formed go to the preferred handler, which is the looper or `a`, and to tokens;
+/// or they count once they are current.
+pub fn scenes() -> [Scene; 10] {
+    [
+        scene("messages are routed", &[], &ROUTES),
+        scene(
+            "bad specifiers, to the preferred handler",
+            &[],
+            &BAD_TO_PREFERRED,
+        ),
+        scene("bad specifiers, to tokens", &[], &BAD_TO_TOKENS),
+        scene(
+            "bad specifiers, once they are current",
+            &[],
+            &BAD_ONCE_CURRENT,
+        ),
+        scene(
+            "the preferred handler is asked first",
+            PREFER_A,
+            &WITH_A_PREFERRED,
+        ),
+        scene(
+            "bad specifiers, to another preferred handler",
+            PREFER_A,
+            &BAD_TO_PREFERRED,
+        ),
+        scene(
+            "a preferred one without a next one",
+            PREFER_A_ALONE,
+            &WITHOUT_A_NEXT_ONE,
+        ),
+        scene(
+            "a preferred one, once it is removed",
+            PREFER_A_AND_REMOVE_IT,
+            &ONCE_REMOVED,
+        ),
+        scene("the last one is next", B_NEXT_TO_A, &BEFORE_B),
+        scene(
+            "the looper is next to one whose next is removed",
+            B_NEXT_TO_A_REMOVED,
+            &WITHOUT_B,
+        ),
+    ]
 }

@@ -1,45 +1,19 @@
 //! Which handler takes a message, and as what.
 use super::fixture::{
-    A_REACTS, ARGV, AT_LOOPER, BUILT_IN, COUNT, DROPPED, GET, Held, LOST, Other, PING, PONG,
-    PREFERRED, QUIT, REACTS, REACTS_OTHERWISE, READY, Row, SET, SUITES, TO_A, TO_LOOPER,
-    add_handler, demo, first_unfiltered, holding, looper, looper_with, table_row,
+    A_AND_B, A_REACTS, ARGV, AT_LOOPER, BUILT_IN, Beside, COUNT, COUNTING, Change, DROPPED, GET,
+    LOST, Own, PING, PONG, PREFERRED, Property, QUIT, REACTS, REACTS_OTHERWISE, READY, Row, SET,
+    SUITES, Scene, TO_A, TO_LOOPER,
 };
 use ak_base::Code;
-use ak_filter::FilterList;
-use ak_property::PropertyTable;
-use ak_route::{
-    Route, Taker, filters_run_at_most_once, forwards_are_to_later_loopers, no_specifiers_no_steps,
-    resolved_handlers_are_there, takers_are_there, takers_lie_within,
-};
-use std::alloc::Global;
-use std::test::Fail;
-
-#[test]
-fn the_laws_of_routes_are_called() {
-    filters_run_at_most_once();
-    forwards_are_to_later_loopers();
-    no_specifiers_no_steps();
-    resolved_handlers_are_there();
-    takers_are_there();
-    takers_lie_within();
-}
+use ak_route::{Route, Taker};
 
 // Four rows, of which three have one name, and reactions on `PONG` and on `PING`.
-fn four_rows(alloc: Global) -> Result<Held, Fail> {
-    let direct: &[u32] = &[1];
-    let index: &[u32] = &[2];
-    let mut table = PropertyTable::new(alloc);
-    table.add_row(table_row(alloc, b"Title", &[], index)?)?;
-    table.add_row(table_row(alloc, b"Title", &[GET], direct)?)?;
-    table.add_row(table_row(alloc, b"Title", &[SET], direct)?)?;
-    table.add_row(table_row(alloc, b"Count", &[], &[])?)?;
-    Ok(Held {
-        table,
-        filters: FilterList::new(alloc),
-        reaction: PONG,
-        other_reaction: PING,
-    })
-}
+const FOUR_ROWS: &[Property] = &[
+    (b"Title", &[], &[2]),
+    (b"Title", &[GET], &[1]),
+    (b"Title", &[SET], &[1]),
+    (b"Count", &[], &[]),
+];
 
 // What the looper's property of that row takes, of the rows behind the first.
 const SECOND_ROW: Route = Route::Deliver {
@@ -84,11 +58,6 @@ static TAKEN: [Row; 19] = [
     (false, TO_LOOPER, PING, b"C.T.", REACTS_OTHERWISE, 0, PING),
 ];
 
-fn taken_by_four_rows(alloc: Global) -> Result<Option<Other>, Fail> {
-    let set = looper_with(alloc, four_rows(alloc)?)?;
-    first_unfiltered(alloc, &set, &TAKEN)
-}
-
 // With any number of specifiers.
 static WITH_ANY: [Row; 8] = [
     (false, TO_LOOPER, QUIT, b"C.", BUILT_IN, 0, QUIT),
@@ -100,15 +69,6 @@ static WITH_ANY: [Row; 8] = [
     (false, TO_LOOPER, SUITES, b"C.", LOST, 0, SUITES),
     (true, TO_LOOPER, SUITES, b"C.C.", LOST, 0, SUITES),
 ];
-
-#[test]
-fn commands_and_forms_decide(rt: HostRuntime) -> Result<(), Fail> {
-    let alloc = rt.alloc();
-    let taken = taken_by_four_rows(alloc)?;
-    let with_any = first_unfiltered(alloc, &demo(alloc)?, &WITH_ANY)?;
-    assert_eq!(rt; [taken, with_any], [None, None]);
-    Ok(())
-}
 
 // Of a looper with `Count`, with `Suites` and with `Handler`; the last keeps what a looper would lead on.
 static WITH_COUNT: [Row; 5] = [
@@ -126,24 +86,8 @@ static WITH_HANDLER: [Row; 2] = [
     (false, PREFERRED, GET, b"T.H0", AT_LOOPER, 0, GET),
 ];
 
-// At a looper with that property, and with reactions on `GET` and on `_QRQ`.
-fn with_reactions(alloc: Global, property: &[u8], rows: &[Row]) -> Result<Option<Other>, Fail> {
-    let mut held = holding(alloc, property, GET)?;
-    held.other_reaction = QUIT;
-    first_unfiltered(alloc, &looper_with(alloc, held)?, rows)
-}
-
-#[test]
-fn a_property_comes_first_and_what_is_built_in_last(rt: HostRuntime) -> Result<(), Fail> {
-    let alloc = rt.alloc();
-    let told = [
-        with_reactions(alloc, b"Count", &WITH_COUNT)?,
-        with_reactions(alloc, b"Suites", &WITH_SUITES)?,
-        with_reactions(alloc, b"Handler", &WITH_HANDLER)?,
-    ];
-    assert_eq!(rt; told, [None, None, None]);
-    Ok(())
-}
+// With that property, and with reactions on `GET` and on `_QRQ`.
+const WITH_REACTIONS: [Code; 2] = [GET, QUIT];
 
 static WHILE_THERE: [Row; 1] = [(false, TO_A, PING, b"", A_REACTS, 0, PING)];
 
@@ -152,18 +96,74 @@ static ONCE_REMOVED: [Row; 2] = [
     (false, PREFERRED, GET, b"C.", AT_LOOPER, 0, GET),
 ];
 
-// The looper with `Count`, and `a` with `Title` and a reaction on `PING`, which is removed then.
-fn before_and_after_a_removal(alloc: Global) -> Result<[Option<Other>; 2], Fail> {
-    let mut set = looper(alloc, Code(0))?;
-    add_handler(alloc, &mut set, b"a", PING, None)?;
-    let before = first_unfiltered(alloc, &set, &WHILE_THERE)?;
-    set.remove(1)?;
-    let after = first_unfiltered(alloc, &set, &ONCE_REMOVED)?;
-    Ok([before, after])
+// The handler `a` with `Title` and a reaction on `PING`.
+const ONLY_A: &[Beside] = &[(b"a", PING, &[])];
+
+const fn taking(
+    label: &'static str,
+    own: Own,
+    beside: &'static [Beside],
+    changes: &'static [Change],
+    rows: &'static [Row],
+) -> Scene {
+    Scene {
+        label,
+        own,
+        beside,
+        changes,
+        common: &[],
+        rows,
+    }
 }
 
-#[test]
-fn a_removed_handler_gets_nothing(rt: HostRuntime) -> Result<(), Fail> {
-    assert_eq!(rt; before_and_after_a_removal(rt.alloc())?, [None, None]);
-    Ok(())
+/// Scenes in which commands and forms decide, a property comes first and what is built in last, and a handler is removed.
+pub fn scenes() -> [Scene; 7] {
+    let counting: Own = (&[(b"Count", &[], &[])], WITH_REACTIONS);
+    let with_suites: Own = (&[(b"Suites", &[], &[])], WITH_REACTIONS);
+    let with_handler: Own = (&[(b"Handler", &[], &[])], WITH_REACTIONS);
+    [
+        taking(
+            "commands and forms decide",
+            (FOUR_ROWS, [PONG, PING]),
+            &[],
+            &[],
+            &TAKEN,
+        ),
+        taking(
+            "with any number of specifiers",
+            COUNTING,
+            A_AND_B,
+            &[],
+            &WITH_ANY,
+        ),
+        taking("a property comes first", counting, &[], &[], &WITH_COUNT),
+        taking(
+            "a property of suites comes first",
+            with_suites,
+            &[],
+            &[],
+            &WITH_SUITES,
+        ),
+        taking(
+            "a property keeps what leads on",
+            with_handler,
+            &[],
+            &[],
+            &WITH_HANDLER,
+        ),
+        taking(
+            "a handler while it is there",
+            COUNTING,
+            ONLY_A,
+            &[],
+            &WHILE_THERE,
+        ),
+        taking(
+            "a removed handler gets nothing",
+            COUNTING,
+            ONLY_A,
+            &[Change::Remove(1)],
+            &ONCE_REMOVED,
+        ),
+    ]
 }
