@@ -9,60 +9,79 @@ use std::marker::Model;
 /// How many actions a reaction may have.
 pub const ACTION_LIMIT: usize = 16;
 
-/// Where an action sends a message.
+/// Where an action sends a message. Where that is not there the action has the word that is named here.
 #[derive(Drop)]
 pub enum Dest {
     /// The preferred target of its own looper.
     Own,
-    /// The preferred target of the application's looper of that name.
+    /// The preferred target of the application's looper of that name; `K_NO_TEAM` where none has it.
     Looper(Text),
-    /// The handler of its own looper that has that name then.
+    /// The handler of its own looper that has that name then. `B_BAD_HANDLER` where none has it.
     Handler(Text),
-    /// The preferred target of a running application's own looper.
+    /// The preferred target of a running application's own looper, which is looked for first; `K_NO_TEAM`
+    /// where none fits.
     App(AppWord),
 }
 
-/// One thing that a handler does on a message.
+/// One thing that a handler does on a message. What comes of it is its answer word: `B_NO_MEMORY` where it
+/// finds no memory, and then no further action is carried out.
 #[derive(Drop)]
 pub enum Action {
-    /// The first one is the reply.
+    /// The message is the reply, unless there is one already: that one stays, and the word is
+    /// `B_DUPLICATE_REPLY`.
     Reply {
+        /// What it is made of.
         message: Template,
     },
-    /// Sends a message and waits for nothing; `back` asks for an answer to this handler.
+    /// Sends a message and waits for nothing; `back` asks for an answer to this handler. Where an application
+    /// was looked for, whether it was found is a word before that of the sending.
     Post {
+        /// Where it goes.
         to: Dest,
+        /// What the message is made of.
         message: Template,
+        /// Whether an answer is asked for.
         back: bool,
     },
     /// Sends a message and waits for its reply. Where the reply has `result` of that property's kind, the
-    /// property's first element gets its first value.
+    /// property's first element gets its first value. Its words are as those of a post.
     Ask {
+        /// Where it goes.
         to: Dest,
+        /// What the message is made of.
         message: Template,
+        /// The name of the property that gets the result, if one does.
         into: Option<Text>,
     },
-    /// Gives the first element of the property that value.
+    /// Gives the first element of the property that value, the first of several. The word is `B_OK`, or the
+    /// first of these: `B_NAME_NOT_FOUND` where the value is not there, `B_BAD_TYPE`, `B_BAD_INDEX` where the
+    /// element is not there.
     Set {
+        /// Its name.
         property: Text,
+        /// What it gets.
         value: Given,
     },
-    /// Adds that number to the first element of the property.
+    /// Adds that number to the first element of the property. The word is `B_OK`, `B_BAD_INDEX` where there
+    /// is no element, or `B_BAD_VALUE` where the two have no sum.
     Add {
+        /// Its name.
         property: Text,
+        /// What is added.
         amount: Number,
     },
-    /// No further action is carried out.
+    /// No further action is carried out. The word is `B_OK`.
     Stop,
-    /// The looper ends after this message.
+    /// The looper ends after this message; the actions go on. The word is `B_OK`.
     Quit,
 }
 
-/// Why an action was not added.
+/// Why an action was not added. They are tested in this order.
 #[derive(Clone, Copy, Debug, PartialEq, Eq)]
 pub enum ActionFault {
     /// There are 16 actions.
     ActionLimit,
+    /// Memory ran out.
     NoMemory,
 }
 
@@ -98,15 +117,17 @@ impl Model for ActionList {
     ghost invariant = { λ l. length l.list.items ≤ 16 };
 }
 
-/// What a handler does on messages of that code.
+/// What a handler does on messages of that code. Of several on one code the first counts.
 #[derive(Drop)]
 pub struct Reaction {
+    /// The code.
     pub what: Code,
+    /// What is done, in order.
     pub actions: ActionList,
 }
 
 impl Dest {
-    /// An equal one.
+    /// An equal one. `NoMemory` where memory ran out.
     pub fn try_clone(&self) -> Result<Dest, NoMemory>
         ensures { IfOk result (λ d. d ≡ self.now) }
     {
@@ -120,7 +141,7 @@ impl Dest {
 }
 
 impl Action {
-    /// An equal one.
+    /// An equal one. `NoMemory` where memory ran out.
     pub fn try_clone(&self) -> Result<Action, NoMemory>
         ensures { IfOk result (λ a. a ≡ self.now) }
     {
@@ -163,7 +184,7 @@ impl ActionList {
     }
 
     /// Adds an action at the end. `ActionLimit` at 16 actions. An `Err` changes nothing, and the action is
-    /// dropped.
+    /// dropped. `NoMemory` where memory ran out.
     pub fn push(&mut self, action: Action) -> Result<(), ActionFault>
         ensures limit { IsErrOf result ActionFault.ActionLimit ↔ (length self.old ≡ 16) }
         ensures ok { OnOk result (self.new ≡ self.old ++ action ∷ []) }
@@ -176,7 +197,7 @@ impl ActionList {
         Ok(())
     }
 
-    /// The actions in order.
+    /// The actions in order. Takes no memory.
     pub fn as_slice(&self) -> &[Action]
         ensures value { result.now ≡ self.now }
         ensures limit { length self.now ≤ 16 }
@@ -184,7 +205,7 @@ impl ActionList {
         self.list.as_slice()
     }
 
-    /// Equal actions.
+    /// Equal actions. `NoMemory` where memory ran out.
     pub fn try_clone(&self) -> Result<ActionList, NoMemory>
         ensures { IfOk result (λ l. l ≡ self.now) }
     {
@@ -194,7 +215,7 @@ impl ActionList {
 }
 
 impl Reaction {
-    /// An equal one.
+    /// An equal one. `NoMemory` where memory ran out.
     pub fn try_clone(&self) -> Result<Reaction, NoMemory>
         ensures { IfOk result (λ r. r ≡ self.now) }
     {
@@ -208,11 +229,12 @@ impl Reaction {
 /// How many reactions a handler may have.
 pub const REACTION_LIMIT: usize = 64;
 
-/// Why a reaction was not added.
+/// Why a reaction was not added. They are tested in this order.
 #[derive(Clone, Copy, Debug, PartialEq, Eq)]
 pub enum ReactionFault {
     /// There are 64 reactions.
     ReactionLimit,
+    /// Memory ran out.
     NoMemory,
 }
 
@@ -259,7 +281,7 @@ impl ReactionList {
     }
 
     /// Adds a reaction at the end. `ReactionLimit` at 64 reactions. An `Err` changes nothing, and the
-    /// reaction is dropped.
+    /// reaction is dropped. `NoMemory` where memory ran out.
     pub fn push(&mut self, reaction: Reaction) -> Result<(), ReactionFault>
         ensures limit { IsErrOf result ReactionFault.ReactionLimit ↔ (length self.old ≡ 64) }
         ensures ok { OnOk result (self.new ≡ self.old ++ reaction ∷ []) }
@@ -272,7 +294,7 @@ impl ReactionList {
         Ok(())
     }
 
-    /// The reactions in order.
+    /// The reactions in order. Takes no memory.
     pub fn as_slice(&self) -> &[Reaction]
         ensures value { result.now ≡ self.now }
         ensures limit { length self.now ≤ 64 }
@@ -280,7 +302,7 @@ impl ReactionList {
         self.list.as_slice()
     }
 
-    /// Equal reactions.
+    /// Equal reactions. `NoMemory` where memory ran out.
     pub fn try_clone(&self) -> Result<ReactionList, NoMemory>
         ensures { IfOk result (λ l. l ≡ self.now) }
     {

@@ -16,11 +16,12 @@ use ak_message::{Address, Message, Target, Value};
 use ak_value::ElementFault;
 use std::alloc::Global;
 
-/// How a message is sent: without waiting, with an address for an answer or none; or waiting for its reply,
-/// whose result the property at that place gets, if one does.
+/// How a message is sent.
 #[derive(Clone, Copy, Debug, PartialEq, Eq)]
 pub enum Sending {
+    /// Without waiting, with an address for an answer or none.
     Post { back: Option<Address> },
+    /// Waiting for its reply, whose result the property at that place gets, if one does. Places count from 0.
     Ask { into: Option<usize> },
 }
 

@@ -62,7 +62,8 @@ impl Stage {
 }
 
 /// One reaction of a handler on one message, carried out action by action. `next` says what it wants from
-/// outside, and `give` hands it the answer.
+/// outside, and `give` hands it the answer. Contracts see the message, the place of the action, what it waits
+/// for, and what was said so far.
 #[derive(Drop)]
 pub struct Interp {
     message: Message,
@@ -92,8 +93,8 @@ impl Model for Interp {
 }
 
 impl Interp {
-    /// The reaction at that place of the handler with that token, on the message. Room for all answers is
-    /// reserved.
+    /// The reaction at that place of the handler with that token, on the message. Reactions count from 0; one
+    /// that is not there has no actions. Room for all answers is reserved: `NoMemory` where there is none.
     pub fn start(alloc: Global, m: Message, token: u64, reaction: u32) -> Result<Interp, NoMemory>
         ensures { IfOk result (λ i. i ≡ started m token reaction) }
     {
@@ -110,8 +111,8 @@ impl Interp {
     }
 
     /// Carries out actions until one wants something from outside, which is answered; `Done` where none is
-    /// left. Where an action finds no memory it changes nothing, its word is that, and no further action is
-    /// carried out.
+    /// left. Before a further call that want has to be answered. Where an action finds no memory it changes
+    /// nothing, its word is that, and no further action is carried out: `NoMemory` is answered.
     #[tactic(auto, using(crate::proofs::Stages::stages))]
     pub fn next(&mut self, state: &mut DeskState) -> Result<Want, NoMemory>
         requires { MayGoOn self.old }
@@ -135,7 +136,9 @@ impl Interp {
         }
     }
 
-    /// Hands it the answer to the last want. An answer `NoMemory` ends the list of actions. Takes no memory.
+    /// Hands it the answer to the last want. It has to be one to that want, as `Answer` says, and the flat
+    /// text of a reply has to spell its message. An answer `NoMemory` ends the list of actions. Takes no
+    /// memory.
     #[tactic(auto, using(crate::proofs::Stages::stages))]
     pub fn give(&mut self, state: &mut DeskState, a: Answer)
         requires { Answers self.old a }
@@ -148,7 +151,8 @@ impl Interp {
         }
     }
 
-    /// What it came to. Takes no memory.
+    /// What it came to. It has to have ended: by `Done`, by `NoMemory` of `next`, or by an answer `NoMemory`.
+    /// Takes no memory.
     pub fn finish(self) -> Acted
         requires { HasEnded self }
         ensures answers { result.answers ≡ self.words }

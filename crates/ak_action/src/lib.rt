@@ -1,7 +1,8 @@
-//! What a looper does with a message by its reactions: the actions of a reaction, the messages that they
-//! make, the plan of a looper as it is described, and the state of its handlers as messages and edits leave
-//! it. An `Interp` carries out one reaction; it asks for one answer from outside at a time. Contracts see
-//! one function of the state, the message and all answers. Nothing here waits, and nothing is shared.
+//! What a looper does with a message by its reactions: the actions of a reaction, and the messages that they
+//! make. Here are also the plan of a looper as it is described, and the state of its handlers as messages and
+//! edits leave it. An `Interp` carries out one reaction; it asks for one answer from outside at a time.
+//! Contracts see one function of the state, the message and all answers. Nothing here waits, and nothing is
+//! shared.
 #![tactic(auto)]
 
 mod action;

@@ -5,7 +5,7 @@ ghost use Rattle.ak_action.specs.Number.{number_value, number_of, int_of, number
 
 use ak_message::{Kind, Value};
 
-/// A whole number of one of the eight kinds.
+/// A whole number of one of the eight kinds. The variants are named as those of `Kind`.
 #[derive(Clone, Copy, Debug, PartialEq, Eq)]
 pub enum Number {
     Int8(i8),

@@ -12,9 +12,11 @@ use ak_handler::HandlerSet;
 use std::alloc::Global;
 
 impl DeskState {
-    /// The state in which the looper of the plan begins: it has that number, its team has that one, and
-    /// these are the names of the application's loopers, of which the first has the number `first`. The
-    /// handlers have the tokens 0, 1, 2 and so on, in the plan's order.
+    /// The state in which the looper of the plan begins. It has the number `looper`, and its team is `team`.
+    /// `names` are those of the application's loopers, of which the first has the number `first`. The
+    /// handlers have the tokens 0, 1, 2 and so on, in the plan's order. The names have to be at most 8, to
+    /// differ, and to have numbers below 32. The looper has to be the one of its name among them, and its
+    /// actions may name these alone (`knows_loopers`). `NoMemory` where memory ran out.
     pub fn from_plan(
         alloc: Global,
         plan: LooperPlan,
@@ -43,7 +45,7 @@ impl DeskState {
 }
 
 impl LooperPlan {
-    /// Whether each looper that an action names is one of these. Takes no memory.
+    /// Whether each looper that an action of the plan names is one of these. Takes no memory.
     pub fn knows_loopers(&self, names: &[Text]) -> bool
         ensures { result ≡ knows_loopers names.now self.now.rows }
     {

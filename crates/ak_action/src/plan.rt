@@ -17,33 +17,45 @@ mod whole;
 pub(crate) use rows::{next_place, place_named};
 pub use whole::plans_are_whole;
 
-/// The most messages that a port may keep.
+/// The greatest capacity of a port, in items.
 pub const CAPACITY_LIMIT: u32 = 1_000;
 
 /// How many suites of its own a handler may have.
 pub const SUITE_LIMIT: usize = 16;
 
-/// A handler as it is described. `next` is the name of its next handler, in place of the looper.
+/// A handler as it is described.
 #[derive(Drop)]
 pub struct PlanRow {
+    /// Its name, which in a plan is a word that no other handler has.
     pub name: Text,
+    /// The name of its next handler. None means the looper; the looper itself has none.
     pub next: Option<Text>,
+    /// Its own suites, in a plan at most 16.
     pub suites: Items<Text>,
+    /// Its properties.
     pub table: PropertyTable,
+    /// The elements of its properties, in the order of the table.
     pub elements: ElementsList,
+    /// Its filters, in the order in which they run.
     pub filters: FilterList,
+    /// Its reactions. The first one on a code counts.
     pub reactions: ReactionList,
 }
 
-/// A looper as it is described: its name, the capacity of its port, whether it refuses to quit, the name of
-/// the preferred handler, the filters of all its handlers, and its handlers, the looper itself first.
+/// A looper as it is described. `LooperPlan::new` tests it.
 #[derive(Drop)]
 pub struct PlanParts {
+    /// Its name, which is that of its first handler.
     pub name: Text,
+    /// How many items its port holds at a time.
     pub capacity: u32,
+    /// Whether it refuses to quit.
     pub quit_refused: bool,
+    /// The name of the preferred handler, if one is.
     pub preferred: Option<Text>,
+    /// The common filters, in the order in which they run.
     pub common: FilterList,
+    /// Its handlers, the looper itself first.
     pub rows: Items<PlanRow>,
 }
 
@@ -54,7 +66,7 @@ pub enum PlanFault {
     BadLooper,
     /// The capacity is not from 1 to 1,000.
     BadCapacity,
-    /// There are over 64 handlers.
+    /// There are over 64 handlers, the looper counted.
     HandlerLimit,
     /// A handler's name is no word.
     BadName,
@@ -66,11 +78,11 @@ pub enum PlanFault {
     ChainLoop,
     /// A handler has over 16 suites.
     SuiteLimit,
-    /// Two properties of a handler have one name, or the elements are not those of the properties, one for
-    /// each and of its kind, or a property is of messages.
+    /// Two properties of a handler have one name, or a property is of messages. Or the elements are not those
+    /// of the properties, one list for each, in order and of its kind.
     BadTable,
-    /// An action names a property that its handler does not have, asks a handler, or its own looper without
-    /// naming it, sets several values, or adds a number of another kind than the property's.
+    /// An action names a property that its handler does not have, or adds a number of another kind than the
+    /// property's. Or it asks a handler, or its own looper without naming it, or it sets several values.
     BadAction,
 }
 
@@ -98,7 +110,7 @@ impl Model for LooperPlan {
 
 impl LooperPlan {
     /// The plan of these parts. The faults are tested in the order of `PlanFault`; no other one comes. After
-    /// an `Err` the parts are dropped. Takes no memory.
+    /// an `Err` the parts are dropped. Takes no memory. The allocator is kept for copies.
     pub fn new(alloc: Global, parts: PlanParts) -> Result<LooperPlan, PlanFault>
         ensures refused { IfSome (plan_fault parts) (λ f. result ≡ Err f) }
         ensures only { IfNone (plan_fault parts) (IsOk result) }
@@ -110,7 +122,7 @@ impl LooperPlan {
         }
     }
 
-    /// Its parts.
+    /// Its parts. Takes no memory.
     pub fn parts(&self) -> &PlanParts
         ensures value { result.now ≡ self.now }
         ensures is_plan { IsPlan self.now }
@@ -126,7 +138,7 @@ impl LooperPlan {
         self.parts
     }
 
-    /// An equal plan.
+    /// An equal plan. `NoMemory` where memory ran out.
     pub fn try_clone(&self) -> Result<LooperPlan, NoMemory>
         ensures { IfOk result (λ p. p ≡ self.now) }
     {

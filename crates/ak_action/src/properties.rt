@@ -13,7 +13,7 @@ use std::alloc::Global;
 use std::marker::Model;
 
 /// The elements of the properties of a handler, in the order of the rows of its table. Contracts see the
-/// list.
+/// list. Places count from 0.
 #[derive(Drop)]
 pub struct ElementsList {
     list: Vec<Elements>,
@@ -32,21 +32,21 @@ impl Model for ElementsList {
 }
 
 impl ElementsList {
-    /// Takes no memory.
+    /// These elements, those of one property after the other. Takes no memory.
     pub fn from_vec(list: Vec<Elements>) -> ElementsList
         ensures { result ≡ list.items }
     {
         ElementsList { list }
     }
 
-    /// The elements of each property, in order.
+    /// The elements of each property, in order. Takes no memory.
     pub fn as_slice(&self) -> &[Elements]
         ensures { result.now ≡ self.now }
     {
         self.list.as_slice()
     }
 
-    /// Equal elements.
+    /// Equal elements. `NoMemory` where memory ran out.
     pub fn try_clone(&self) -> Result<ElementsList, NoMemory>
         ensures { IfOk result (λ l. l ≡ self.now) }
     {
@@ -54,8 +54,8 @@ impl ElementsList {
         Ok(ElementsList { list })
     }
 
-    /// The value of the first element of the property at that place. `None` where there is none. Takes no
-    /// memory.
+    /// The value of the first element of the property at that place. `None` where there is no such property
+    /// or no element. Takes no memory.
     pub fn first_at(&self, place: usize) -> Option<&Value>
         ensures { option_map (λ v. value_of v.now) result
             ≡ option_and_then (λ e. first_value e.list) (slice_get self.now place) }
@@ -63,16 +63,16 @@ impl ElementsList {
         self.list.get(place)?.first()
     }
 
-    /// The kind of the property at that place. `None` where there is none. Takes no memory.
+    /// The kind of the property at that place. `None` where there is no such property. Takes no memory.
     pub fn kind_at(&self, place: usize) -> Option<Kind>
         ensures { result ≡ option_map (λ e. e.kind) (slice_get self.now place) }
     {
         Some(self.list.get(place)?.kind())
     }
 
-    /// Why the first element of the property at that place cannot get the value: `BadType` where it is of
-    /// another kind, and then `BadIndex` where there is no element, also where there is no such property.
-    /// Takes no memory.
+    /// Why the first element of the property at that place cannot get the value. `BadType` where it is of
+    /// another kind, and then `BadIndex` where there is no element. `BadIndex` also where there is no such
+    /// property. Takes no memory.
     pub fn set_fault_at(&self, place: usize, value: &Value) -> Option<ElementFault>
         ensures { result ≡ set_fault_at self.now place (kind_of (value_of value.now)) }
     {
@@ -82,8 +82,8 @@ impl ElementsList {
         }
     }
 
-    /// Gives the first element of the property at that place another value, where it is of the property's
-    /// kind and there is an element; else nothing changes. Takes no memory.
+    /// Where the value is of the property's kind and there is an element, the first element of the property
+    /// at that place gets it. Else nothing changes, and the value is dropped. Takes no memory.
     pub fn set_first_at(&mut self, place: usize, value: Value)
         ensures { self.new ≡ with_first_at self.old place (value_of value) }
     {
@@ -92,8 +92,8 @@ impl ElementsList {
         }
     }
 
-    /// Gives the first element of the property at that place the first value of the reply's field `result`,
-    /// where that is of the property's kind and there is an element; else nothing changes. Takes no memory.
+    /// Where the reply's field `result` is of the property's kind, the first element of the property at that
+    /// place gets its first value. Where it is not, or there is no element, nothing changes. Takes no memory.
     pub fn take_result_at(&mut self, place: usize, mut reply: Message)
         ensures { self.new ≡ with_result_at self.old place reply }
     {
@@ -106,7 +106,8 @@ impl ElementsList {
     }
 
     /// Carries out a command on the elements of the property at that place, as `Elements::access` does.
-    /// `BadScript` where there is no such property. An `Err` changes nothing.
+    /// `BadScript` where there is no such property. An `Err` changes nothing. The other refusals come in the
+    /// order of `ElementFault`.
     pub fn access_at(
         &mut self,
         place: usize,

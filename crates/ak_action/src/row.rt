@@ -11,14 +11,18 @@ use ak_message::Value;
 use ak_property::{HandlerRow, PropertyTable};
 use std::alloc::Global;
 
-/// What a handler of a looper holds: its suites, its properties with their elements in the order of the
-/// table's rows, its filters and its reactions.
+/// What a handler of a looper holds.
 #[derive(Drop)]
 pub struct DeskRow {
+    /// Its own suites.
     pub suites: Items<Text>,
+    /// Its properties.
     pub table: PropertyTable,
+    /// The elements of its properties, in the order of the table's rows.
     pub elements: ElementsList,
+    /// Its filters, in the order in which they run.
     pub filters: FilterList,
+    /// Its reactions. The first one on a code counts.
     pub reactions: ReactionList,
 }
 
@@ -36,7 +40,8 @@ impl DeskRow {
         }
     }
 
-    /// The place of the property of that name in the table. Takes no memory.
+    /// The place of the first property of that name in the table, counted from 0. `None` where none has it.
+    /// Takes no memory.
     pub fn place_of(&self, name: &[u8]) -> Option<usize>
         ensures { result ≡ place_of_property self.now name.now }
     {
@@ -46,8 +51,8 @@ impl DeskRow {
             .position(|row| row.name.as_bytes() == name)
     }
 
-    /// The value of the first element of the property of that name. `None` where there is none. Takes no
-    /// memory.
+    /// The value of the first element of the property of that name. `None` where there is no such property or
+    /// no element. Takes no memory.
     pub fn first_of(&self, name: &[u8]) -> Option<&Value>
         ensures { option_map (λ v. value_of v.now) result ≡ first_of self.now name.now }
     {

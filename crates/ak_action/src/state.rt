@@ -7,17 +7,24 @@ use ak_base::{Items, Text};
 use ak_filter::FilterList;
 use ak_handler::HandlerSet;
 
-/// What messages and edits change of a looper, and what they meet there: its number in the run, its team,
-/// the number of its team's first looper, the names of the application's loopers in order, at most 8, whether
-/// it refuses to quit, its handlers, and its common filters.
+/// What messages and edits change of a looper, and what they meet there. The numbers of its application's
+/// loopers are below 32.
 #[derive(Drop)]
 pub struct DeskState {
+    /// Its number in the run.
     pub looper: u32,
+    /// Its team.
     pub team: u32,
+    /// The number of its team's first looper.
     pub first: u32,
+    /// The names of its application's loopers in their order, at most 8. The one at place `i` has the number
+    /// `first + i`.
     pub names: Items<Text>,
+    /// Whether it refuses to quit.
     pub quit_refused: bool,
+    /// Its handlers, itself first, with what each holds.
     pub handlers: HandlerSet<DeskRow>,
+    /// Its common filters.
     pub common: FilterList,
     // The numbers of its application's loopers are below 32.
     ghost numbers: { first + length names ≤ 32 },
@@ -28,7 +35,7 @@ pub struct DeskState {
 impl DeskState {
     ghost use Rattle.ak_action.specs.State.{looper_named};
 
-    /// The number of the application's looper of that name. Takes no memory.
+    /// The number of the application's first looper of that name. `None` where none has it. Takes no memory.
     pub fn looper_named(&self, name: &[u8]) -> Option<u32>
         ensures { result ≡ looper_named self.now name.now }
     {

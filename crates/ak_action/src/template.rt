@@ -19,7 +19,7 @@ pub enum Given {
 }
 
 impl Given {
-    /// An equal one.
+    /// An equal one. `NoMemory` where memory ran out.
     pub fn try_clone(&self) -> Result<Given, NoMemory>
         ensures { IfOk result (λ g. g ≡ self.now) }
     {
@@ -34,7 +34,9 @@ impl Given {
 /// A field of a message that is still to be made.
 #[derive(Drop)]
 pub struct TemplateField {
+    /// Its name, which in `TemplateFields` is a word.
     pub name: Text,
+    /// What it gets as its values.
     pub given: Given,
 }
 
@@ -47,6 +49,7 @@ pub enum TemplateFault {
     NameInUse,
     /// There are 64 fields.
     FieldLimit,
+    /// Memory ran out.
     NoMemory,
 }
 
@@ -84,10 +87,12 @@ impl Model for TemplateFields {
 }
 
 /// A message that is still to be made: its code, and its fields. A field whose value is not there when it is
-/// made is left out.
+/// made is left out. So is a value that is too deep to stand in a message.
 #[derive(Drop)]
 pub struct Template {
+    /// Its code.
     pub what: Code,
+    /// Its fields, in their order.
     pub fields: TemplateFields,
 }
 
@@ -102,7 +107,7 @@ impl TemplateFields {
     }
 
     /// Adds a field at the end. The faults are tested in the order of `TemplateFault`. An `Err` changes
-    /// nothing, and the field is dropped.
+    /// nothing, and the field is dropped. `NoMemory` comes last.
     pub fn add(&mut self, field: TemplateField) -> Result<(), TemplateFault>
         ensures refused { IfSome (add_fault self.old field.name) (λ f. result ≡ Err f) }
         ensures only { IfNone (add_fault self.old field.name) (IsOkUnless result TemplateFault.NoMemory) }
@@ -122,7 +127,7 @@ impl TemplateFields {
         Ok(())
     }
 
-    /// The fields in order.
+    /// The fields in order. Takes no memory.
     pub fn as_slice(&self) -> &[TemplateField]
         ensures value { result.now ≡ self.now }
         ensures are_fields { AreTemplateFields self.now }
@@ -130,7 +135,7 @@ impl TemplateFields {
         self.list.as_slice()
     }
 
-    /// Equal fields.
+    /// Equal fields. `NoMemory` where memory ran out.
     pub fn try_clone(&self) -> Result<TemplateFields, NoMemory>
         ensures { IfOk result (λ t. t ≡ self.now) }
     {
@@ -140,7 +145,7 @@ impl TemplateFields {
 }
 
 impl TemplateField {
-    /// An equal one.
+    /// An equal one. `NoMemory` where memory ran out.
     pub fn try_clone(&self) -> Result<TemplateField, NoMemory>
         ensures { IfOk result (λ f. f ≡ self.now) }
     {
@@ -152,7 +157,7 @@ impl TemplateField {
 }
 
 impl Template {
-    /// An equal one.
+    /// An equal one. `NoMemory` where memory ran out.
     pub fn try_clone(&self) -> Result<Template, NoMemory>
         ensures { IfOk result (λ t. t ≡ self.now) }
     {

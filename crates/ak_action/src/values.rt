@@ -16,6 +16,7 @@ pub enum ValuesFault {
     ValueLimit,
     /// It is a message in which messages stand 16 deep, so no message can hold it.
     TooDeep,
+    /// Memory ran out.
     NoMemory,
 }
 
@@ -41,8 +42,8 @@ impl<T: Drop> From<AllocFailed<T>> for ValuesFault {
     }
 }
 
-/// What a field of a message can hold: one value or more, at most 255, all of one kind, and where they are
-/// messages, of a depth below 16. Contracts see the kind and the list.
+/// What a field of a message can hold: one value or more, at most 255, all of one kind. Messages among them
+/// have a depth below 16. Contracts see the kind and the list.
 #[derive(Drop)]
 pub struct Values {
     kind: Kind,
@@ -62,7 +63,7 @@ impl Model for Values {
 }
 
 impl Values {
-    /// This value alone.
+    /// This value alone. It is refused with `TooDeep`, and else only with `NoMemory`; then it is dropped.
     pub fn one(alloc: Global, value: Value) -> Result<Values, ValuesFault>
         ensures refused { IfSome (depth_fault (value_of value)) (λ f. result ≡ Err f) }
         ensures only { IfNone (depth_fault (value_of value)) (IsOkUnless result ValuesFault.NoMemory) }
@@ -78,7 +79,7 @@ impl Values {
     }
 
     /// Adds a value at the end. The faults are tested in the order of `ValuesFault`. An `Err` changes
-    /// nothing, and the value is dropped.
+    /// nothing, and the value is dropped. `NoMemory` comes last.
     pub fn push(&mut self, value: Value) -> Result<(), ValuesFault>
         ensures refused { IfSome (push_fault self.old (value_of value)) (λ f. result ≡ Err f) }
         ensures only { IfNone (push_fault self.old (value_of value)) (IsOkUnless result ValuesFault.NoMemory) }
@@ -98,7 +99,7 @@ impl Values {
         Ok(())
     }
 
-    /// The kind of each of them.
+    /// The kind of each of them. Takes no memory.
     pub fn kind(&self) -> Kind
         ensures value { result ≡ self.now.kind }
         ensures are_values { AreValues self.now }
@@ -106,7 +107,7 @@ impl Values {
         self.kind
     }
 
-    /// The values in order.
+    /// The values in order, 1 to 255. Takes no memory.
     pub fn as_slice(&self) -> &[Value]
         ensures value { map value_of result.now ≡ self.now.list }
         ensures are_values { AreValues self.now }
@@ -114,7 +115,7 @@ impl Values {
         self.list.as_slice()
     }
 
-    /// Equal values.
+    /// Equal values. `NoMemory` where memory ran out.
     pub fn try_clone(&self) -> Result<Values, NoMemory>
         ensures { IfOk result (λ v. v ≡ self.now) }
     {

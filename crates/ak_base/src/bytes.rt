@@ -4,7 +4,7 @@ use crate::no_memory::NoMemory;
 use std::alloc::Global;
 use std::marker::Model;
 
-/// A list of bytes that grows at its end.
+/// A list of bytes that grows at its end. Contracts see the list. Places count from 0.
 #[derive(Debug, Drop)]
 pub struct Bytes {
     items: Vec<u8>,
@@ -28,7 +28,7 @@ impl Bytes {
         }
     }
 
-    /// No bytes, and memory for so many.
+    /// No bytes, and memory for so many. `NoMemory` where that is not to be had.
     pub fn with_capacity(alloc: Global, capacity: usize) -> Result<Bytes, NoMemory>
         ensures { IfOk result (λ b. b ≡ []) }
     {
@@ -37,7 +37,7 @@ impl Bytes {
         })
     }
 
-    /// Adds one byte at the end. An `Err` changes nothing.
+    /// Adds one byte at the end. An `Err` changes nothing. `NoMemory` where memory ran out.
     pub fn push(&mut self, byte: u8) -> Result<(), NoMemory>
         ensures ok { OnOk result (self.new ≡ self.old ++ byte ∷ []) }
         ensures err { OnErr result (self.new ≡ self.old) }
@@ -46,7 +46,8 @@ impl Bytes {
         Ok(())
     }
 
-    /// Adds a piece at the end, all of it or nothing. An `Err` changes nothing.
+    /// Adds a piece at the end, all of it or nothing. An `Err` changes nothing. `NoMemory` where memory ran
+    /// out.
     pub fn extend(&mut self, piece: &[u8]) -> Result<(), NoMemory>
         ensures ok { OnOk result (self.new ≡ self.old ++ piece.now) }
         ensures err { OnErr result (self.new ≡ self.old) }
@@ -62,7 +63,8 @@ impl Bytes {
         self.items.len()
     }
 
-    /// Puts a piece at a place, over as many bytes that stand there.
+    /// Puts a piece at a place, over as many bytes that stand there. The piece has to end within the bytes,
+    /// so their number stays. Takes no memory.
     pub fn overwrite(&mut self, place: usize, piece: &[u8])
         requires { place + length piece.now ≤ length self.old }
         ensures { self.new ≡ take place self.old ++ piece.now ++ drop (place + length piece.now) self.old }
@@ -82,6 +84,7 @@ impl Bytes {
         self.items.clear();
     }
 
+    /// The bytes, in their order.
     pub fn as_slice(&self) -> &[u8]
         ensures { result.now ≡ self.now }
     {

@@ -5,41 +5,43 @@ ghost use Rattle.ak_base.specs.Code as code;
 use crate::bytes::Bytes;
 use crate::no_memory::NoMemory;
 
-/// A type or command code: four bytes, the first one highest.
+/// A type or command code: four bytes, the first one highest. The letters of a code are its bytes. (The Be
+/// Book, The Application Kit, BMessage: what; Scripting.)
 #[derive(Clone, Copy, Debug, PartialEq, Eq)]
 pub struct Code(pub u32);
 
 impl Code {
-    /// `'PGET'`
+    /// `'PGET'`: the command get. (BeOS: B_GET_PROPERTY.)
     pub const GET: Code = Code(0x5047_4554);
-    /// `'PSET'`
+    /// `'PSET'`: the command set. (BeOS: B_SET_PROPERTY.)
     pub const SET: Code = Code(0x5053_4554);
-    /// `'PCNT'`
+    /// `'PCNT'`: the command count. (BeOS: B_COUNT_PROPERTIES.)
     pub const COUNT: Code = Code(0x5043_4E54);
-    /// `'PCRT'`
+    /// `'PCRT'`: the command create. (BeOS: B_CREATE_PROPERTY.)
     pub const CREATE: Code = Code(0x5043_5254);
-    /// `'PDEL'`
+    /// `'PDEL'`: the command delete. (BeOS: B_DELETE_PROPERTY.)
     pub const DELETE: Code = Code(0x5044_454C);
-    /// `'PEXE'`
+    /// `'PEXE'`: execute, which has a name and no more: it is no command on properties. (BeOS:
+    /// B_EXECUTE_PROPERTY.)
     pub const EXECUTE: Code = Code(0x5045_5845);
-    /// `'SUIT'`
+    /// `'SUIT'`: asks a handler for its suites. (BeOS: B_GET_SUPPORTED_SUITES.)
     pub const SUITES: Code = Code(0x5355_4954);
-    /// `'RPLY'`
+    /// `'RPLY'`: a reply. (BeOS: B_REPLY.)
     pub const REPLY: Code = Code(0x5250_4C59);
-    /// `'NONE'`
+    /// `'NONE'`: that there is no reply. (BeOS: B_NO_REPLY.)
     pub const NO_REPLY: Code = Code(0x4E4F_4E45);
-    /// `'MNOT'`
+    /// `'MNOT'`: that a message was not understood. (BeOS: B_MESSAGE_NOT_UNDERSTOOD.)
     pub const NOT_UNDERSTOOD: Code = Code(0x4D4E_4F54);
-    /// `'_QRQ'`
+    /// `'_QRQ'`: asks a looper to end. (BeOS: B_QUIT_REQUESTED.)
     pub const QUIT_REQUESTED: Code = Code(0x5F51_5251);
-    /// `'_ARG'`
+    /// `'_ARG'`: that arguments were received. (BeOS: B_ARGV_RECEIVED.)
     pub const ARGV_RECEIVED: Code = Code(0x5F41_5247);
-    /// `'_RTR'`
+    /// `'_RTR'`: that an application is ready to run. (BeOS: B_READY_TO_RUN.)
     pub const READY_TO_RUN: Code = Code(0x5F52_5452);
 
-    /// Adds the code's printed form: its bytes between `'`, as `'PGET'`, where each is from 0x20 to 0x7E
-    /// and none is `'` or `\`, and else `0x` and eight hexadecimal digits in lower case. An `Err` changes
-    /// nothing.
+    /// Adds the code's printed form. Where each of its bytes is from 0x20 to 0x7E, and none is `'` or `\`,
+    /// they stand between `'`, as `'PGET'`. Any other code is `0x` and eight hexadecimal digits in lower
+    /// case. An `Err` changes nothing. `NoMemory` where memory ran out.
     #[tactic(auto, unfolding(crate::specs::Code::code_text))]
     pub fn print(&self, out: &mut Bytes) -> Result<(), NoMemory>
         ensures ok { OnOk result (out.new ≡ out.old ++ code.code_text self.now.0) }
@@ -54,7 +56,8 @@ impl Code {
     }
 
     /// The code that the bytes are a text of. Each code is read from its eight digits after `0x`, and one
-    /// whose bytes may stand between quotes from these too. None where the bytes are no text of a code.
+    /// whose bytes may stand between quotes from these too. None where the bytes are no text of a code. Takes
+    /// no memory.
     pub fn read(word: &[u8]) -> Option<Code>
         ensures found { IfSome result (λ c. code.IsCodeText word.now c.0) }
         ensures none { IfNone result ((n : ℕ) → code.IsCodeText word.now n → ⊥) }

@@ -5,29 +5,44 @@ pub enum Ending {
     Done,
     /// The words of the command line are none of the forms.
     Usage,
-    /// The input is no script.
+    /// The input is no script. The number of the line at fault, and why.
     Refused { line: u32, kind: RefusalKind },
+    /// A read failed.
     ReadFault,
+    /// A write failed.
     WriteFault,
+    /// A thread cannot be started. It does not come yet.
     ThreadFault,
+    /// Memory ran out.
     NoMemory,
 }
 
 /// Why an input is refused.
 #[derive(Clone, Copy, Debug, PartialEq, Eq)]
 pub enum RefusalKind {
+    /// The input has over 1,048,576 bytes.
     InputTooLong,
+    /// The bytes of the line are not UTF-8.
     NotUtf8,
+    /// Quotes, a brace or a bracket of the line is not closed, or an escape is none.
     BadWord,
+    /// The first word of the line may not stand there.
     UnknownLine,
-    /// At this column, counted from 1.
+    /// A hey line is not of its form, at this column, counted from 1.
     BadHey(u32),
+    /// The further words of the line are not of its form.
     BadValue,
+    /// What the line names is given again.
     NameInUse,
+    /// The line passes a limit.
     Limit,
+    /// The lines end with an application that has no looper.
     Unfinished,
+    /// A handler, a looper or an asked application is not there.
     UnknownName,
+    /// The next handlers come back to the handler of the line.
     ChainLoop,
+    /// What is asked is not described later than the one that asks.
     AskOrder,
     /// The program does not run such an input yet.
     NotYet,

@@ -2,28 +2,49 @@ ghost use Rattle.std.specs.Prelude.{◌≡◌};
 ghost use Rattle.ak_base.specs.Error.{number_of, name_of};
 
 /// The errors that are printed or put into a reply. Those that begin with B are named after BeOS, and
-/// those that begin with K are this project's own; all numbers are its own.
+/// those that begin with K are this project's own; all numbers are its own. (The Be Book, The Support Kit:
+/// error codes.)
 #[derive(Clone, Copy, Debug, PartialEq, Eq)]
 pub enum KitError {
+    /// `B_OK`: it was done.
     Ok,
+    /// `B_NO_MEMORY`: memory ran out.
     NoMemory,
+    /// `B_BAD_TYPE`: a value is of another kind.
     BadType,
+    /// `B_NAME_NOT_FOUND`: what was named is not there.
     NameNotFound,
+    /// `B_BAD_INDEX`: what was chosen is not there.
     BadIndex,
+    /// `B_BAD_PORT_ID`: the port is shut.
     BadPortId,
+    /// `B_WOULD_BLOCK`: the port is full, and the sender does not wait.
     WouldBlock,
+    /// `B_BAD_VALUE`: a value is missing, or two numbers have no sum.
     BadValue,
+    /// `B_BAD_HANDLER`: there is no such handler.
     BadHandler,
+    /// `B_NAME_IN_USE`: a handler has that name.
     NameInUse,
+    /// `B_DUPLICATE_REPLY`: a reply was made before.
     DuplicateReply,
+    /// `B_BAD_SCRIPT_SYNTAX`: the command does not go with the specifiers.
     BadScriptSyntax,
+    /// `B_ALREADY_RUNNING`: a team that runs keeps the application from starting.
     AlreadyRunning,
+    /// `B_LAUNCH_FAILED_APP_NOT_FOUND`: no description fits.
     LaunchFailedAppNotFound,
+    /// `K_SPENT`: the port has accepted all that it ever does.
     Spent,
+    /// `K_TOO_LONG`: a flat text has over 4,096 bytes.
     TooLong,
+    /// `K_LIMIT`: a limit is reached.
     Limit,
+    /// `K_CHAIN_LOOP`: a chain of handlers would come back.
     ChainLoop,
+    /// `K_IS_LOOPER`: a looper stays and has no next handler.
     IsLooper,
+    /// `K_NO_TEAM`: there is no such team.
     NoTeam,
 }
 
@@ -56,7 +77,7 @@ impl KitError {
         }
     }
 
-    /// The name that is printed.
+    /// The name that is printed, as it stands at each variant.
     pub fn name(&self) -> &'static str
         ensures { result.now ≡ name_of self.now }
     {

@@ -18,18 +18,21 @@ impl<T> Model for Items<T> {
 }
 
 impl<T> Items<T> {
+    /// The values of the `Vec`, in its order.
     pub fn from_vec(items: Vec<T>) -> Items<T>
         ensures { result ≡ items.items }
     {
         Items { items }
     }
 
+    /// Gives the values back as a `Vec`, in their order.
     pub fn into_vec(self) -> Vec<T>
         ensures { result.items ≡ self }
     {
         self.items
     }
 
+    /// The values, in their order.
     pub fn as_slice(&self) -> &[T]
         ensures { result.now ≡ self.now }
     {

@@ -10,7 +10,7 @@ use crate::no_memory::NoMemory;
 const DIGITS_LIMIT: usize = 20;
 
 /// Adds the number in decimal: a `-` where it is below 0, then its digits without a leading zero.
-/// An `Err` changes nothing.
+/// An `Err` changes nothing. `NoMemory` where memory ran out.
 pub fn print_int(n: i64, out: &mut Bytes) -> Result<(), NoMemory>
     ensures ok { OnOk result (out.new ≡ out.old ++ signed_decimal n) }
     ensures err { OnErr result (out.new ≡ out.old) }
@@ -18,7 +18,8 @@ pub fn print_int(n: i64, out: &mut Bytes) -> Result<(), NoMemory>
     out.extend(n.to_string(out.allocator())?.as_bytes())
 }
 
-/// Adds the number in decimal, without a leading zero. An `Err` changes nothing.
+/// Adds the number in decimal, without a leading zero. An `Err` changes nothing. `NoMemory` where memory ran
+/// out.
 pub fn print_uint(n: u64, out: &mut Bytes) -> Result<(), NoMemory>
     ensures ok { OnOk result (out.new ≡ out.old ++ decimal n) }
     ensures err { OnErr result (out.new ≡ out.old) }
@@ -27,7 +28,7 @@ pub fn print_uint(n: u64, out: &mut Bytes) -> Result<(), NoMemory>
 }
 
 /// The number that the bytes are the printed form of, in at most 20 digits. None where they are the form
-/// of no number, as `+3`, `03`, `-0` and the empty text.
+/// of no number, as `+3`, `03`, `-0` and the empty text. Takes no memory.
 pub fn read_int(b: &[u8]) -> Option<i128>
     ensures found { IfSome result (λ z. IsIntText b.now z) }
     ensures none { IfNone result ((z : ℤ) → IsIntText b.now z → ⊥) }

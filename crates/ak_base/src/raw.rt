@@ -13,6 +13,7 @@ pub const RAW_LIMIT: usize = 1024;
 pub enum RawFault {
     /// Over 1,024 bytes.
     TooLong,
+    /// Memory ran out.
     NoMemory,
 }
 
@@ -47,7 +48,7 @@ impl Model for Raw {
 impl Raw {
     ghost use Rattle.ak_base.specs.Text.{IsRaw};
 
-    /// The raw value of these bytes. The faults are tested in the order of `RawFault`.
+    /// The raw value of these bytes. The faults are tested in the order of `RawFault`. The bytes are copied.
     pub fn from_bytes(alloc: Global, b: &[u8]) -> Result<Raw, RawFault>
         ensures ok { IfOk result (λ r. r ≡ b.now) }
         ensures too_long { IsErrOf result RawFault.TooLong ↔ (RAW_LIMIT < length b.now) }
@@ -60,7 +61,7 @@ impl Raw {
         })
     }
 
-    /// An equal value.
+    /// An equal value. `NoMemory` where memory ran out.
     pub fn try_clone(&self) -> Result<Raw, NoMemory>
         ensures { IfOk result (λ r. r ≡ self.now) }
     {
@@ -69,6 +70,7 @@ impl Raw {
         })
     }
 
+    /// The bytes, at most 1,024.
     pub fn as_bytes(&self) -> &[u8]
         ensures value { result.now ≡ self.now }
         ensures is_raw { IsRaw self.now }

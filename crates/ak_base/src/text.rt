@@ -13,9 +13,11 @@ pub const TEXT_LIMIT: usize = 1024;
 pub enum TextFault {
     /// Over 1,024 bytes.
     TooLong,
+    /// They are not UTF-8.
     NotUtf8,
     /// A zero byte is among them.
     Zero,
+    /// Memory ran out.
     NoMemory,
 }
 
@@ -50,7 +52,7 @@ impl Model for Text {
 impl Text {
     ghost use Rattle.ak_base.specs.Text.{IsTextBytes, IsText};
 
-    /// The text of these bytes. The faults are tested in the order of `TextFault`.
+    /// The text of these bytes. The faults are tested in the order of `TextFault`. The bytes are copied.
     pub fn from_bytes(alloc: Global, b: &[u8]) -> Result<Text, TextFault>
         ensures ok { IfOk result (λ t. t ≡ b.now) }
         ensures is_text { IfOk result (λ _. IsText b.now) }
@@ -74,7 +76,7 @@ impl Text {
         })
     }
 
-    /// An equal text.
+    /// An equal text. `NoMemory` where memory ran out.
     pub fn try_clone(&self) -> Result<Text, NoMemory>
         ensures { IfOk result (λ t. t ≡ self.now) }
     {
@@ -83,6 +85,7 @@ impl Text {
         })
     }
 
+    /// The bytes of the text, at most 1,024.
     pub fn as_bytes(&self) -> &[u8]
         ensures value { result.now ≡ self.now }
         ensures is_text { IsText self.now }
@@ -90,6 +93,7 @@ impl Text {
         self.text.as_str().as_bytes()
     }
 
+    /// The text itself.
     pub fn as_str(&self) -> &str
         ensures value { result.now ≡ self.now }
     {

@@ -2,17 +2,17 @@ ghost use Rattle.std.specs.Prelude.{◌≡◌};
 ghost use Rattle.std.specs.List.{list_all};
 ghost use Rattle.ak_base.specs.Word as word;
 
-/// The longest name, in bytes.
+/// The longest word, in bytes.
 pub const WORD_LIMIT: usize = 64;
 
-/// Whether the byte may stand in a name: a letter, a digit or one of `_ - . : /`.
+/// Whether the byte may stand in a word: a letter, a digit or one of `_ - . : /`. Letters are those of ASCII.
 pub fn is_word_byte(b: u8) -> bool
     ensures { result ≡ word.is_word_byte b }
 {
     b.is_ascii_alphanumeric() || b == b'_' || b == b'-' || b == b'.' || b == b':' || b == b'/'
 }
 
-/// Whether the bytes are a name: 1 to 64 of them, each of which may stand in a name.
+/// Whether the bytes are a word: 1 to 64 of them, each of which may stand in a word.
 pub fn is_word(b: &[u8]) -> bool
     ensures { result ≡ word.is_word b.now }
 {

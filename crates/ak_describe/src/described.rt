@@ -14,13 +14,16 @@ use ak_property::{PropertyRow, PropertyTable, RowFault};
 use ak_roster::Mode;
 use std::alloc::Global;
 
-/// An application as it is described: its path, its signature, how often it may run, and its loopers, its
-/// own first.
+/// An application as it is described.
 #[derive(Drop)]
 pub struct AppText {
+    /// Its path, which no other one has.
     pub path: Text,
+    /// Its signature, which several may have.
     pub signature: Text,
+    /// How often it may run at once.
     pub mode: Mode,
+    /// The plans of its loopers, 1 to 8, its own first.
     pub loopers: Items<LooperPlan>,
 }
 

@@ -10,8 +10,9 @@ use std::alloc::AllocFailed;
 /// Why lines describe no applications.
 #[derive(Clone, Copy, Debug, PartialEq, Eq)]
 pub enum DescribeFault {
-    /// The first line with a fault, and what is wrong with it.
+    /// The first line with a fault, by its number in the input, counted from 1, and what is wrong with it.
     Refused { line: u32, kind: RefusalKind },
+    /// Memory ran out.
     NoMemory,
 }
 

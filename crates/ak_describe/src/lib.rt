@@ -1,7 +1,7 @@
 //! Reads the lines that describe applications. `read_description` answers each application with the plans of
-//! its loopers, or the first line with a fault, and of its faults the first kind: what may not stand there, a
-//! value that is none, a name given again, a limit. Where no line has one of these, names are looked up: each
-//! has to be there, handlers lead back to none, and an ask goes to what is described later.
+//! its loopers, or the first line with a fault, and the first of its faults. A fault is what may not stand
+//! there, a value that is none, a name given again, or a limit. Where no line has one of these, names are
+//! looked up. Each has to be there, handlers lead back to none, and an ask goes to what is described later.
 //! Nothing here waits, and nothing is shared.
 #![tactic(auto)]
 
@@ -30,8 +30,12 @@ pub use first::{APP_LIMIT, APP_LOOPER_LIMIT};
 pub use laws::{described_or_faulty, descriptions_are_read, names_have_places};
 use std::alloc::Global;
 
-/// The applications that these lines describe, in order. The lines are those behind the input's first one,
-/// up to those that are no description; any other line is unknown here.
+/// The applications that these lines describe, in order, each with the plans of its loopers. The lines are
+/// those behind the input's first one, up to those that are no description; any other line is unknown here.
+/// Refused with the first fault. The first pass goes line by line, and tests of each, in this order,
+/// `UnknownLine`, `BadValue`, `NameInUse` and `Limit`. Where the last application has no looper then, it is
+/// `Unfinished`, at the number behind the last line. The second pass goes name by name, in the order of lines:
+/// `UnknownName`, `ChainLoop` or `AskOrder`. Answers `NoMemory` where memory ran out.
 #[tactic(auto, unfolding(crate::specs::Description::description))]
 pub fn read_description(alloc: Global, lines: &[Line]) -> Result<Vec<AppText>, DescribeFault>
     ensures answer { Answers apps_seen result (description lines.now) }

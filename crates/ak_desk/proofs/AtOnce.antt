@@ -10,10 +10,11 @@ use Rattle.ak_action.specs.Acts.{error_of}
 use Rattle.ak_action.specs.Laws.{IsAsking}
 use Rattle.ak_desk.specs.declared.task.Task.{Task}
 use Rattle.ak_desk.specs.declared.task.Task.TheVariants as task
+use Rattle.ak_desk.specs.Answering.{AnswersForward}
 use Rattle.ak_desk.specs.BuiltIns.{built_in_reply, built_in_quits}
 use Rattle.ak_desk.specs.Dispatch.{Dispatch, by_built_in, by_property, forward_reply, forwarded, replied}
 use Rattle.ak_desk.specs.Properties.{property_replied}
-use Rattle.ak_desk.specs.Task.{AnswersForward, Comes, IsDone, MayWant, TakesAnswer, Wanted, wants, wants_none, came_to, heard_of, place_in, ready, starved, want_of}
+use Rattle.ak_desk.specs.Task.{Comes, IsDone, MayWant, TakesAnswer, Wanted, wants, wants_none, came_to, heard_of, place_in, ready, starved, want_of}
 use Rattle.ak_desk.specs.Task as the
 
 -- ---- tasks that nothing is asked for

@@ -25,48 +25,49 @@ use Rattle.ak_route.specs.declared.outcome.Route.{Route}
 use Rattle.ak_route.specs.declared.outcome.Route.TheVariants as route
 use Rattle.ak_route.specs.declared.outcome.Taker.{Taker}
 use Rattle.ak_route.specs.declared.outcome.Taker.TheVariants as taker
+use Rattle.ak_desk.specs.Answering.{AnswersAsk, AnswersPost}
 use Rattle.ak_desk.specs.Dispatch.{Dispatch, by_reaction, by_route, ran_out, taken}
 use Rattle.ak_desk.specs.Laws.{ComesToDispatch}
 use Rattle.ak_desk.specs.Place.{routed_of}
 use Rattle.ak_desk.specs.Replies.{none_reply, not_understood}
-use Rattle.ak_desk.specs.Task.{AnswersAsk, AnswersPost, Awaits, Comes, Wanted, wants, wants_none, IsDone, MayWant, TakesAnswer, came_to, heard_of, next_wanted, place_in, taken_as, task_by}
+use Rattle.ak_desk.specs.Task.{Awaits, Comes, Wanted, wants, wants_none, IsDone, MayWant, TakesAnswer, came_to, heard_of, next_wanted, place_in, taken_as, task_by}
 use Rattle.ak_desk.specs.Task as the
 use Rattle.ak_desk.proofs.AtOnce.{ComesTo, built_in_comes, forward_comes, property_comes, ready_comes}
 
 -- ---- where a reaction stands behind a want
-abbrev IsWaiting : Stage → Type 0
+abbrev pub IsWaiting : Stage → Type 0
 IsWaiting (stage.Finding _ _) = Unit {0}
 IsWaiting (stage.Sent _) = Unit {0}
 IsWaiting _ = ⊥
 
-abbrev IsFinding : Stage → Type 0
+abbrev pub IsFinding : Stage → Type 0
 IsFinding (stage.Finding _ _) = Unit {0}
 IsFinding _ = ⊥
 
-abbrev IsPosting : Sending → Type 0
+abbrev pub IsPosting : Sending → Type 0
 IsPosting (sending.Post _) = Unit {0}
 IsPosting (sending.Ask _) = ⊥
 
-abbrev IsPosted : Stage → Type 0
+abbrev pub IsPosted : Stage → Type 0
 IsPosted (stage.Sent how) = IsPosting how
 IsPosted _ = ⊥
 
-abbrev IsAsking : Sending → Type 0
+abbrev pub IsAsking : Sending → Type 0
 IsAsking (sending.Post _) = ⊥
 IsAsking (sending.Ask _) = Unit {0}
 
-abbrev IsAsked : Stage → Type 0
+abbrev pub IsAsked : Stage → Type 0
 IsAsked (stage.Sent how) = IsAsking how
 IsAsked _ = ⊥
 
-abbrev StandsBehind : Want → Stage → Type 0
+abbrev pub StandsBehind : Want → Stage → Type 0
 StandsBehind want.Done at = at ≡ stage.Ended
 StandsBehind (want.Find _) at = IsFinding at
 StandsBehind (want.Post _ _ _) at = IsPosted at
 StandsBehind (want.Ask _ _) at = IsAsked at
 StandsBehind (want.Forward _ _) at = ⊥
 
-abbrev NextStands : Nexted → Type 0
+abbrev pub NextStands : Nexted → Type 0
 NextStands (nexted w i s) = StandsBehind w i.stage
 NextStands (failed i s) = i.stage ≡ stage.Ended
 
@@ -102,7 +103,7 @@ module _ (memory : Option ℕ) where
   at_stands (stage.Sent how) i s = refl
   at_stands stage.Ended i s = refl
 
-  next_stands : (i : InterpData) (s : DeskState) → NextStands (next_of memory i s)
+  pub next_stands : (i : InterpData) (s : DeskState) → NextStands (next_of memory i s)
   next_stands i s = at_stands i.stage i s
 
 finding_waits : (at : Stage) → IsFinding at → IsWaiting at
@@ -126,21 +127,21 @@ asked_waits (stage.Found looper how m) h = absurd h
 asked_waits (stage.Sent how) h = tt
 asked_waits stage.Ended h = absurd h
 
-asking_awaits : (w : Want) (at : Stage) → law.IsAsking w → StandsBehind w at → IsWaiting at
+pub asking_awaits : (w : Want) (at : Stage) → law.IsAsking w → StandsBehind w at → IsWaiting at
 asking_awaits want.Done at asking h = absurd asking
 asking_awaits (want.Find word) at asking h = finding_waits at h
 asking_awaits (want.Post to m back) at asking h = posted_waits at h
 asking_awaits (want.Ask to m) at asking h = asked_waits at h
 asking_awaits (want.Forward looper popped) at asking h = absurd h
 
-may_not : {X : Type 0} (at : Stage) → IsWaiting at → MayGoOnFrom at → X
+pub may_not : {X : Type 0} (at : Stage) → IsWaiting at → MayGoOnFrom at → X
 may_not stage.Ready h may = absurd h
 may_not (stage.Finding how m) h may = absurd may
 may_not (stage.Found looper how m) h may = absurd h
 may_not (stage.Sent how) h may = absurd may
 may_not stage.Ended h may = absurd h
 
-ended_awaits_none : {X : Type 0} (at : Stage) → IsWaiting at → at ≡ stage.Ended → X
+pub ended_awaits_none : {X : Type 0} (at : Stage) → IsWaiting at → at ≡ stage.Ended → X
 ended_awaits_none at h e = absurd (subst IsWaiting e h)
 
 -- ---- behind an answer
@@ -174,14 +175,14 @@ send_may (sending.Ask into) i s answer.Spent = tt
 send_may (sending.Ask into) i s answer.TooLong = tt
 send_may (sending.Ask into) i s (answer.Reply flat said) = tt
 
-give_may : (at : Stage) (i : InterpData) (s : DeskState) (a : Answer) → AnswersStage at a → MayGoOn (give_at at i s a).interp
+pub give_may : (at : Stage) (i : InterpData) (s : DeskState) (a : Answer) → AnswersStage at a → MayGoOn (give_at at i s a).interp
 give_may stage.Ready i s a h = absurd h
 give_may (stage.Finding how m) i s a h = team_may how m i a
 give_may (stage.Found looper how m) i s a h = absurd h
 give_may (stage.Sent how) i s a h = send_may how i s a
 give_may stage.Ended i s a h = absurd h
 
-not_answered : {X : Type 0} (at : Stage) (a : Answer) → MayGoOnFrom at → AnswersStage at a → X
+pub not_answered : {X : Type 0} (at : Stage) (a : Answer) → MayGoOnFrom at → AnswersStage at a → X
 not_answered stage.Ready a may h = absurd h
 not_answered (stage.Finding how m) a may h = absurd may
 not_answered (stage.Found looper how m) a may h = absurd h
@@ -189,12 +190,12 @@ not_answered (stage.Sent how) a may h = absurd may
 not_answered stage.Ended a may h = absurd h
 
 -- ---- what the tasks of a reaction want
-record IsNext (x : Nexted) (w : Want) (u : Task) (v : DeskState) : Type 0 where
-  interp : InterpData
-  is : x ≡ nexted w interp v
-  task_is : u ≡ task.Reaction interp
+pub record IsNext (x : Nexted) (w : Want) (u : Task) (v : DeskState) : Type 0 where
+  pub interp : InterpData
+  pub is : x ≡ nexted w interp v
+  pub task_is : u ≡ task.Reaction interp
 
-next_is : (x : Nexted) (w : Want) (u : Task) (v : DeskState) → next_wanted x ≡ wants w u v → IsNext x w u v
+pub next_is : (x : Nexted) (w : Want) (u : Task) (v : DeskState) → next_wanted x ≡ wants w u v → IsNext x w u v
 next_is (nexted w' i s) w u v e =
     let same : w' ≡ w = cc in
     let task_same : u ≡ task.Reaction i = cc in
@@ -202,12 +203,12 @@ next_is (nexted w' i s) w u v e =
     record { interp = i; is = ap (λ (x : Want). nexted x i s) same ∙ ap (λ (t : DeskState). nexted w i t) state_same; task_is = task_same }
 next_is (failed i s) w u v e = absurd cc
 
-record IsFailed (x : Nexted) (u : Task) (v : DeskState) : Type 0 where
-  interp : InterpData
-  is : x ≡ failed interp v
-  task_is : u ≡ task.Reaction interp
+pub record IsFailed (x : Nexted) (u : Task) (v : DeskState) : Type 0 where
+  pub interp : InterpData
+  pub is : x ≡ failed interp v
+  pub task_is : u ≡ task.Reaction interp
 
-failed_is : (x : Nexted) (u : Task) (v : DeskState) → next_wanted x ≡ wants_none u v → IsFailed x u v
+pub failed_is : (x : Nexted) (u : Task) (v : DeskState) → next_wanted x ≡ wants_none u v → IsFailed x u v
 failed_is (nexted w i s) u v e = absurd cc
 failed_is (failed i s) u v e =
     let task_same : u ≡ task.Reaction i = cc in

@@ -2,7 +2,9 @@
 use Rattle.std.proofs.Common.{◌≡◌, ℕ, suc, ◌+◌, ◌-◌, ◌<◌, Bool, true, false, ◌||◌, List, [], ◌∷◌, ◌++◌, All, length, Option, None, Some, option_map, unwrap_or, slice_get, refl, sym, ap, subst, ◌∙◌, arith}
 use Rattle.std.proofs.lemmas.List.Elements.{All-nil, All-push}
 use Rattle.ak_flatten.specs.Item.{ItemData}
+use Rattle.ak_message.specs.Message.{MessageData}
 use Rattle.ak_action.specs.declared.answer.Answer.{Answer}
+use Rattle.ak_action.specs.declared.answer.AnswerWord.{AnswerWord}
 use Rattle.ak_action.specs.declared.answer.Want.{Want}
 use Rattle.ak_action.specs.declared.answer.Want.TheVariants as want
 use Rattle.ak_action.specs.declared.state.DeskState.{DeskState}
@@ -19,15 +21,17 @@ use Rattle.ak_desk.specs.declared.entry.DeskEvent.{DeskEvent}
 use Rattle.ak_desk.specs.declared.entry.EntryRoute.{EntryRoute}
 use Rattle.ak_desk.specs.declared.task.Task.{Task}
 use Rattle.ak_desk.specs.declared.task.Task.TheVariants as task
+use Rattle.ak_desk.specs.Answering.{AnswersForward, AreAnswered}
 use Rattle.ak_desk.specs.Desk.{BegunData, ended_event, stamp_in, with_task}
 use Rattle.ak_desk.specs.DeskInside.{IsBegun}
 use Rattle.ak_desk.specs.Dispatch.{Dispatch, dispatch_of, entry_route}
 use Rattle.ak_desk.specs.Laws.{ComesToDispatch}
 use Rattle.ak_desk.specs.Line.{LineData}
-use Rattle.ak_desk.specs.Machine.{DeskStep, DispatchStep, Dispatches, EventStep, IsBy, IsHistory, Replays, StampsRise, counted, counted_all, dispatches, gave_up, gives_up}
+use Rattle.ak_desk.specs.Machine.{DeskStep, DispatchStep, Dispatches, EventStep, IsBy, IsHistory, Replays, Replies, StampsRise, counted, counted_all, dispatches, gave_up, gives_up}
 use Rattle.ak_desk.specs.Place.{routed_of}
-use Rattle.ak_desk.specs.Task.{AnswersForward, Comes, IsDone, MayWant, TakesAnswer, came_to, heard_of, place_in, quits, task_of, wants, wants_none, want_of, words_of}
+use Rattle.ak_desk.specs.Task.{Comes, IsDone, MayWant, TakesAnswer, came_to, heard_of, place_in, quits, reply_of, task_of, wants, wants_none, want_of, words_of}
 use Rattle.ak_desk.specs.Task as the
+use Rattle.ak_desk.proofs.InStep.{all_answered, first_may}
 
 -- ---- one line more
 pub counted_push : (n : ℕ) (lines : List LineData) (line : LineData) → counted_all n (lines ++ line ∷ []) ≡ counted (counted_all n lines) line.entry.event
@@ -153,6 +157,11 @@ module _ {before : DeskState} {first : Task} where
   all_spelled _ _ _ _ (the.found_none asked heard t s u v c may e) = all_spelled asked heard t s c
   all_spelled _ _ _ _ (the.given asked heard t s a c takes) = All-push IsSpelled heard a (all_spelled asked heard t s c) (spelled_taken t a takes)
 
+-- a dispatch, and its reply
+pub record Dispatched (s : DeskState) (item : ItemData) (words : List AnswerWord) (quit : Bool) (t : DeskState) (reply : Option MessageData) : Type 0 where
+  pub dispatch : Dispatches s item words quit t
+  pub replies : Replies s item words reply
+
 -- ---- what is begun goes on
 module _ (opening : DeskState) (lines : List LineData) (b : BegunData) (s : DeskState) (h : IsBegun opening lines b s) where
   pub wants_on : (w : Want) (u : Task) (v : DeskState) → MayWant b.task → want_of None b.task s ≡ wants w u v → IsBegun opening lines (with_task b u) v
@@ -176,18 +185,27 @@ module _ (opening : DeskState) (lines : List LineData) (b : BegunData) (s : Desk
       record { history = h.history; position = h.position; route = h.route; asked = h.asked; heard = h.heard ++ a ∷ []; comes = the.given h.asked h.heard b.task s a h.comes takes }
 
   -- ---- and ends
-  dispatches_so : (memory : Option ℕ) → dispatch_of b.before b.item h.heard memory ≡ came_to h.asked b.task s → Dispatches b.before b.item (words_of b.task) (quits b.task) s
-  dispatches_so memory e =
+  dispatches_so : (memory : Option ℕ) → IsDone b.task → dispatch_of b.before b.item h.heard memory ≡ came_to h.asked b.task s → Dispatches b.before b.item (words_of b.task) (quits b.task) s
+  dispatches_so memory done e =
       record {
         answers = h.heard;
         memory = memory;
         spelled = all_spelled h.asked h.heard b.task s h.comes;
+        answered = subst (λ (ws : List Want). AreAnswered ws h.heard) (sym (ap (λ (d : Dispatch). d.wants) e)) (all_answered b.before (task_of b.before.first (routed_of b.before b.item)) (first_may b.before.first (routed_of b.before b.item).message (routed_of b.before b.item).route) h.asked h.heard b.task s h.comes done);
         waits = ap (λ (d : Dispatch). d.waits) e;
         used = ap (λ (d : Dispatch). d.answers) e;
         words_are = ap (λ (d : Dispatch). d.words) e;
         quit_is = ap (λ (d : Dispatch). d.quit) e;
         state_is = ap (λ (d : Dispatch). d.state) e;
       }
+
+  -- with the reply that goes with it
+  pub replies_so : ComesToDispatch → IsDone b.task → Dispatched b.before b.item (words_of b.task) (quits b.task) s (reply_of b.task)
+  unfolding dispatches_so
+  replies_so comes done =
+      let whole = comes b.before b.item h.asked h.heard b.task s h.comes done in
+      let d = dispatches_so whole.0 done whole.1 in
+      record { dispatch = d; replies = record { quit = quits b.task; leaves = s; dispatch = d; is = ap (λ (x : Dispatch). x.reply) whole.1 } }
 
   by_route : (r : Route) (er : EntryRoute) → er ≡ entry_route b.before r → r ≡ (routed_of b.before b.item).route → Dispatches b.before b.item (words_of b.task) (quits b.task) s → DispatchStep b.before er (Some b.item) (words_of b.task) (quits b.task) s
   by_route r er e is d = subst (λ (x : EntryRoute). DispatchStep b.before x (Some b.item) (words_of b.task) (quits b.task) s) (sym e) (step r is)
@@ -202,7 +220,7 @@ module _ (opening : DeskState) (lines : List LineData) (b : BegunData) (s : Desk
   pub ends_on : ComesToDispatch → IsDone b.task → (line : LineData) → line.entry.event ≡ ended_event b → line.item ≡ Some b.item → line.entry.by.0 ≡ 10000 + opening.looper → stamp_in lines < line.entry.stamp → IsHistory opening (lines ++ line ∷ []) s
   ends_on comes done line is item by lt =
       let whole = comes b.before b.item h.asked h.heard b.task s h.comes done in
-      let step = by_route (routed_of b.before b.item).route b.route h.route refl (dispatches_so whole.0 whole.1) in
+      let step = by_route (routed_of b.before b.item).route b.route h.route refl (dispatches_so whole.0 done whole.1) in
       history_push opening lines b.before line s h.history
       (record {
         by = subst (IsBy opening.looper line.entry.by.0) (sym is) by;

@@ -3,6 +3,7 @@ pub mod AtOnce
 pub mod Coming
 pub mod Editing
 pub mod History
+pub mod InStep
 pub mod MachineLaws
 pub mod Placing
 pub mod Sharing

@@ -1,10 +1,11 @@
 -- A turn at a desk leaves the seat at what the machine allows.
-use Rattle.std.proofs.Common.{◌≡◌, ℕ, List, [], ◌∷◌, ◌++◌, Option, None, Some, IsSomeAnd, refl, sym, ap, subst, ◌∙◌}
+use Rattle.std.proofs.Common.{◌≡◌, Bool, List, [], ◌∷◌, ◌++◌, Option, None, Some, IsSomeAnd, sym, ap, subst, ◌∙◌}
 use Rattle.ak_turn.specs.declared.clock.Clock.{Clock}
-use Rattle.ak_turn.specs.Seats.{IsGiven, at_leisure, entered_by}
+use Rattle.ak_turn.specs.Seats.{IsGiven, at_leisure, entered_by, with_own}
 use Rattle.ak_action.specs.declared.state.DeskState.{DeskState}
 use Rattle.ak_desk.specs.declared.entry.DeskEvent.{DeskEvent}
-use Rattle.ak_desk.specs.Desk.{DeskData, HasAdded, line_after}
+use Rattle.ak_desk.specs.Desk.{DeskData, HasAdded, dispatched_line, line_after}
+use Rattle.ak_desk.specs.Laws.{ATurnDispatches}
 use Rattle.ak_desk.specs.Line.{LineData}
 use Rattle.ak_desk.specs.Machine.{IsHistory}
 use Rattle.ak_desk.specs.Shared.{DeskSeat, IsAtDesk, LeadsOn, by_number}
@@ -28,3 +29,44 @@ module _ (old given new : DeskSeat) (b b' : DeskData) (clock clock' : Clock) (op
       let lines : b'.lines ≡ given.front ++ line ∷ [] = added.1 ∙ ap (λ (l : List LineData). l ++ line ∷ []) list in
       let after = entered line lines in
       at_front new b' (ap (λ (s : DeskSeat). s.opening) after ∙ given_opening added.0) (ap (λ (s : DeskSeat). s.front) after ∙ sym lines) h
+
+-- ---- a dispatch
+pub a_turn_dispatches : ATurnDispatches
+a_turn_dispatches clock clock' position item made opening before after lines lines' seat given seat' h idle thread begins seen list entered =
+    let line : LineData = dispatched_line lines clock position item before h.words h.quit in
+    let grown : lines' ≡ given.front ++ line ∷ [] = h.grown ∙ ap (λ (l : List LineData). l ++ line ∷ []) list in
+    let left = entered line grown in
+    let front : seat'.front ≡ lines' = ap (λ (s : DeskSeat). s.front) left ∙ sym grown in
+    let opens : seat'.opening ≡ Some opening = ap (λ (s : DeskSeat). s.opening) left ∙ ap (λ (s : DeskSeat). s.opening) seen.after ∙ begins in
+    let desk : DeskData = record { opening = opening; state = after; lines = lines'; begun = None } in (
+      record {
+        opening = opening;
+        opening_is = opens;
+        before = before;
+        after = after;
+        lines = lines;
+        dispatched = record {
+          history = h.history;
+          position_is = h.position_is;
+          words = h.words;
+          quit = h.quit;
+          dispatch = h.dispatch;
+          reply = h.reply;
+          replies = h.replies;
+          grown = front ∙ h.grown;
+          goes_on = subst (λ (l : List LineData). IsHistory opening l after) (sym front) h.goes_on;
+          clocked = h.clocked;
+          reply_is = h.reply_is;
+          quit_is = h.quit_is;
+        };
+        called = record {
+          between = seen.between;
+          others = seen.others;
+          mine = sym thread;
+          after =
+              left ∙ ap (λ (g : DeskSeat). at_leisure (entered_by g line)) seen.after
+              ∙ ap (λ (b : Bool). record (with_own seat seen.between line) { turn = b }) (sym idle);
+        };
+      },
+      at_front seat' desk opens front h.goes_on,
+    )

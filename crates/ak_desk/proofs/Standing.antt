@@ -1,12 +1,12 @@
 -- How a desk stands as its messages are begun, go on and end.
-use Rattle.std.proofs.Common.{◌≡◌, ℕ, ◌+◌, ◌<◌, ◌≤◌, max, true, false, List, [], ◌∷◌, ◌++◌, Option, None, Some, Result, Ok, Err, IfOk, OnErr, length, refl, ap, subst, sym, ◌∙◌, arith}
+use Rattle.std.proofs.Common.{◌≡◌, ℕ, ◌+◌, ◌<◌, ◌≤◌, max, true, false, List, [], ◌∷◌, ◌++◌, Option, None, Some, Result, Ok, Err, IfOk, IfSome, OnErr, length, refl, ap, subst, sym, ◌∙◌, arith}
 use Rattle.ak_flatten.specs.declared.item.Taken.{Taken}
 use Rattle.ak_action.specs.declared.state.DeskState.{DeskState}
-use Rattle.ak_desk.specs.Desk.{BegunData, DeskData, Edits, begun_at, clock_after, ended_event, line_after, stamp_in, with_line, with_task, HasAdded, edit_entry, edited_to}
+use Rattle.ak_desk.specs.Desk.{BegunData, DeskData, DeskIsDone, Edits, EndsDispatch, OfBegun, begun_at, clock_after, ended, ended_by, ended_event, made_by, made_of, line_after, stamp_in, with_line, with_task, HasAdded, edit_entry, edited_to}
 use Rattle.ak_desk.specs.DeskInside.{IsBegun, Stands}
 use Rattle.ak_desk.specs.Line.{LineData}
 use Rattle.ak_desk.specs.Laws.{ComesToDispatch}
-use Rattle.ak_desk.specs.Machine.{Edited, EditsHandlers, IsHistory, dispatches, edit_of, gave_up, is_no_memory}
+use Rattle.ak_desk.specs.Machine.{Dispatches, Edited, EditsHandlers, IsHistory, dispatches, edit_of, gave_up, is_no_memory}
 use Rattle.ak_base.specs.declared.no_memory.NoMemory.{NoMemory}
 use Rattle.ak_handler.specs.Handlers.{HandlersData}
 use Rattle.ak_action.specs.declared.answer.Answer.{Answer}
@@ -18,12 +18,14 @@ use Rattle.ak_desk.specs.declared.entry.DeskEvent.TheVariants as event
 use Rattle.ak_desk.specs.declared.entry.Edit.{Edit}
 use Rattle.ak_desk.specs.declared.entry.EditAnswer.{EditAnswer}
 use Rattle.ak_desk.specs.declared.entry.EditAnswer.TheVariants as answered
+use Rattle.ak_desk.specs.declared.entry.EntryRoute.{EntryRoute}
 use Rattle.ak_desk.specs.declared.entry.EntryRoute.TheVariants as entry
+use Rattle.ak_desk.specs.declared.made.Made.{Made}
 use Rattle.ak_desk.specs.declared.task.Task.{Task}
-use Rattle.ak_desk.specs.Task.{Heard, IsDone, MayWant, TakesAnswer, heard_of, place_in, wants, wants_none, want_of}
+use Rattle.ak_desk.specs.Task.{Heard, IsDone, MayWant, TakesAnswer, heard_of, place_in, quits, reply_of, wants, wants_none, want_of, words_of}
 use Rattle.ak_desk.specs.Task as the
 use Rattle.ak_desk.proofs.Accessing.{facts_same}
-use Rattle.ak_desk.proofs.History.{ends_on, fails_on, gave_up_then, hears_on, history_push, wants_on}
+use Rattle.ak_desk.proofs.History.{ends_on, fails_on, gave_up_then, hears_on, history_push, replies_so, wants_on}
 
 fresh : (opening : DeskState) (lines : List LineData) (s : DeskState) (taken : Taken) → IsHistory opening lines s → taken.position ≡ dispatches lines → IsBegun opening lines (begun_at s taken) s
 fresh opening lines s taken h e =
@@ -63,6 +65,42 @@ module _ (opening : DeskState) (lines : List LineData) (clock : Clock) where
 
   pub gave_up_now : (position : ℕ) (new : List LineData) → new ≡ lines ++ line_after lines clock (event.Dispatched position entry.NoMemory [] false) None ∷ [] → gave_up new ≡ true
   gave_up_now position new grown = ap gave_up grown ∙ gave_up_then lines (line_after lines clock (event.Dispatched position entry.NoMemory [] false) None) refl
+
+-- ---- what the end of a message says of it
+module _ (clock : Clock) (d : DeskData) (b : BegunData) (seen : d.begun ≡ Some b) where
+  ended_as : ended d clock ≡ with_line (record d { begun = None }) clock (ended_event b) (Some b.item)
+  ended_as = ap (λ (o : Option BegunData). ended_by d clock o) seen
+
+  pub has_dispatched : (clock' : Clock) (d' : DeskData) (made : Made) → ComesToDispatch → IsBegun d.opening d.lines b d.state → IsDone b.task → clock.thread.0 ≡ 10000 + d.opening.looper → d' ≡ ended d clock → made ≡ made_by d.begun → clock' ≡ clock_after d clock → EndsDispatch clock clock' d d' made b
+  has_dispatched clock' d' made comes h done by is told clocked =
+      let so = is ∙ ended_as in
+      let said : made ≡ made_of b.task = told ∙ ap made_by seen in
+      let after : d'.state ≡ d.state = ap (λ (x : DeskData). x.state) so in
+      let lines : d'.lines ≡ d.lines ++ line_after d.lines clock (ended_event b) (Some b.item) ∷ [] = ap (λ (x : DeskData). x.lines) so in
+      let came = replies_so d.opening d.lines b d.state h comes done in
+      record {
+        history = h.history;
+        position_is = h.position;
+        words = words_of b.task;
+        quit = quits b.task;
+        dispatch = subst (λ (t : DeskState). Dispatches b.before b.item (words_of b.task) (quits b.task) t) (sym after) came.dispatch;
+        reply = reply_of b.task;
+        replies = came.replies;
+        grown = lines ∙ ap (λ (r : EntryRoute). d.lines ++ line_after d.lines clock (event.Dispatched b.position r (words_of b.task) (quits b.task)) (Some b.item) ∷ []) h.route;
+        goes_on = subst (λ (t : DeskState). IsHistory d.opening d'.lines t) (sym after) (ended_stands d.opening d.lines clock b d.state (ended_event b) d'.lines comes h done by refl lines);
+        clocked = clocked;
+        reply_is = ap (λ (m : Made). m.reply) said;
+        quit_is = ap (λ (m : Made). m.quit) said;
+      }
+
+-- of the desk as it is seen, whatever is begun
+pub dispatched_of : (clock clock' : Clock) (d seen d' : DeskData) (made : Made) → seen ≡ d → ComesToDispatch → Stands seen.opening seen.lines seen.begun seen.state → DeskIsDone d → clock.thread.0 ≡ 10000 + d.opening.looper → d' ≡ ended d clock → made ≡ made_by d.begun → clock' ≡ clock_after d clock → IfSome d.begun (EndsDispatch clock clock' d d' made)
+dispatched_of clock clock' d seen d' made same comes stands done by is told clocked =
+    by_begun d.begun refl (subst (λ (x : DeskData). Stands x.opening x.lines x.begun x.state) same stands) done
+  where
+    by_begun : (o : Option BegunData) → d.begun ≡ o → Stands d.opening d.lines o d.state → OfBegun IsDone o → IfSome o (EndsDispatch clock clock' d d' made)
+    by_begun None e h end = tt
+    by_begun (Some b) e h end = has_dispatched clock d b e clock' d' made comes h end by is told clocked
 
 -- ---- edits
 edits_so : (h : HandlersData DeskRow) (e : Edit) (answer : EditAnswer) (new : HandlersData DeskRow) → EditsHandlers h e answer new → is_no_memory answer ≡ false → edit_of h e ≡ record { answer = answer; handlers = new }

@@ -1,10 +1,12 @@
 -- What contracts see of a desk, and what each call makes of it.
-use Rattle.std.specs.Prelude.{◌≡◌, ℕ, ◌+◌, true, false, is_some, if◌then◌else◌, max, List, [], ◌∷◌, ◌++◌, Option, None, Some, option_map}
+use Rattle.std.specs.Prelude.{◌≡◌, ℕ, ◌+◌, Bool, true, false, is_some, if◌then◌else◌, max, List, [], ◌∷◌, ◌++◌, Option, None, Some, option_map}
 use Rattle.ak_flatten.specs.Item.{ItemData}
 use Rattle.ak_flatten.specs.declared.item.Taken.{Taken}
 use Rattle.ak_turn.specs.declared.clock.Clock.{Clock}
 use Rattle.ak_turn.specs.Lines.{last_stamp_of}
+use Rattle.ak_message.specs.Message.{MessageData}
 use Rattle.ak_action.specs.declared.answer.Answer.{Answer}
+use Rattle.ak_action.specs.declared.answer.AnswerWord.{AnswerWord}
 use Rattle.ak_action.specs.declared.answer.Want.{Want}
 use Rattle.ak_action.specs.declared.state.DeskState.{DeskState}
 use Rattle.ak_desk.specs.declared.entry.DeskEvent.{DeskEvent}
@@ -18,7 +20,7 @@ use Rattle.ak_desk.specs.declared.made.Made.{Made}
 use Rattle.ak_desk.specs.declared.task.Task.{Task}
 use Rattle.ak_desk.specs.Dispatch.{entry_route, fitting, ran_out}
 use Rattle.ak_desk.specs.Line.{LineData}
-use Rattle.ak_desk.specs.Machine.{Edited, edit_of}
+use Rattle.ak_desk.specs.Machine.{Dispatches, Edited, IsHistory, Replies, dispatches, edit_of}
 use Rattle.ak_desk.specs.Place.{routed_of}
 use Rattle.ak_desk.specs.Task.{Awaits, IsDone, MayWant, TakesAnswer, Wanted, wants, wants_none, want_of, heard_of, place_in, task_of, words_of, reply_of, quits}
 
@@ -159,6 +161,30 @@ made_nothing = record { reply = None; forwarded = false; quit = false; no_memory
 abbrev pub made_by : Option BegunData → Made
 made_by None = made_nothing
 made_by (Some b) = made_of b.task
+
+abbrev pub dispatched_line : List LineData → Clock → ℕ → ItemData → DeskState → List AnswerWord → Bool → LineData
+dispatched_line lines clock position item before words quit =
+    line_after lines clock (event.Dispatched position (entry_route before (routed_of before item).route) words quit) (Some item)
+
+-- The message at that position was dispatched: the list leads from the opening to the state before it, and goes on by its one entry,
+-- with the route of that state, the words and the quit mark, to the state after it; the reply is the one that goes with these, as it fits
+pub record HasDispatched (clock clock' : Clock) (position : ℕ) (item : ItemData) (opening before after : DeskState) (lines lines' : List LineData) (made : Made) : Type 0 where
+  pub history : IsHistory opening lines before
+  pub position_is : position ≡ dispatches lines
+  pub words : List AnswerWord
+  pub quit : Bool
+  pub dispatch : Dispatches before item words quit after
+  pub reply : Option MessageData
+  pub replies : Replies before item words reply
+  pub grown : lines' ≡ lines ++ dispatched_line lines clock position item before words quit ∷ []
+  pub goes_on : IsHistory opening lines' after
+  pub clocked : clock' ≡ record clock { time = stamp_after lines clock }
+  pub reply_is : made.reply ≡ option_map fitting reply
+  pub quit_is : made.quit ≡ quit
+
+-- of what was begun
+abbrev pub EndsDispatch : Clock → Clock → DeskData → DeskData → Made → BegunData → Type 0
+EndsDispatch clock clock' d d' made b = HasDispatched clock clock' b.position b.item d.opening b.before d'.state d.lines d'.lines made
 
 -- ---- giving up
 abbrev pub given_up : DeskData → Clock → Taken → DeskData

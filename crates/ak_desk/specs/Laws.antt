@@ -1,20 +1,32 @@
 -- What holds of all desks.
-use Rattle.std.specs.Prelude.{◌≡◌, ℕ, Bool, List, ◌∷◌, ◌++◌, Option}
+use Rattle.std.specs.Prelude.{◌≡◌, ℕ, ◌+◌, Bool, false, List, [], ◌∷◌, ◌++◌, Option, None, Some}
+use Rattle.ak_base.specs.declared.error.KitError.{KitError}
+use Rattle.ak_base.specs.declared.error.KitError.TheVariants as error
 use Rattle.ak_flatten.specs.Item.{ItemData}
+use Rattle.ak_message.specs.Message.{MessageData}
+use Rattle.ak_turn.specs.declared.clock.Clock.{Clock}
+use Rattle.ak_turn.specs.Lines.{made_by}
+use Rattle.ak_turn.specs.Seats.{IsGiven, at_leisure, entered_by}
 use Rattle.ak_action.specs.declared.answer.Answer.{Answer}
 use Rattle.ak_action.specs.declared.answer.Want.{Want}
 use Rattle.ak_action.specs.declared.state.DeskState.{DeskState}
 use Rattle.ak_handler.specs.declared.fault.HandlerFault.{HandlerFault}
 use Rattle.ak_action.specs.declared.answer.AnswerWord.{AnswerWord}
+use Rattle.ak_action.specs.declared.answer.AnswerWord.TheVariants as word
 use Rattle.ak_desk.specs.declared.entry.DeskEvent.TheVariants as event
 use Rattle.ak_desk.specs.declared.entry.Edit.{Edit}
 use Rattle.ak_desk.specs.declared.entry.EditAnswer.TheVariants as answered
 use Rattle.ak_desk.specs.declared.entry.EntryRoute.{EntryRoute}
+use Rattle.ak_desk.specs.declared.entry.EntryRoute.TheVariants as entry
+use Rattle.ak_desk.specs.declared.made.Made.{Made}
 use Rattle.ak_desk.specs.declared.task.Task.{Task}
-use Rattle.ak_desk.specs.Dispatch.{dispatch_of}
+use Rattle.ak_desk.specs.Desk.{HasDispatched}
+use Rattle.ak_desk.specs.Dispatch.{dispatch_of, entry_route}
 use Rattle.ak_desk.specs.Line.{LineData}
-use Rattle.ak_desk.specs.Machine.{DeskStep, Replays, counted, dispatches}
+use Rattle.ak_desk.specs.Machine.{DeskStep, DispatchStep, Replays, Replies, StepReplies, counted, dispatches, gave_up}
 use Rattle.ak_desk.specs.Place.{routed_of}
+use Rattle.ak_desk.specs.Replies.{error_reply, none_reply}
+use Rattle.ak_desk.specs.Shared.{DeskSeat, HasDispatchedThere, IsAtDesk, by_number}
 use Rattle.ak_desk.specs.Task.{Comes, IsDone, came_to, task_of}
 
 -- however the calls for one message go, what they come to is the dispatch with all its answers at once, where no memory ran out, or ran
@@ -61,3 +73,83 @@ RefusedEditsChangeNothing =
 abbrev pub StateIsOne : Type 0
 StateIsOne =
     (looper n : ℕ) (s : DeskState) (lines : List LineData) (t u : DeskState) → Replays looper n s lines t → Replays looper n s lines u → t ≡ u
+
+-- ---- an entry tells what it came to
+-- exactly one reply goes with the entry
+pub record HasOneReply (s : DeskState) (r : EntryRoute) (item : Option ItemData) (words : List AnswerWord) : Type 0 where
+  pub reply : Option MessageData
+  pub replies : StepReplies s r item words reply
+  pub alone : (other : Option MessageData) → StepReplies s r item words other → other ≡ reply
+
+-- the state before, where the message went, the item and the words tell the quit mark, the state after and the reply
+abbrev pub EntryTellsReply : Type 0
+EntryTellsReply =
+    (s : DeskState) (r : EntryRoute) (item : Option ItemData) (words : List AnswerWord) (quit quit' : Bool) (t t' : DeskState)
+    → DispatchStep s r item words quit t
+    → DispatchStep s r item words quit' t'
+    → (quit ≡ quit') × (t ≡ t') × HasOneReply s r item words
+
+-- a message that is sent on waits for room
+abbrev pub NoStepOfAFullForward : Type 0
+NoStepOfAFullForward =
+    (s : DeskState) (looper : ℕ) (item : ItemData) (quit : Bool) (t : DeskState)
+    → DispatchStep s (entry.Forward looper) (Some item) (word.Error error.WouldBlock ∷ []) quit t
+    → ⊥
+
+abbrev pub OneWordOneReply : Type 0
+OneWordOneReply =
+    (s : DeskState) (item : ItemData) (w : AnswerWord) (reply other : Option MessageData)
+    → Replies s item (w ∷ []) reply
+    → Replies s item (w ∷ []) other
+    → reply ≡ other
+
+-- what the word of a message that was sent on may be
+abbrev pub TellsForward : KitError → Type 0
+TellsForward error.Ok = Unit {0}
+TellsForward error.BadPortId = Unit {0}
+TellsForward error.Spent = Unit {0}
+TellsForward error.NoMemory = Unit {0}
+TellsForward _ = ⊥
+
+-- and the reply with each: none, the refusal, or NONE without memory
+abbrev pub reply_of_error : KitError → Option MessageData
+reply_of_error error.Ok = None
+reply_of_error error.BadPortId = Some (error_reply error.BadPortId)
+reply_of_error error.Spent = Some (error_reply error.Spent)
+reply_of_error _ = Some none_reply
+
+pub record ToldByWord (words : List AnswerWord) (reply : Option MessageData) : Type 0 where
+  pub error : KitError
+  pub may : TellsForward error
+  pub words_are : words ≡ word.Error error ∷ []
+  pub reply_is : reply ≡ reply_of_error error
+
+-- a message that is routed so has the one word, which tells its reply
+abbrev pub ForwardTellsReply : Type 0
+ForwardTellsReply =
+    (s : DeskState) (looper : ℕ) (item : ItemData) (words : List AnswerWord) (reply : Option MessageData)
+    → entry.Forward looper ≡ entry_route s (routed_of s item).route
+    → Replies s item words reply
+    → ToldByWord words reply
+
+-- ---- what a looper knows by its own entries
+-- the dispatches are among the entries that its own thread made, and so is the one that was given up
+abbrev pub DispatchesAreOwn : Type 0
+DispatchesAreOwn =
+    (looper : ℕ) (s : DeskState) (lines : List LineData) (t : DeskState)
+    → Replays looper 0 s lines t
+    → (dispatches lines ≡ dispatches (made_by by_number (10000 + looper) lines)) × (gave_up lines ≡ gave_up (made_by by_number (10000 + looper) lines))
+
+-- ---- a turn of the looper's own thread
+-- a message that is begun and ended between `lock` and `finish` is dispatched there, by what those two say of the seats
+abbrev pub ATurnDispatches : Type 0
+ATurnDispatches =
+    (clock clock' : Clock) (position : ℕ) (item : ItemData) (made : Made) (opening before after : DeskState) (lines lines' : List LineData) (seat given seat' : DeskSeat)
+    → HasDispatched clock clock' position item opening before after lines lines' made
+    → seat.turn ≡ false
+    → seat.thread ≡ clock.thread.0
+    → seat.opening ≡ Some opening
+    → IsGiven by_number seat given
+    → lines ≡ given.front
+    → ((line : LineData) → lines' ≡ given.front ++ line ∷ [] → seat' ≡ at_leisure (entered_by given line))
+    → HasDispatchedThere clock clock' position item made seat seat' × IsAtDesk seat'

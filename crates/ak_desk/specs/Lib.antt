@@ -1,3 +1,4 @@
+pub mod Answering
 pub mod BuiltIns
 pub mod Desk
 pub mod DeskCode

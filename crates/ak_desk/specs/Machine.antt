@@ -6,6 +6,7 @@ use Rattle.ak_handler.specs.declared.fault.HandlerFault.TheVariants as fault
 use Rattle.ak_handler.specs.Handlers.{HandlersData}
 use Rattle.ak_handler.specs.Changes.{add_fault, with_handler, remove_fault, without_handler, next_fault, with_next, preferred_fault}
 use Rattle.ak_flatten.specs.Item.{ItemData}
+use Rattle.ak_message.specs.Message.{MessageData}
 use Rattle.ak_action.specs.declared.answer.Answer.{Answer}
 use Rattle.ak_action.specs.declared.answer.AnswerWord.{AnswerWord}
 use Rattle.ak_action.specs.declared.state.DeskState.{DeskState}
@@ -20,9 +21,11 @@ use Rattle.ak_desk.specs.declared.entry.EditAnswer.{EditAnswer}
 use Rattle.ak_desk.specs.declared.entry.EditAnswer.TheVariants as answered
 use Rattle.ak_desk.specs.declared.entry.EntryRoute.{EntryRoute}
 use Rattle.ak_desk.specs.declared.entry.EntryRoute.TheVariants as entry
+use Rattle.ak_desk.specs.Answering.{AreAnswered}
 use Rattle.ak_desk.specs.Dispatch.{dispatch_of, entry_route}
 use Rattle.ak_desk.specs.Line.{LineData}
 use Rattle.ak_desk.specs.Place.{routed_of}
+use Rattle.ak_desk.specs.Replies.{none_reply}
 
 -- ---- edits
 pub record Edited : Type 0 where
@@ -54,18 +57,27 @@ EditsHandlers h e answered.NoMemory t = t ≡ h
 EditsHandlers h e answer t = edit_of h e ≡ record { answer = answer; handlers = t }
 
 -- ---- dispatches
--- for some answers that were all used, and where memory may have run out at some place, it comes to these words, this quit mark and
--- this state
+-- for some answers, each to the want at its place, that were all used, and where memory may have run out at some place, it comes to
+-- these words, this quit mark and this state
 pub record Dispatches (s : DeskState) (item : ItemData) (words : List AnswerWord) (quit : Bool) (t : DeskState) : Type 0 where
   pub answers : List Answer
   pub memory : Option ℕ
   -- the flat text of a reply spells its message
   pub spelled : All IsSpelled answers
+  -- each is one that may come to the want at its place
+  pub answered : AreAnswered (dispatch_of s item answers memory).wants answers
   pub waits : (dispatch_of s item answers memory).waits ≡ false
   pub used : (dispatch_of s item answers memory).answers ≡ []
   pub words_are : (dispatch_of s item answers memory).words ≡ words
   pub quit_is : (dispatch_of s item answers memory).quit ≡ quit
   pub state_is : (dispatch_of s item answers memory).state ≡ t
+
+-- that is its reply, before it is made to fit; none where the message was sent on
+pub record Replies (s : DeskState) (item : ItemData) (words : List AnswerWord) (reply : Option MessageData) : Type 0 where
+  pub quit : Bool
+  pub leaves : DeskState
+  pub dispatch : Dispatches s item words quit leaves
+  pub is : (dispatch_of s item dispatch.answers dispatch.memory).reply ≡ reply
 
 -- where there was no memory to begin, nothing is known of the item, and nothing changes
 abbrev pub DispatchStep : DeskState → EntryRoute → Option ItemData → List AnswerWord → Bool → DeskState → Type 0
@@ -73,6 +85,13 @@ DispatchStep s entry.NoMemory None words quit t = (words ≡ []) × ((quit ≡ f
 DispatchStep s entry.NoMemory (Some item) words quit t = ⊥
 DispatchStep s r None words quit t = ⊥
 DispatchStep s r (Some item) words quit t = (r ≡ entry_route s (routed_of s item).route) × Dispatches s item words quit t
+
+-- the reply of such an entry; where there was no memory to begin, it is NONE
+abbrev pub StepReplies : DeskState → EntryRoute → Option ItemData → List AnswerWord → Option MessageData → Type 0
+StepReplies s entry.NoMemory None words reply = reply ≡ Some none_reply
+StepReplies s entry.NoMemory (Some item) words reply = ⊥
+StepReplies s r None words reply = ⊥
+StepReplies s r (Some item) words reply = Replies s item words reply
 
 -- ---- one entry, of the looper with that number, after so many dispatches
 abbrev pub EventStep : ℕ → DeskState → DeskEvent → Option ItemData → DeskState → Type 0

@@ -9,19 +9,17 @@ use Rattle.ak_route.specs.declared.outcome.Taker.{Taker}
 use Rattle.ak_route.specs.declared.outcome.Taker.TheVariants as taker
 use Rattle.ak_route.specs.Routing.{Routed}
 use Rattle.ak_action.specs.declared.answer.Answer.{Answer}
-use Rattle.ak_action.specs.declared.answer.Answer.TheVariants as answer
 use Rattle.ak_action.specs.declared.answer.AnswerWord.{AnswerWord}
 use Rattle.ak_action.specs.declared.answer.AnswerWord.TheVariants as word
 use Rattle.ak_action.specs.declared.answer.Want.{Want}
 use Rattle.ak_action.specs.declared.answer.Want.TheVariants as want
 use Rattle.ak_action.specs.declared.state.DeskState.{DeskState}
-use Rattle.ak_message.specs.declared.address.Address.{Address}
-use Rattle.ak_action.specs.declared.doing.Sending.TheVariants as sending
 use Rattle.ak_action.specs.Acts.{error_of}
-use Rattle.ak_action.specs.Interp.{started, Nexted, nexted, failed, Given, next_of, give_of, MayGoOn, Answers, AnswersFind, AnswersSend, HasEnded}
+use Rattle.ak_action.specs.Interp.{started, Nexted, nexted, failed, Given, next_of, give_of, MayGoOn, Answers, AnswersFind, HasEnded}
 use Rattle.ak_action.specs.Laws.{IsAsking}
 use Rattle.ak_desk.specs.declared.task.Task.{Task}
 use Rattle.ak_desk.specs.declared.task.Task.TheVariants as task
+use Rattle.ak_desk.specs.Answering.{AnswersAsk, AnswersForward, AnswersPost}
 use Rattle.ak_desk.specs.BuiltIns.{built_in_reply, built_in_quits}
 use Rattle.ak_desk.specs.Dispatch.{Dispatch, forward_reply, ran_out}
 use Rattle.ak_desk.specs.Properties.{property_replied}
@@ -54,25 +52,11 @@ MayWant (task.Reaction i) = MayGoOn i
 MayWant (task.Forwarding _) = ⊥
 MayWant _ = Unit {0}
 
-abbrev pub AnswersForward : Answer → Type 0
-AnswersForward (answer.Written _) = Unit {0}
-AnswersForward answer.Closed = Unit {0}
-AnswersForward answer.Spent = Unit {0}
-AnswersForward answer.NoMemory = Unit {0}
-AnswersForward _ = ⊥
-
 -- the answer is one to the last want
 abbrev pub TakesAnswer : Task → Answer → Type 0
 TakesAnswer (task.Reaction i) a = Answers i a
 TakesAnswer (task.Forwarding _) a = AnswersForward a
 TakesAnswer _ a = ⊥
-
--- what answers a message that is sent without waiting, and one whose reply is waited for
-abbrev pub AnswersPost : Answer → Type 0
-AnswersPost a = (back : Option Address) → AnswersSend (sending.Post back) a
-
-abbrev pub AnswersAsk : Answer → Type 0
-AnswersAsk a = (into : Option ℕ) → AnswersSend (sending.Ask into) a
 
 -- nothing is left to do
 abbrev pub IsDone : Task → Type 0

@@ -34,9 +34,11 @@ pub(crate) struct Begun {
     pub(crate) before: Snapshot<DeskState>,
 }
 
-/// The handlers of one looper, and the list of all that was done on them. At rest the list makes the state
-/// of the opening. Messages are carried out by the looper's own thread, one at a time: `begin`, then `want`
-/// and `give` in turn, then `end`.
+/// The handlers of one looper, and the list of all that was done on them, oldest first. While nothing is begun,
+/// the list leads from the opening to the handlers as they are. Messages are carried out by the looper's own
+/// thread, one at a time: `begin`, then `want` and `give` in turn, then `end`. A call that is given a clock
+/// asks that its time and the last stamp are below 2^63. So they are at a turn, once the clock is ready. (The
+/// Be Book, The Application Kit, BLooper.)
 #[derive(Drop)]
 pub struct Desk {
     pub(crate) state: DeskState,
@@ -64,9 +66,11 @@ impl Desk {
     ghost use Rattle.ak_action.specs.Opening.{FitsPlace, Opens};
     ghost use Rattle.ak_desk.specs.Machine.{IsHistory, dispatches};
 
-    /// The desk of the looper of the plan, on which nothing was done: the looper has that number, its team has
-    /// that one, and these are the names of the application's loopers, of which the first has the number
-    /// `first`.
+    /// The desk of the looper of the plan, on which nothing was done. `looper` is its number in the run, from
+    /// 0, `team` that of its team. `names` are those of the application's loopers, in order, at most 8 that
+    /// differ. The first of them has the number `first`, and all numbers are below 32. The plan's name stands
+    /// there at the looper's place, and its actions name no other loopers. The handlers have the tokens 0, 1, 2
+    /// and so on, as the plan has them. Answers `NoMemory` where memory ran out.
     pub fn from_plan(
         alloc: Global,
         plan: LooperPlan,
@@ -95,7 +99,8 @@ impl Desk {
         })
     }
 
-    /// The handlers as they are. While nothing is begun, they are what the list makes of the opening.
+    /// The handlers as they are, with the looper's numbers and names. While nothing is begun, they are what the
+    /// list makes of the opening. Takes no memory.
     pub fn state(&self) -> &DeskState
         ensures value { result.now ≡ self.now.state }
         ensures history { self.now.begun ≡ None → IsHistory self.now.opening self.now.lines self.now.state }
@@ -103,8 +108,9 @@ impl Desk {
         &self.state
     }
 
-    /// Begins the message that was taken: it is routed, and all is reserved that its end needs. An `Err`
-    /// changes nothing.
+    /// Begins the message that was taken: it is routed, and all is reserved that its end needs. Nothing else is
+    /// begun then, and the item's position is the number of messages dispatched before it. The handlers and the
+    /// list stay as they are, and `want` comes next. `NoMemory` changes nothing; then `give_up` may come.
     pub fn begin(&mut self, taken: &Taken) -> Result<(), NoMemory>
         requires rest { self.old.begun ≡ None }
         requires position { taken.now.position ≡ dispatches self.old.lines }
@@ -118,9 +124,10 @@ impl Desk {
         Ok(())
     }
 
-    /// Goes on with the message that is begun until something is wanted from outside, which is answered;
-    /// `Done` where nothing is left to do. Where there is no memory, the last word is that, nothing more is
-    /// done, and what was done before stays.
+    /// Goes on with the message that is begun until something is wanted from outside, which is answered; `give`
+    /// comes next then. `Done` where nothing is left to do; `end` comes next then. `NoMemory` where memory ran
+    /// out, at an action or at the reply. The last word is that then, nothing more is done, what was done
+    /// before stays, and `end` comes next.
     pub fn want(&mut self) -> Result<Want, NoMemory>
         requires { DeskMayWant self.old }
         ensures ok { IfOk result (λ w. wanted_next None self.old ≡ desk_wants w self.new) }
@@ -135,7 +142,8 @@ impl Desk {
         Ok(Want::Done)
     }
 
-    /// Hands it the answer to the last want. Takes no memory.
+    /// Hands it the answer to the last want, one that fits that want; `want` comes next. The answer may set a
+    /// property, as that of an `ask` does. Takes no memory.
     pub fn give(&mut self, a: Answer)
         requires { DeskTakes self.old a }
         ensures given { self.new ≡ given_to self.old a }

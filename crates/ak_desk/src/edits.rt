@@ -15,7 +15,9 @@ impl Desk {
     ghost use Rattle.ak_desk.specs.Desk.{Edits, HasAdded, edit_entry};
 
     /// Changes the handlers, where nothing is begun: a new one that holds nothing, one less, another next
-    /// handler, another preferred one. A refusal changes nothing and is an entry too; `NoMemory` adds none.
+    /// handler, another preferred one. The edit and its answer are one entry, by the clock's thread, with the
+    /// clock's next stamp. A refusal changes nothing and is an entry too. `NoMemory` changes nothing, and there
+    /// is no entry.
     pub fn edit(&mut self, e: Edit, clock: &mut Clock) -> EditAnswer
         requires rest { self.old.begun ≡ None }
         requires time { clock.old.time < 2 ^ 63 }

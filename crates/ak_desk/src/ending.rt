@@ -1,4 +1,4 @@
-ghost use Rattle.std.specs.Prelude.{◌≡◌, ◌+◌, ◌++◌, ◌∷◌, ◌<◌, ◌≤◌, ◌^◌, [], true, false, None, Some, is_some, if◌then◌else◌, option_map, vec_len, vec_capacity};
+ghost use Rattle.std.specs.Prelude.{◌≡◌, ◌+◌, ◌++◌, ◌∷◌, ◌<◌, ◌≤◌, ◌^◌, [], true, false, None, Some, is_some, if◌then◌else◌, option_map, vec_len, vec_capacity, IfSome};
 ghost use Rattle.ak_desk.specs.Desk.{line_after, stamp_in, stamp_after};
 ghost use Rattle.ak_desk.specs.Dispatch.{fitting, ran_out};
 ghost use Rattle.ak_desk.specs.Replies.{none_reply};
@@ -19,12 +19,13 @@ use std::alloc::Global;
 use std::snapshot::Snapshot;
 
 impl Desk {
-    ghost use Rattle.ak_desk.specs.Desk.{clock_after, ended, given_up, made_by, DeskIsDone};
+    ghost use Rattle.ak_desk.specs.Desk.{clock_after, ended, given_up, made_by, DeskIsDone, EndsDispatch};
     ghost use Rattle.ak_desk.specs.Machine.{dispatches, gave_up};
 
-    /// Ends the message that was begun: adds its entry, and tells what it came to. A reply whose flat text
-    /// has over 4,096 bytes is replaced by one that tells so. The clock is that of the looper's own thread.
-    /// Takes no memory.
+    /// Ends the message that was begun: adds its entry, and tells what it came to. The entry's stamp is one
+    /// more than the greater of the clock's time and the last stamp, and becomes the time. A reply whose flat
+    /// text has over 4,096 bytes is replaced by one that tells so. The clock is that of the looper's own
+    /// thread. Takes no memory.
     pub fn end(&mut self, clock: &mut Clock) -> Made
         requires done { DeskIsDone self.old }
         requires looper { clock.old.thread.0 ≡ 10000 + self.old.opening.looper }
@@ -33,6 +34,7 @@ impl Desk {
         ensures desk { self.new ≡ ended self.old clock.old }
         ensures made { result ≡ made_by self.old.begun }
         ensures clock { clock.new ≡ clock_after self.old clock.old }
+        ensures dispatched { IfSome self.old.begun (EndsDispatch clock.old clock.new self.old self.new result) }
     {
         a_dispatch_comes_as_told();
         let alloc = *self.lines.allocator();
@@ -70,7 +72,9 @@ impl Desk {
     }
 
     /// Gives the message up where `begin` found no memory for it: adds its entry, in a place that the desk
-    /// keeps for this, once. The clock is that of the looper's own thread. Takes no memory.
+    /// keeps for this, once. The entry has no answer word, the reply is `NONE` without fields, and the handlers
+    /// stay as they are. The clock is that of the looper's own thread, and gives the entry's stamp as in `end`.
+    /// Takes no memory.
     pub fn give_up(&mut self, taken: &Taken, clock: &mut Clock) -> Made
         requires rest { self.old.begun ≡ None }
         requires once { gave_up self.old.lines ≡ false }

@@ -13,50 +13,71 @@ use std::snapshot::Snapshot;
 pub enum EntryRoute {
     /// To the handler with that token.
     To(u64),
+    /// A filter skipped it.
     Skipped,
+    /// It was for a token that no handler has.
     Dropped,
+    /// Its specifiers led nowhere, or no handler of the chain took it.
     NotUnderstood,
-    /// To the looper with that number.
+    /// To the looper with that number in the run.
     Forward(u32),
-    /// There was no memory to begin with it.
+    /// There was no memory to begin with it. It has no answer words then, and nothing changed.
     NoMemory,
 }
 
-/// A change of a looper's handlers that is asked for.
+/// A change of a looper's handlers that is asked for. Tokens tell the handlers; the looper's own is 0. The
+/// refusals of each stand in the order in which they are tested.
 #[derive(Debug, Drop)]
 pub enum Edit {
-    /// A new handler of that name, which holds nothing.
+    /// A new handler of that name at the end, which holds nothing and has the looper as its next handler.
+    /// Refused with `NameInUse`, `HandlerLimit`. (The Be Book, The Application Kit, BLooper: AddHandler().)
     Add(Text),
+    /// The handler with that token goes. What had it as next handler has the looper; where it was preferred,
+    /// none is. Refused with `BadHandler`, `IsLooper`. (The Be Book, The Application Kit, BLooper:
+    /// RemoveHandler().)
     Remove(u64),
-    /// Another next handler, or none.
+    /// The handler of the first token has another next handler, or none. Refused with `BadHandler`, where
+    /// either is not there, `IsLooper`, `ChainLoop`. (The Be Book, The Application Kit, BHandler:
+    /// SetNextHandler().)
     Next(u64, Option<u64>),
-    /// Another preferred handler, or none.
+    /// Another preferred handler, or none. Refused with `BadHandler`. (The Be Book, The Application Kit,
+    /// BLooper: SetPreferredHandler().)
     Prefer(Option<u64>),
 }
 
 /// What an edit came to.
 #[derive(Clone, Copy, Debug, PartialEq, Eq)]
 pub enum EditAnswer {
+    /// A removal, another next handler or another preferred one is done.
     Done,
     /// The token of the handler that was added.
     Token(u64),
+    /// The handlers refuse it, for that reason: nothing changed.
     Refused(HandlerFault),
+    /// Memory ran out: nothing changed, and there is no entry.
     NoMemory,
 }
 
 /// What happened at a desk.
 #[derive(Debug, Drop)]
 pub enum DeskEvent {
-    /// The message at that position of the port was dispatched: where it went, the words of its answers, and
-    /// whether the looper is to end.
+    /// The message at that position of the port was dispatched: where it went, its answer words, and whether
+    /// the looper is to end.
     Dispatched {
+        /// How many messages were dispatched before it, from 0 on.
         position: u64,
+        /// Where it went.
         route: EntryRoute,
+        /// The answer words of what was done, in order.
         answers: Items<AnswerWord>,
+        /// Whether the looper is to end.
         quit: bool,
     },
+    /// An edit was asked for, and was answered so.
     Edited {
+        /// What was asked for.
         edit: Edit,
+        /// What it came to.
         answer: EditAnswer,
     },
 }
@@ -64,8 +85,11 @@ pub enum DeskEvent {
 /// One entry of a desk's list.
 #[derive(Debug, Drop)]
 pub struct DeskEntry {
+    /// One more than the greater of the clock's time and the last stamp before it.
     pub stamp: u64,
+    /// The thread that made it; of a dispatch the looper's own, 10,000 plus its number in the run.
     pub by: ThreadId,
+    /// What happened.
     pub event: DeskEvent,
 }
 
@@ -88,7 +112,7 @@ impl Model for DeskLine {
 }
 
 impl Edit {
-    /// An equal one.
+    /// An equal one, or `NoMemory` where memory ran out.
     pub fn try_clone(&self) -> Result<Edit, NoMemory>
         ensures { IfOk result (λ e. e ≡ self.now) }
     {
@@ -102,7 +126,7 @@ impl Edit {
 }
 
 impl DeskEntry {
-    /// An equal one.
+    /// An equal one, or `NoMemory` where memory ran out.
     pub fn try_clone(&self, alloc: Global) -> Result<DeskEntry, NoMemory>
         ensures { IfOk result (λ e. e ≡ self.now) }
     {
@@ -115,7 +139,7 @@ impl DeskEntry {
 }
 
 impl DeskEvent {
-    /// An equal one.
+    /// An equal one, or `NoMemory` where memory ran out.
     pub fn try_clone(&self, alloc: Global) -> Result<DeskEvent, NoMemory>
         ensures { IfOk result (λ e. e ≡ self.now) }
     {

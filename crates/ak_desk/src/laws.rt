@@ -2,17 +2,17 @@
 
 ghost use Rattle.ak_desk.specs.Laws as law;
 
-/// However the calls of `want` and `give` go for one message, what they come to is the dispatch with all its
-/// answers at once, where no memory ran out, or ran out at some place.
+/// However the calls of `want` and `give` go for one message, they come to its dispatch with all answers at
+/// once. In that dispatch no memory ran out, or it ran out at some place.
 pub fn a_dispatch_comes_as_told()
     ensures { law.ComesToDispatch }
 {
     ak_action::calls_act();
 }
 
-/// Of every list that the machine of a desk allows: each line stands on the state that those before it
-/// leave; a dispatched message has as its position how many were dispatched before it; a refused edit
-/// changes nothing; and the state is told by the opening and the list.
+/// What holds of every list that the machine of a desk allows. Each line stands on the state that those before
+/// it leave. A dispatched message has as its position how many were dispatched before it. A refused edit
+/// changes nothing. The opening and the list tell the state.
 pub fn the_list_tells_the_handlers()
     ensures follows { law.EachLineFollows }
     ensures positions { law.PositionsCount }
@@ -21,3 +21,28 @@ pub fn the_list_tells_the_handlers()
 {
     ak_action::words_replay();
 }
+
+/// Of an entry that the machine allows, the state before, where the message went, the item and the words
+/// tell whether the looper is to end, the state after and the reply. The word of a message that was sent on
+/// is one of four, and tells its reply; there is no entry of one that found its port full.
+pub fn an_entry_tells_its_reply()
+    ensures tells { law.EntryTellsReply }
+    ensures full { law.NoStepOfAFullForward }
+    ensures one { law.OneWordOneReply }
+    ensures forward { law.ForwardTellsReply }
+{
+    ak_action::words_replay();
+}
+
+/// Of a list that the machine allows, how many messages were dispatched, and whether one was given up, is
+/// told by the entries that the looper's own thread made.
+pub fn the_dispatches_are_its_own()
+    ensures { law.DispatchesAreOwn }
+{}
+
+/// A message that the looper's own thread begins and ends in one turn at a shared desk is dispatched there:
+/// its entry is the last of the seat's front, which goes on from all that the seat had seen by entries of
+/// others alone, and is a list that the machine allows.
+pub fn a_turn_dispatches()
+    ensures { law.ATurnDispatches }
+{}

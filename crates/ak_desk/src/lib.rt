@@ -1,8 +1,8 @@
-//! The desk of one looper: its handlers with all that they hold, and the list of all that was done on it,
-//! each message with where it went, the words of its answers and whether the looper was to end, and each
-//! change of its handlers with its answer. The list tells the handlers: they are what it makes of the plan.
-//! A message is carried out step by step; the desk asks for one answer from outside at a time. Nothing here
-//! waits, and nothing is shared.
+//! The desk of one looper: its handlers with all that they hold, and the list of all that was done on it. The
+//! list has each message, with where it went, its answer words, and whether the looper was to end. It has each
+//! change of the handlers, with its answer. The list tells the handlers: they are what it makes of the plan. A
+//! message is carried out step by step; the desk asks for one answer from outside at a time. Nothing here waits
+//! but `edit_shared`, which edits a desk that threads share and waits for its turn.
 #![tactic(auto)]
 
 mod book;
@@ -21,6 +21,9 @@ mod task;
 
 pub use desk::Desk;
 pub use entry::{DeskEntry, DeskEvent, DeskLine, Edit, EditAnswer, EntryRoute};
-pub use laws::{a_dispatch_comes_as_told, the_list_tells_the_handlers};
+pub use laws::{
+    a_dispatch_comes_as_told, a_turn_dispatches, an_entry_tells_its_reply,
+    the_dispatches_are_its_own, the_list_tells_the_handlers,
+};
 pub use made::Made;
 pub use shared::edit_shared;

@@ -9,8 +9,10 @@ use crate::entry::{Edit, EditAnswer};
 use ak_turn::{Clock, Seat, TurnLock};
 use std::sync::Wait;
 
-/// Edits the handlers of a looper whose desk threads share. It waits for its turn. The answer is the one that
-/// the handlers give at the entry's place in the one list; `NoMemory` makes no entry.
+/// Edits the handlers of a looper whose desk threads share. It waits for its turn. The seat is one at this
+/// desk, without a turn, and of the clock's thread. The answer is the one that the handlers give at the entry's
+/// place in the one list. The entry has the clock's next stamp, and is the last that the seat has seen.
+/// `NoMemory` makes no entry.
 pub fn edit_shared<R: Wait>(
     desk: &TurnLock<Desk>,
     rt: &R,

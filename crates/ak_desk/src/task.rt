@@ -3,9 +3,10 @@
 ghost use Rattle.std.specs.Prelude.{◌≡◌, ◌+◌, ◌<◌, ◌^◌, None, Some, false, ℕ, IfOk, OnErr};
 ghost use Rattle.ak_action.specs.declared.state.DeskState.{DeskState};
 ghost use Rattle.ak_action.specs.Acts.{error_of};
+ghost use Rattle.ak_desk.specs.Answering.{AnswersForward};
 ghost use Rattle.ak_desk.specs.Dispatch.{forward_reply};
 ghost use Rattle.ak_desk.specs.Replies.{error_reply};
-ghost use Rattle.ak_desk.specs.Task.{taken_as, ready, task_by, Awaits, MayWant, AnswersForward, TakesAnswer, IsDone, IsNoReaction, wants, wants_none, want_of, place_in, starved, heard_of, words_of, reply_of, quits};
+ghost use Rattle.ak_desk.specs.Task.{taken_as, ready, task_by, Awaits, MayWant, TakesAnswer, IsDone, IsNoReaction, wants, wants_none, want_of, place_in, starved, heard_of, words_of, reply_of, quits};
 
 use crate::built_in::{built_in_quits, built_in_reply};
 use crate::properties::property_replied;

@@ -9,11 +9,12 @@ use std::marker::Model;
 /// How many filters a list may have.
 pub const FILTER_LIMIT: usize = 32;
 
-/// Why a filter was not added.
+/// Why a filter was not added. They are tested in this order.
 #[derive(Clone, Copy, Debug, PartialEq, Eq)]
 pub enum FilterFault {
     /// There are 32 filters.
     FilterLimit,
+    /// Memory ran out.
     NoMemory,
 }
 
@@ -28,7 +29,8 @@ impl<T: Drop> From<AllocFailed<T>> for FilterFault {
     }
 }
 
-/// Filters in the order in which they run, at most 32. Contracts see their list.
+/// Filters in the order in which they run, at most 32. Contracts see their list. (The Be Book, The
+/// Application Kit, BHandler: FilterList().)
 #[derive(Debug, Drop)]
 pub struct FilterList {
     filters: Vec<Filter>,
@@ -56,7 +58,7 @@ impl FilterList {
     }
 
     /// Adds a filter at the end. `FilterLimit` at 32 filters. An `Err` changes nothing, and the filter is
-    /// dropped.
+    /// dropped. `NoMemory` where memory ran out. (The Be Book, The Application Kit, BHandler: AddFilter().)
     pub fn push(&mut self, f: Filter) -> Result<(), FilterFault>
         ensures limit { FILTER_LIMIT ≡ 32 }
         ensures filter_limit { IsErrOf result FilterFault.FilterLimit ↔ (length self.old ≡ 32) }
@@ -70,7 +72,7 @@ impl FilterList {
         Ok(())
     }
 
-    /// An equal list.
+    /// An equal list. `NoMemory` where memory ran out.
     pub fn try_clone(&self) -> Result<FilterList, NoMemory>
         ensures { IfOk result (λ l. l ≡ self.now) }
     {
@@ -78,7 +80,7 @@ impl FilterList {
         Ok(FilterList { filters })
     }
 
-    /// The filters in their order.
+    /// The filters in their order. Takes no memory.
     pub fn as_slice(&self) -> &[Filter]
         ensures value { result.now ≡ self.now }
         ensures limit { length self.now ≤ 32 }

@@ -32,7 +32,9 @@ pub enum FlatKind {
 /// The first fault from left to right, and at which byte: counted from 0 in all the bytes.
 #[derive(Clone, Copy, Debug, PartialEq, Eq)]
 pub struct FlatFault {
+    /// The first byte of the part at fault, counted from 0; with `TooLong` 4,096.
     pub place: u32,
+    /// What is wrong there.
     pub kind: FlatKind,
 }
 
@@ -41,24 +43,27 @@ pub struct FlatFault {
 pub enum FlattenFault {
     /// Its flat text has over 4,096 bytes.
     TooLong,
+    /// Memory ran out.
     NoMemory,
 }
 
 /// Why no message was read.
 #[derive(Clone, Copy, Debug, PartialEq, Eq)]
 pub enum UnflattenFault {
-    /// The bytes are no flat text.
+    /// The bytes are no flat text: their first fault.
     Bad(FlatFault),
+    /// Memory ran out.
     NoMemory,
 }
 
 /// Why a flat text is kept as no item. They are tested in this order.
 #[derive(Clone, Copy, Debug, PartialEq, Eq)]
 pub enum ItemFault {
-    /// The bytes are no flat text.
+    /// The bytes are no flat text: their first fault.
     Bad(FlatFault),
     /// More specifiers are said to be popped than the message has.
     Popped,
+    /// Memory ran out.
     NoMemory,
 }
 

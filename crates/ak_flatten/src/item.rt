@@ -18,14 +18,16 @@ use std::marker::Model;
 pub enum Duty {
     /// Nothing.
     None,
-    /// A reply into the slot that a waiting sender opened.
+    /// A reply into the slot of that number, which a waiting sender opened. Slots count from 0.
     Slot(u64),
     /// A reply posted to that address.
     Back(Address),
 }
 
-/// A message as a port holds it: its flat text and how many of its specifiers are popped, for which
-/// handler it is, the sender's team, whether a user dropped it, and what is owed to the sender.
+/// A message as a port holds it, in six parts. These are its flat text, how many of its specifiers are
+/// popped, and for which handler it is. The others are the sender's team, whether a user dropped it, and what
+/// is owed to the sender. The flat text is always that of a message, and no more of its specifiers are popped
+/// than it has. Contracts see the parts.
 #[derive(Debug, Drop)]
 pub struct Item {
     target: Target,
@@ -36,10 +38,12 @@ pub struct Item {
     flat: Bytes,
 }
 
-/// An item that was taken out of a port, and its position in all that the port ever held.
+/// An item that was taken out of a port.
 #[derive(Debug, Drop)]
 pub struct Taken {
+    /// The number of the items that were written to the port before it.
     pub position: u64,
+    /// The item itself.
     pub item: Item,
 }
 
@@ -58,7 +62,8 @@ impl Model for Item {
 
 impl Item {
     /// The item of the message, with as many of its specifiers popped. `TooLong` where its flat text has
-    /// over 4,096 bytes.
+    /// over 4,096 bytes. `NoMemory` where memory ran out. In the messages inside nothing is popped then. A
+    /// later change of the message does not reach the item.
     pub fn new(
         alloc: Global,
         target: Target,
@@ -92,7 +97,9 @@ impl Item {
         })
     }
 
-    /// The item of a flat text. The faults are tested in the order of `ItemFault`.
+    /// The item of a flat text, with so many specifiers popped. The faults are tested in the order of
+    /// `ItemFault`: `Bad` with the first fault of the bytes, then `Popped`. `NoMemory` may come in place of
+    /// any answer. An `Err` drops the bytes.
     pub fn from_flat(
         alloc: Global,
         target: Target,
@@ -127,6 +134,7 @@ impl Item {
         })
     }
 
+    /// For which handler of its looper the message is.
     pub fn target(&self) -> Target
         ensures { result ≡ self.now.target }
     {
@@ -147,6 +155,7 @@ impl Item {
         self.dropped
     }
 
+    /// What is owed to the sender.
     pub fn duty(&self) -> Duty
         ensures { result ≡ self.now.duty }
     {
@@ -161,7 +170,7 @@ impl Item {
         self.popped
     }
 
-    /// The message's flat text.
+    /// The message's flat text, at most 4,096 bytes.
     pub fn flat(&self) -> &[u8]
         ensures value { result.now ≡ self.now.flat }
         ensures is_item { IsItem self.now }
@@ -169,7 +178,8 @@ impl Item {
         self.flat.as_slice()
     }
 
-    /// The message, with so many of its specifiers popped.
+    /// The message, with so many of its specifiers popped. In the messages inside nothing is popped.
+    /// `NoMemory` where memory ran out.
     pub fn message(&self, alloc: Global) -> Result<Message, NoMemory>
         ensures { IfOk result (λ m. m ≡ message_of self.now) }
     {
@@ -178,14 +188,14 @@ impl Item {
         Ok(message)
     }
 
-    /// The same with another duty.
+    /// The same with another duty. Takes no memory.
     pub fn with_duty(self, duty: Duty) -> Item
         ensures { result ≡ record self { duty = duty } }
     {
         Item { duty, ..self }
     }
 
-    /// The same with so many of its specifiers popped.
+    /// The same with so many of its specifiers popped. The message has to have so many. Takes no memory.
     pub fn with_popped(self, popped: u32) -> Item
         requires { popped ≤ specifier_count (message_of self).fields }
         ensures { result ≡ record self { popped = popped } }
@@ -193,7 +203,8 @@ impl Item {
         Item { popped, ..self }
     }
 
-    /// The same for the looper itself, with so many specifiers popped.
+    /// The same for the looper itself, with so many specifiers popped. The looper's token is 0. At least as
+    /// many have to be popped as before, and the message has to have so many. Takes no memory.
     pub fn forwarded(self, popped: u32) -> Item
         requires at_least { self.popped ≤ popped }
         requires within { popped ≤ specifier_count (message_of self).fields }
@@ -206,7 +217,7 @@ impl Item {
         }
     }
 
-    /// An equal item.
+    /// An equal item. `NoMemory` where memory ran out.
     pub fn try_clone(&self, alloc: Global) -> Result<Item, NoMemory>
         ensures { IfOk result (λ item. item ≡ self.now) }
     {

@@ -10,7 +10,8 @@ pub fn spelled_or_faulty()
     ensures { SpelledOrFaulty }
 {}
 
-/// What is written of a message is the flat text of that message with nothing popped, at any depth.
+/// What is written of a message, in at most 4,096 bytes, is the flat text of that message with nothing
+/// popped, at any depth.
 pub fn written_is_read()
     ensures { WrittenIsRead }
 {}

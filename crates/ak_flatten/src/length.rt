@@ -14,7 +14,7 @@ const FIELD_HEAD_LEN: u64 = 6;
 const VALUE_HEAD_LEN: u64 = 2;
 
 /// How many bytes the message's flat text has, of which there may be over 4,096, or 2^64 - 1 where it has
-/// more. Takes no memory.
+/// more. Takes no memory. (The Be Book, The Application Kit, BMessage: FlattenedSize().)
 #[cycle(lengths)]
 pub fn flat_len(message: &Message) -> u64
     ensures { result ≡ min (length (spelling message.now)) (2 ^ 64 - 1) }

@@ -1,7 +1,9 @@
-//! A message as flat text, and back. Each message has one flat text, at most 4,096 bytes, which holds its
-//! code and its fields, and not how many of its specifiers are popped. Of bytes that are no flat text the
-//! first fault from left to right is told, with its place. An `Item` is what a port holds of a message: the
-//! flat text, for whom it is, and what is owed to its sender. Nothing here waits, and nothing is shared.
+//! A message as flat text, and back. Each message has one flat text, which holds its code and its fields, and
+//! not how many of its specifiers are popped. One of over 4,096 bytes is neither written nor read. Of bytes
+//! that are no flat text the first fault from left to right is told, with its place. An `Item` is what a port
+//! holds of a message: the flat text, for whom it is, and what is owed to its sender. Nothing here waits, and
+//! nothing is shared. (The Be Book, The Application Kit, BMessage: Flatten() and Unflatten(). The form of the
+//! bytes is this project's own.)
 #![tactic(auto)]
 
 mod fault;

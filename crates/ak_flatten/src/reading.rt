@@ -21,7 +21,8 @@ use ak_message::{DEPTH_LIMIT, Kind, Message, Value};
 use std::alloc::Global;
 
 /// The message that the bytes are the flat text of, with nothing popped at any depth. Of bytes that are no
-/// flat text the first fault from left to right.
+/// flat text the first fault from left to right. `NoMemory` may come in place of any answer. (The Be Book,
+/// The Application Kit, BMessage: Unflatten().)
 pub fn unflatten(alloc: Global, bytes: &[u8]) -> Result<Message, UnflattenFault>
     ensures spelled { IfOk result (λ m. Spells bytes.now m) }
     ensures only { (m : MessageData) → Spells bytes.now m → Gives (λ x. x) result (Ok m) }

@@ -12,6 +12,8 @@ use std::alloc::Global;
 pub const FLAT_LIMIT: usize = 4096;
 
 /// The message's flat text, unless that has over 4,096 bytes. How many specifiers are popped isn't written.
+/// `TooLong` exactly where it has more, and else only `NoMemory`. (The Be Book, The Application Kit,
+/// BMessage: Flatten().)
 pub fn flatten(alloc: Global, message: &Message) -> Result<Bytes, FlattenFault>
     ensures ok { IfOk result (λ bytes. bytes ≡ spelling message.now) }
     ensures too_long { IsErrOf result FlattenFault.TooLong ↔ (4096 < length (spelling message.now)) }

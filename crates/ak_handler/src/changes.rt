@@ -9,8 +9,9 @@ use ak_base::Text;
 
 impl<R: Drop> HandlerSet<R> {
     /// Adds a handler at the end, with the looper as next, and answers its token. `NameInUse` where one has
-    /// that name, and then `HandlerLimit` at 64 handlers or where no token is left. An `Err` changes
-    /// nothing, and the handler is dropped.
+    /// that name, and then `HandlerLimit` at 64 handlers or where no token is left. An `Err` changes nothing,
+    /// and the handler is dropped. `NoMemory` comes last. (The Be Book, The Application Kit, BLooper:
+    /// AddHandler().)
     pub fn add(&mut self, name: Text, content: R) -> Result<u64, HandlerFault>
         ensures refused { IfSome (add_fault self.old name) (λ f. result ≡ Err f) }
         ensures only { IfNone (add_fault self.old name) (IsOkUnless result HandlerFault.NoMemory) }
@@ -35,9 +36,10 @@ impl<R: Drop> HandlerSet<R> {
         Ok(token)
     }
 
-    /// Removes the handler with that token, and answers what it held. Those whose next it was have the
-    /// looper as next; where it was preferred, none is. `BadHandler` where there is none, `IsLooper` for
-    /// token 0. An `Err` changes nothing. It has no answer for want of memory.
+    /// Removes the handler with that token, and answers what it held. Those whose next it was have the looper
+    /// as next; where it was preferred, none is. `BadHandler` where there is none, `IsLooper` for token 0. An
+    /// `Err` changes nothing. It has no answer for want of memory. (The Be Book, The Application Kit,
+    /// BLooper: RemoveHandler().)
     pub fn remove(&mut self, token: u64) -> Result<R, HandlerFault>
         ensures refused { IfSome (remove_fault self.old token) (λ f. result ≡ Err f) }
         ensures only { IfNone (remove_fault self.old token) (IsOk result) }
@@ -58,7 +60,8 @@ impl<R: Drop> HandlerSet<R> {
     }
 
     /// Makes the handler with that token the preferred one, or none. `BadHandler` where it is not there. An
-    /// `Err` changes nothing. It has no answer for want of memory.
+    /// `Err` changes nothing. It has no answer for want of memory. (The Be Book, The Application Kit,
+    /// BLooper: SetPreferredHandler().)
     pub fn set_preferred(&mut self, token: Option<u64>) -> Result<(), HandlerFault>
         ensures refused { IfSome (preferred_fault self.old token) (λ f. result ≡ Err f) }
         ensures only { IfNone (preferred_fault self.old token) (IsOk result) }

@@ -1,8 +1,7 @@
 use ak_base::NoMemory;
 use std::alloc::AllocFailed;
 
-/// Why handlers were not changed. They are tested in this order, but `add` tests `NameInUse` and then
-/// `HandlerLimit`.
+/// Why handlers were not changed. They are tested in this order; each call names those that it may answer.
 #[derive(Clone, Copy, Debug, PartialEq, Eq)]
 pub enum HandlerFault {
     /// A handler has that name.
@@ -15,6 +14,7 @@ pub enum HandlerFault {
     IsLooper,
     /// The chain would come back to where it began.
     ChainLoop,
+    /// Memory ran out.
     NoMemory,
 }
 

@@ -10,7 +10,8 @@ use crate::set::{HandlerSet, LOOPER};
 impl<R: Drop> HandlerSet<R> {
     /// Gives the handler with that token another next handler, or none. `BadHandler` where either is not
     /// there, `IsLooper` for token 0, `ChainLoop` where the new chain would come back to the handler. An
-    /// `Err` changes nothing. It has no answer for want of memory.
+    /// `Err` changes nothing. It has no answer for want of memory. The three are tested in this order. (The
+    /// Be Book, The Application Kit, BHandler: SetNextHandler().)
     pub fn set_next(&mut self, token: u64, next: Option<u64>) -> Result<(), HandlerFault>
         ensures refused { IfSome (next_fault self.old token next) (λ f. result ≡ Err f) }
         ensures only { IfNone (next_fault self.old token next) (IsOk result) }

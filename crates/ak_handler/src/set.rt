@@ -16,8 +16,10 @@ pub const HANDLER_LIMIT: usize = 64;
 /// The token of the looper.
 pub const LOOPER: u64 = 0;
 
-/// The handlers of a looper, in the order in which they were added, the looper first with the token 0.
-/// Tokens are birth numbers and are not used again. (The Be Book, BLooper and BHandler.)
+/// The handlers of a looper, in the order in which they were added, the looper first with the token 0. `R` is
+/// what each holds. Tokens are birth numbers and are not used again. Every chain of next handlers ends.
+/// Contracts see the list, the preferred handler and the next token. (The Be Book, The Application Kit,
+/// BLooper and BHandler.)
 #[derive(Drop)]
 pub struct HandlerSet<R> {
     pub(crate) rows: Rows<R>,
@@ -42,7 +44,8 @@ impl<R: Drop> HandlerSet<R> {
     ghost use Rattle.ak_handler.specs.Handlers.{IsHandlers};
     ghost use Rattle.ak_handler.specs.Lending.{lends_content, lends_content_if};
 
-    /// The looper of that name, without other handlers.
+    /// The looper of that name, without other handlers. It has no next handler, and none is preferred.
+    /// `NoMemory` where memory ran out.
     pub fn new(alloc: Global, name: Text, content: R) -> Result<HandlerSet<R>, NoMemory>
         ensures { IfOk result (λ s. s ≡ looper_alone name content) }
     {
@@ -61,7 +64,9 @@ impl<R: Drop> HandlerSet<R> {
     }
 
     /// The handlers of these names, next handlers and contents, with the tokens 0, 1, 2 and so on. The first
-    /// is the looper.
+    /// is the looper. They have to be handlers: 1 to 64, of which no two have one name. The looper has no
+    /// next handler, the next and the preferred ones are there, and each chain ends. `NoMemory` where memory
+    /// ran out.
     pub fn from_rows(
         alloc: Global,
         rows: Vec<(Text, Option<u64>, R)>,
@@ -78,7 +83,8 @@ impl<R: Drop> HandlerSet<R> {
         })
     }
 
-    /// How many handlers there are, the looper counted: 1 to 64. Takes no memory.
+    /// How many handlers there are, the looper counted: 1 to 64. Takes no memory. (The Be Book, The
+    /// Application Kit, BLooper: CountHandlers().)
     pub fn len(&self) -> u32
         ensures value { result ≡ length self.now.list }
         ensures is_handlers { IsHandlers self.now }
@@ -86,7 +92,8 @@ impl<R: Drop> HandlerSet<R> {
         self.rows.len() as u32
     }
 
-    /// The token of the preferred handler, if one is. Takes no memory.
+    /// The token of the preferred handler, if one is. Takes no memory. (The Be Book, The Application Kit,
+    /// BLooper: PreferredHandler().)
     pub fn preferred(&self) -> Option<u64>
         ensures { result ≡ self.now.preferred }
     {
@@ -102,6 +109,7 @@ impl<R: Drop> HandlerSet<R> {
     }
 
     /// What the handler with that token holds, to change. `None` where there is none. Takes no memory.
+    /// Nothing else of the handlers can be changed by it.
     pub fn by_token_mut(&mut self, token: u64) -> Option<&mut R>
         ensures* writes_back { sem 𝓛 (lends_content_if R.row self.entry token result) }
         ensures value { option_copied_mut result ≡ content_of self.old.list token }
@@ -119,7 +127,8 @@ impl<R: Drop> HandlerSet<R> {
         self.rows.content_mut(place)
     }
 
-    /// The name of the handler with that token. `None` where there is none. Takes no memory.
+    /// The name of the handler with that token. `None` where there is none. Takes no memory. (The Be Book,
+    /// The Application Kit, BHandler: Name().)
     pub fn name_of(&self, token: u64) -> Option<&Text>
         ensures { option_map (λ x. x.now) result ≡ option_map (λ h. h.name) (handler_of self.now.list token) }
     {
@@ -135,6 +144,7 @@ impl<R: Drop> HandlerSet<R> {
     }
 
     /// The token of the handler at that place, the looper at 0. `None` past the last one. Takes no memory.
+    /// (The Be Book, The Application Kit, BLooper: HandlerAt().)
     pub fn at(&self, index: u32) -> Option<u64>
         ensures { result ≡ token_at self.now.list index }
     {
@@ -142,7 +152,8 @@ impl<R: Drop> HandlerSet<R> {
         Some(row.token)
     }
 
-    /// The place of the handler with that token. `None` where there is none. Takes no memory.
+    /// The place of the handler with that token, the looper at 0. `None` where there is none. Takes no
+    /// memory. (The Be Book, The Application Kit, BLooper: IndexOf().)
     pub fn index_of(&self, token: u64) -> Option<u32>
         ensures { result ≡ place_of self.now.list token }
     {
@@ -150,8 +161,8 @@ impl<R: Drop> HandlerSet<R> {
         Some(place as u32)
     }
 
-    /// The token of the next handler of the one with that token. `None` where it has none, and where there
-    /// is no such handler. Takes no memory.
+    /// The token of the next handler of the one with that token. `None` where it has none, and where there is
+    /// no such handler. Takes no memory. (The Be Book, The Application Kit, BHandler: NextHandler().)
     pub fn next_of(&self, token: u64) -> Option<u64>
         ensures { result ≡ next_in self.now.list token }
     {

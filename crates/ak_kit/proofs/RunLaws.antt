@@ -13,11 +13,13 @@ use Rattle.ak_message.specs.Message.{MessageData}
 use Rattle.ak_flatten.specs.Item.{ItemData}
 use Rattle.ak_route.specs.declared.outcome.Route.{Route}
 use Rattle.ak_route.specs.declared.outcome.Route.TheVariants as route
+use Rattle.ak_action.specs.declared.answer.Want.{Want}
 use Rattle.ak_action.specs.Laws.{IsSpelled}
 use Rattle.ak_action.specs.declared.state.DeskState.{DeskState}
 use Rattle.ak_desk.specs.declared.entry.EntryRoute.{EntryRoute}
 use Rattle.ak_desk.specs.declared.entry.EntryRoute.TheVariants as entry
 use Rattle.ak_desk.specs.declared.entry.DeskEvent.TheVariants as event
+use Rattle.ak_desk.specs.Answering.{AreAnswered}
 use Rattle.ak_desk.specs.Dispatch.{Dispatch, entry_route, fitting}
 use Rattle.ak_desk.specs.Line.{LineData}
 use Rattle.ak_desk.specs.Machine.{DeskStep, DispatchStep, Dispatches, IsHistory, Replays, StampsRise}
@@ -88,6 +90,7 @@ dispatches_so s item r reply c =
       answers = [];
       memory = None;
       spelled = All-nil IsSpelled;
+      answered = subst (λ (ws : List Want). AreAnswered ws []) (sym (ap (λ (d : Dispatch). d.wants) c.dispatch_is)) tt;
       waits = ap (λ (d : Dispatch). d.waits) c.dispatch_is;
       used = ap (λ (d : Dispatch). d.answers) c.dispatch_is;
       words_are = ap (λ (d : Dispatch). d.words) c.dispatch_is;

@@ -7,9 +7,9 @@ pub fn one_script()
     ensures { law.OneScript }
 {}
 
-/// The lines of a script's steps have the positions 0, 1, 2, .., the items of the launch and of each word,
-/// and the replies that its properties give. Its text has one line for each. The machine of the desk allows
-/// each front of the list.
+/// The lines of a script's steps have the positions 0, 1, 2 and so on, and the items of the launch and of each
+/// word. The replies are those that its properties give. Its text has one line for each. The machine of the
+/// desk allows each front of the list. The items are read back as the messages that they were made of.
 pub fn steps_match()
     ensures steps { law.StepsMatch }
     ensures items { law.ItemsSay }

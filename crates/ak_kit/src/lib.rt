@@ -1,7 +1,7 @@
-//! The program as a function: reads a source, runs the script that it gives, and writes to a sink what
-//! comes of each statement. An input is run where it is the text of a script of the first form: one
-//! application with one looper, its properties, its launch, and lines that get one property each. Every
-//! ending has its cause, and what was written at each ending is said.
+//! The program as a function: reads a source, runs the script that it gives, and writes to a sink what comes of
+//! each statement. An input is run where it is the text of a script of the first form. That is one application
+//! with one looper, its properties, its launch, and lines that get one property each. Every ending has its
+//! cause, and what was written at each ending is said.
 #![tactic(auto)]
 
 mod fault;

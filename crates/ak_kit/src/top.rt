@@ -23,16 +23,23 @@ const LOOPER_THREAD: ThreadId = ThreadId(10_000);
 /// that was dispatched. Where memory ran out in the middle of a message, that is still begun on the desk.
 #[derive(Drop)]
 pub struct FirstRun {
+    /// The properties of the script, each with its value, in the order of the input.
     pub rows: Items<(Text, i32)>,
+    /// The property that each hey line gets, in the order of these lines.
     pub asked: Items<Text>,
+    /// The desk of looper 0 of team 1.
     pub desk: Desk,
 }
 
 /// How the program ends, with the run where an input was read and was a script.
 #[derive(Drop)]
 pub struct KitEnd {
+    /// The exit status, by the ending: Done 0, Usage 1, Refused 2, ReadFault 3, WriteFault 4, ThreadFault 5,
+    /// NoMemory 6.
     pub status: u8,
+    /// Why it ended. `kit` never answers ThreadFault, and refuses at line 0 alone, as NotYet.
     pub ending: Ending,
+    /// The run. Of `kit` it is there at Done and WriteFault, maybe at NoMemory, and at no other ending.
     pub run: Option<FirstRun>,
 }
 
@@ -168,8 +175,12 @@ fn run_input<K: Sink>(alloc: Global, input: &[u8], sink: &mut K) -> KitEnd
     }
 }
 
-/// The program: reads the source to its end, runs the script that the input is the text of, and writes
+/// The program: reads the source to its end, and runs the script that the input is the text of. It writes
 /// to the sink what comes of each statement, and a closing line where it ends otherwise. Waits for nobody.
+/// `words` are those behind the program's name. Usage, with nothing read, exactly where they are not `run`.
+/// ReadFault and WriteFault come only where the source's or the sink's count of faults rose. Refused is an
+/// input that is the text of no script. NoMemory may come in place of each ending but Usage. At most 1,048,577
+/// bytes are read, one more than an input may have.
 ///
 /// Of a source and a sink that tell nothing, the clauses on bytes say that there are such bytes.
 pub fn kit<S: Source, K: Sink>(

@@ -9,10 +9,13 @@ pub enum Target {
     Token(u64),
 }
 
-/// A looper, by its number in the run, and one of its handlers. After BeOS's BMessenger.
+/// A looper, by its number in the run, and one of its handlers. (The Be Book, The Application Kit,
+/// BMessenger.)
 #[derive(Clone, Copy, Debug, PartialEq, Eq)]
 pub struct Address {
+    /// Loopers count from 0 over the whole run.
     pub looper: u32,
+    /// For whom a message is there.
     pub target: Target,
 }
 

@@ -11,6 +11,7 @@ pub enum AddFault {
     FieldLimit,
     /// The value is a message that is 16 messages deep.
     TooDeep,
+    /// Memory ran out.
     NoMemory,
 }
 

@@ -3,21 +3,34 @@ ghost use Rattle.ak_message.specs.Kind.{code_of_kind};
 
 use ak_base::Code;
 
-/// What a value is.
+/// What a value is. (The Be Book, The Support Kit: type codes.)
 #[derive(Clone, Copy, Debug, PartialEq, Eq)]
 pub enum Kind {
+    /// `BOOL`: true or false.
     Bool,
+    /// `BYTE`: a whole number from -2^7 to 2^7 - 1.
     Int8,
+    /// `SHRT`: from -2^15 to 2^15 - 1.
     Int16,
+    /// `LONG`: from -2^31 to 2^31 - 1.
     Int32,
+    /// `LLNG`: from -2^63 to 2^63 - 1.
     Int64,
+    /// `UBYT`: from 0 to 2^8 - 1.
     UInt8,
+    /// `USHT`: from 0 to 2^16 - 1.
     UInt16,
+    /// `ULNG`: from 0 to 2^32 - 1.
     UInt32,
+    /// `ULLG`: from 0 to 2^64 - 1.
     UInt64,
+    /// `CSTR`: UTF-8 without a zero byte, at most 1,024 bytes.
     Text,
+    /// `MSGG`: a message.
     Message,
+    /// `MSNG`: an address.
     Messenger,
+    /// `RAWT`: at most 1,024 bytes of any kind.
     Raw,
 }
 

@@ -1,6 +1,7 @@
 //! Messages: a code and fields, each a name with one or more values of one kind, in the order of adding.
 //! A value may be a message itself, so a message is a tree, at most 16 messages deep.
-//! Contracts see a message as a record of lists. Nothing here waits, and nothing is shared.
+//! Contracts see a message as a record of lists. Nothing here waits, and nothing is shared. (The Be Book, The
+//! Application Kit, BMessage.)
 #![tactic(auto)]
 
 mod address;

@@ -19,6 +19,7 @@ pub const INPUT_LIMIT: usize = 1_048_576;
 /// The first line that has no words, and why.
 #[derive(Clone, Copy, Debug, PartialEq, Eq)]
 pub struct LineFault {
+    /// The number of the line in the input, counted from 1.
     pub line: u32,
     /// `NotUtf8` or `BadWord`.
     pub kind: RefusalKind,
@@ -27,15 +28,18 @@ pub struct LineFault {
 /// The lines of an input that say something, up to the first that has no words.
 #[derive(Debug, Drop)]
 pub struct InputLines {
+    /// Lines that say something, in the order of the input.
     pub lines: Items<Line>,
+    /// The first line without words, where one is. Nothing of the lines behind it is answered.
     pub fault: Option<LineFault>,
 }
 
 /// Why an input has no lines. They are tested in this order.
 #[derive(Clone, Copy, Debug, PartialEq, Eq)]
 pub enum LinesFault {
-    /// Over 1,048,576 bytes: the line that the first byte more stands in.
+    /// Over 1,048,576 bytes: the line that the first byte more stands in, counted from 1.
     TooLong { line: u32 },
+    /// Memory ran out.
     NoMemory,
 }
 
@@ -52,7 +56,8 @@ impl<T: Drop> From<AllocFailed<T>> for LinesFault {
 
 /// The lines of an input with their words. Lines end with LF or CR LF; a last line may end without. One that
 /// is empty, or has only blanks, or whose first other byte is `#`, is counted and left out, whatever its
-/// bytes are. Where a line has no words, those before it are answered with its fault.
+/// bytes are. Where a line has no words, those before it are answered with its fault. `TooLong` comes on the
+/// number of bytes alone, and else only `NoMemory`.
 pub fn split_lines(alloc: Global, input: &[u8]) -> Result<InputLines, LinesFault>
     ensures { SplitsInput result (reads.too_long input.now) (reads.lines_of input.now) }
 {

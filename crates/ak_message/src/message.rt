@@ -25,7 +25,8 @@ pub const VALUE_LIMIT: usize = 255;
 /// How deep messages may stand in one another.
 pub const DEPTH_LIMIT: u32 = 16;
 
-/// One value of a field. A message is boxed, since a value may hold messages in messages.
+/// One value of a field. A message is boxed, since a value may hold messages in messages. The variants are
+/// those of `Kind`.
 #[cycle(message)]
 #[derive(Drop)]
 pub enum Value {
@@ -44,7 +45,7 @@ pub enum Value {
     Raw(Raw),
 }
 
-/// The values of one name, all of one kind.
+/// The values of one name, all of one kind. A reader sees it as a `FieldRef`.
 #[cycle(message)]
 #[derive(Drop)]
 pub struct Field {
@@ -53,7 +54,10 @@ pub struct Field {
     values: Vec<Value>,
 }
 
-/// A code and fields in the order of adding.
+/// A code and fields in the order of adding, at most 64. Their names are words and differ, and each has 1 to
+/// 255 values of one kind. Messages stand at most 16 deep, the outer one counted. A message counts those of
+/// its specifiers that are popped. Contracts see its code, its fields and that count. (The Be Book, The
+/// Application Kit, BMessage.)
 #[cycle(message)]
 #[derive(Drop)]
 pub struct Message {
@@ -89,13 +93,15 @@ impl Model for Message {
 impl Value {
     ghost use Rattle.ak_message.specs.Message.{value_of_message};
 
-    /// The message as a value.
+    /// The message as a value. It is put into a box: `NoMemory` where there is none, and then the message is
+    /// dropped.
     pub fn from_message(alloc: Global, message: Message) -> Result<Value, NoMemory>
         ensures { IfOk result (λ v. value_of v ≡ value_of_message message) }
     {
         Ok(Value::Message(Box::new(alloc, message)?))
     }
 
+    /// Its kind. Takes no memory.
     pub fn kind(&self) -> Kind
         ensures { result ≡ kind_of (value_of self.now) }
     {
@@ -116,7 +122,8 @@ impl Value {
         }
     }
 
-    /// How deep messages stand in it: 0 where it is none.
+    /// How deep messages stand in it: 0 where it is none, 1 for a message without messages in it. Takes no
+    /// memory.
     pub fn depth(&self) -> u32
         ensures { result ≡ depth_of_value (value_of self.now) }
     {
@@ -187,7 +194,8 @@ impl Message {
         }
     }
 
-    /// A message of this code, without fields, and memory for so many.
+    /// A message of this code, without fields, and memory for so many. `NoMemory` where that is not to be
+    /// had.
     pub fn with_capacity(alloc: Global, what: Code, fields: usize) -> Result<Message, NoMemory>
         ensures { IfOk result (λ m. m ≡ record { what = what.0; fields = []; popped = 0 }) }
     {
@@ -196,6 +204,7 @@ impl Message {
         Ok(message)
     }
 
+    /// Its code. (The Be Book, The Application Kit, BMessage: what.)
     pub fn what(&self) -> Code
         ensures value { result.0 ≡ self.now.what }
         ensures is_message { IsMessage self.now }
@@ -218,14 +227,15 @@ impl Message {
         self.depth
     }
 
-    /// Gives it another code.
+    /// Gives it another code, and changes nothing else.
     pub fn set_what(&mut self, what: Code)
         ensures { self.new ≡ record self.old { what = what.0 } }
     {
         self.what = what;
     }
 
-    /// Pops so many of its specifiers, counted from the last.
+    /// Pops so many of its specifiers, counted from the last, and changes nothing else. It has to have so
+    /// many.
     pub fn set_popped(&mut self, n: u32)
         requires { n ≤ specifier_count self.old.fields }
         ensures { self.new ≡ record self.old { popped = n } }
@@ -233,7 +243,8 @@ impl Message {
         self.popped = n;
     }
 
-    /// Removes every field. Its code stays.
+    /// Removes every field. Its code stays. Nothing is popped then. (The Be Book, The Application Kit,
+    /// BMessage: MakeEmpty().)
     pub fn make_empty(&mut self)
         ensures { self.new ≡ record self.old { fields = []; popped = 0 } }
     {
@@ -243,7 +254,8 @@ impl Message {
     }
 
     /// Adds the value at the end of the field of that name, or in a new field at the end. The faults are
-    /// tested in the order of `AddFault`. An `Err` changes nothing, and the value is dropped.
+    /// tested in the order of `AddFault`. An `Err` changes nothing, and the value is dropped. `NoMemory`
+    /// comes last. (The Be Book, The Application Kit, BMessage: AddData().)
     pub fn add(&mut self, name: &[u8], value: Value) -> Result<(), AddFault>
         ensures refused { IfSome (add_fault self.old.fields name.now (value_of value)) (λ f. result ≡ Err f) }
         ensures only { IfNone (add_fault self.old.fields name.now (value_of value)) (IsOkUnless result AddFault.NoMemory) }
@@ -261,7 +273,7 @@ impl Message {
     }
 
     /// Adds a value that is known to have room, as `add` does. An `Err` changes nothing, and the value is
-    /// dropped.
+    /// dropped. It is for who has tested that `add` would refuse it for want of memory alone.
     pub fn add_fitting(&mut self, name: &[u8], value: Value) -> Result<(), NoMemory>
         requires { add_fault self.old.fields name.now (value_of value) ≡ None }
         ensures ok { OnOk result (self.new ≡ record self.old { fields = added self.old.fields name.now (value_of value) }) }
@@ -293,7 +305,8 @@ impl Message {
     }
 
     /// The value at that place of the field of that name and kind. The faults are tested in the order of
-    /// `FindFault`. Takes no memory.
+    /// `FindFault`. Takes no memory. Places count from 0. (The Be Book, The Application Kit, BMessage:
+    /// FindData().)
     pub fn find(&self, name: &[u8], kind: Kind, index: u32) -> Result<&Value, FindFault>
         ensures { Finds result (found_in self.now.fields name.now kind index) }
     {
@@ -318,14 +331,16 @@ impl Message {
         field.values.first()
     }
 
-    /// How many names it has, so how many fields: at most 64.
+    /// How many names it has, so how many fields: at most 64. (The Be Book, The Application Kit, BMessage:
+    /// CountNames().)
     pub fn count_names(&self) -> u32
         ensures { result ≡ length self.now.fields }
     {
         self.fields.len() as u32
     }
 
-    /// Field `i`, in the order of adding. `None` past the last one.
+    /// Field `i`, in the order of adding. `None` past the last one. Fields count from 0. Takes no memory.
+    /// (The Be Book, The Application Kit, BMessage: GetInfo().)
     pub fn field_at(&self, i: u32) -> Option<FieldRef<'_>>
         ensures { option_map field_ref_of result ≡ slice_get self.now.fields i }
     {
@@ -337,7 +352,8 @@ impl Message {
         })
     }
 
-    /// How many specifiers it has: the values of the field `specifiers` of messages, at most 255.
+    /// How many specifiers it has: the values of the field `specifiers` of messages, at most 255. 0 where
+    /// that field is of another kind. Popped ones are counted.
     pub fn specifiers(&self) -> u32
         ensures { result ≡ specifier_count self.now.fields }
     {
@@ -416,8 +432,8 @@ fn put(fields: &mut Vec<Field>, name: &[u8], value: Value) -> Result<(), NoMemor
     }
 }
 
-/// What is added without a fault is found after it, behind the values of its name, and what was found
-/// before is found where it was.
+/// What is added without a fault is found after it, behind the values of its name. What was found before is
+/// found where it was.
 pub fn added_values_are_found()
     ensures { AddedValuesAreFound }
 {}

@@ -4,12 +4,13 @@ use std::alloc::{AllocError, AllocFailed};
 /// Why no value or message was read. They are tested in this order.
 #[derive(Clone, Copy, Debug, PartialEq, Eq)]
 pub enum ParseFault {
-    /// The words are not of its form, or a number is not in its kind's range, or values of a field have
+    /// The words are not of its form, or a number is not in its kind's range. Or values of a field have
     /// different kinds, or two fields of a message have one name.
     BadValue,
-    /// A text or a raw value is longer than 1,024 bytes, a message has more than 64 fields, a field has
-    /// more than 255 values, or messages stand more than 16 deep.
+    /// A text or a raw value is longer than 1,024 bytes, or a field has more than 255 values. Or a message
+    /// has more than 64 fields, or messages stand more than 16 deep.
     Limit,
+    /// Memory ran out.
     NoMemory,
 }
 

@@ -41,10 +41,11 @@ struct Building<'a> {
     message: Option<Message>,
 }
 
-/// The value that a word writes: the letters of its kind, a colon and its payload; or for short a whole
-/// number in decimal, which is an `Int32`, `true` or `false`, or a text in quotes. A message has its text in
-/// braces, with one space or tab or more between its parts. The faults are tested in the order of
+/// The value that a word writes: the letters of its kind, a colon and its payload. For short a whole number
+/// in decimal is an `Int32`, and `true`, `false` and a text in quotes stand by themselves. A message has its
+/// text in braces, with one space or tab or more between its parts. The faults are tested in the order of
 /// `ParseFault`. Of a message that stands in 16 others, which passes the limit, the parts are not read.
+/// `NoMemory` may come in place of any answer.
 pub fn read_value(alloc: Global, word: &[u8]) -> Result<Value, ParseFault>
     ensures { GivesValue result (reads.read_value word.now) }
 {
@@ -62,7 +63,8 @@ fn kept(read: ReadValue) -> Result<Value, ParseFault>
 }
 
 /// The values of a field: one or more, all of one kind, with a comma between each two. The faults are tested
-/// in the order of `ParseFault`.
+/// in the order of `ParseFault`. A message among them is at most 15 deep. `NoMemory` may come in place of any
+/// answer.
 pub fn read_values(alloc: Global, text: &[u8]) -> Result<Vec<Value>, ParseFault>
     ensures { GivesValues result (reads.read_values text.now) }
 {
@@ -80,7 +82,8 @@ fn kept_values(read: ReadValues) -> Result<Vec<Value>, ParseFault>
 }
 
 /// The message that the words of a line write: a code, and then a field in each, which is a name, `=` and its
-/// values. The faults are tested in the order of `ParseFault`.
+/// values. The faults are tested in the order of `ParseFault`. A message in it is at most 15 deep. The
+/// message read has nothing popped. `NoMemory` may come in place of any answer.
 pub fn read_message(alloc: Global, words: &[Word]) -> Result<Message, ParseFault>
     ensures { GivesMessage result (reads.read_message (map (λ word. word.bytes) words.now)) }
 {
@@ -98,7 +101,8 @@ fn kept_message(message: Option<Message>) -> Result<Message, ParseFault>
     }
 }
 
-/// The text that a word writes, in quotes. The faults are tested in the order of `ParseFault`.
+/// The text that a word writes, in double quotes. The faults are tested in the order of `ParseFault`: `Limit`
+/// where the text has over 1,024 bytes. `NoMemory` may come in place of any answer.
 pub fn read_quoted(alloc: Global, word: &[u8]) -> Result<Text, ParseFault>
     ensures { GivesText result (reads.text_from word.now) }
 {
@@ -108,8 +112,8 @@ pub fn read_quoted(alloc: Global, word: &[u8]) -> Result<Text, ParseFault>
     }
 }
 
-/// The name of a field and what follows the first `=`. None where what stands before it is no name, or where
-/// there is none.
+/// The name of a field and what follows the first `=`. None where what stands before it is no word, or where
+/// there is no `=`. What follows is not looked at. Takes no memory.
 #[tactic(auto, unfolding(crate::specs::Reading::field_split))]
 pub fn split_field(word: &[u8]) -> Option<(&[u8], &[u8])>
     ensures { option_map pair_of result ≡ reads.field_split word.now }

@@ -3,23 +3,27 @@ ghost use Rattle.ak_message.specs.Specifier.{form_of, at_of, specifier_of};
 
 use ak_base::{NoMemory, Text};
 
-/// Which of the elements of a property is meant. Indexes count from 0, and a reverse index counts from
-/// the end, where the last element has 1. (The Be Book, Scripting.)
+/// Which of the elements of a property is meant. Indexes count from 0, and a reverse index counts from the
+/// end, where the last element has 1. (The Be Book, The Application Kit, Scripting.)
 #[derive(Debug, Drop)]
 pub enum At {
     /// The property itself.
     Direct,
+    /// The element at that index.
     Index(i32),
+    /// The element at that reverse index.
     Reverse(i32),
     /// `count` elements from `index` on.
     Range { index: i32, count: i32 },
     /// `count` elements from the reverse index on, towards the end.
     ReverseRange { index: i32, count: i32 },
+    /// The first element of that name.
     Name(Text),
+    /// The element with that id.
     Id(i32),
 }
 
-/// An `At` whose name is borrowed.
+/// An `At` whose name is borrowed. The variants mean the same.
 #[derive(Clone, Copy, Debug)]
 pub enum AtRef<'a> {
     Direct,
@@ -31,21 +35,26 @@ pub enum AtRef<'a> {
     Id(i32),
 }
 
-/// A property, and which of its elements.
+/// A property, by its name, and which of its elements. (The Be Book, The Application Kit, Scripting.)
 #[derive(Debug, Drop)]
 pub struct Specifier {
+    /// The property's name.
     pub property: Text,
+    /// Which of its elements.
     pub at: At,
 }
 
 /// A `Specifier` whose texts are borrowed.
 #[derive(Clone, Copy, Debug)]
 pub struct SpecifierRef<'a> {
+    /// The property's name.
     pub property: &'a Text,
+    /// Which of its elements.
     pub at: AtRef<'a>,
 }
 
 impl At {
+    /// The same with its name borrowed. Takes no memory.
     pub fn as_ref(&self) -> AtRef<'_>
         ensures { at_of result ≡ self.now }
     {
@@ -66,14 +75,14 @@ impl At {
         }
     }
 
-    /// Its number, from 1 to 7 in the order of the variants.
+    /// The number of its form, from 1 to 7 in the order of the variants.
     pub fn form(&self) -> u32
         ensures { result ≡ form_of self.now }
     {
         self.as_ref().form()
     }
 
-    /// An equal one.
+    /// An equal one. `NoMemory` where memory ran out. Only a name needs it.
     pub fn try_clone(&self) -> Result<At, NoMemory>
         ensures { IfOk result (λ at. at ≡ self.now) }
     {
@@ -96,7 +105,7 @@ impl At {
 }
 
 impl AtRef<'_> {
-    /// Its number, from 1 to 7 in the order of the variants.
+    /// The number of its form, from 1 to 7 in the order of the variants.
     pub fn form(&self) -> u32
         ensures { result ≡ form_of (at_of self.now) }
     {
@@ -113,6 +122,7 @@ impl AtRef<'_> {
 }
 
 impl Specifier {
+    /// The same with its texts borrowed. Takes no memory.
     pub fn as_ref(&self) -> SpecifierRef<'_>
         ensures { specifier_of result ≡ self.now }
     {
@@ -122,7 +132,7 @@ impl Specifier {
         }
     }
 
-    /// An equal one.
+    /// An equal one. `NoMemory` where memory ran out.
     pub fn try_clone(&self) -> Result<Specifier, NoMemory>
         ensures { IfOk result (λ s. s ≡ self.now) }
     {

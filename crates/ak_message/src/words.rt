@@ -15,9 +15,11 @@ use std::alloc::{AllocFailed, Global};
 /// Why a line has no words. They are tested in this order.
 #[derive(Clone, Copy, Debug, PartialEq, Eq)]
 pub enum WordsFault {
+    /// The bytes of the line are not UTF-8.
     NotUtf8,
     /// Quotes, a brace or a bracket is not closed, or an escape is none.
     BadWord,
+    /// Memory ran out.
     NoMemory,
 }
 
@@ -52,7 +54,8 @@ pub(crate) struct Begun {
 
 /// The words of a line, which is given without the LF at its end. A word ends at a space or a tab outside
 /// of quotes, braces and brackets, and a `[` there begins a new one. The faults are tested in the order of
-/// `WordsFault`.
+/// `WordsFault`. The line has to be shorter than 2^32 - 1 bytes. A line of blanks alone has no words, which
+/// is no fault.
 pub fn split_words(alloc: Global, line: &[u8]) -> Result<Items<Word>, WordsFault>
     requires { length line.now < 2 ^ 32 - 1 }
     ensures words { IfOk result (λ words. IsUtf8 line.now × reads.IsLine 1 line.now words) }

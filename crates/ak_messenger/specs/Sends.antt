@@ -54,3 +54,12 @@ write_fault (answer.Closed back) = Some fault.BadPort
 write_fault (answer.Spent back) = Some fault.Spent
 write_fault (answer.Full back) = Some fault.WouldBlock
 write_fault (answer.NoMemory back) = Some fault.NoMemory
+
+-- where the port gave the answer
+abbrev pub IfReached : {T : Type 0} → Result T SendFault → Type 0 → Type 0
+IfReached (Ok x) P = P
+IfReached (Err fault.TooLong) P = Unit {0}
+IfReached (Err fault.NoMemory) P = Unit {0}
+IfReached (Err fault.BadPort) P = P
+IfReached (Err fault.Spent) P = P
+IfReached (Err fault.WouldBlock) P = P

@@ -4,10 +4,11 @@ ghost use Rattle.ak_message.specs.Fields.{specifier_count};
 ghost use Rattle.ak_flatten.specs.Item.{spelled};
 ghost use Rattle.ak_flatten.specs.Laws.{Spells};
 ghost use Rattle.ak_flatten.specs.Spelling.{spelling};
-ghost use Rattle.ak_port.specs.PortCalls.{CanTake, IsAtPort};
-ghost use Rattle.ak_port.specs.ReplySeats.{MayCancel, MayTake};
+ghost use Rattle.ak_turn.specs.Seats.{KnowsWhole};
+ghost use Rattle.ak_port.specs.PortCalls.{by_number, CanTake, IsAtPort};
+ghost use Rattle.ak_port.specs.ReplySeats.{maker_of, MayCancel, MayTake};
 ghost use Rattle.ak_port.specs.SeatKept.{KeepsSeat};
-ghost use Rattle.ak_messenger.specs.Sends.{item_in, write_fault};
+ghost use Rattle.ak_messenger.specs.Sends.{item_in, write_fault, IfReached};
 ghost use Rattle.ak_messenger.specs.Asks.{AskTells, BecameOf, HasClosed, IsReplied, IsWritten};
 
 use crate::envelope::Envelope;
@@ -21,11 +22,14 @@ use ak_turn::{Clock, Seat};
 use std::alloc::Global;
 use std::sync::Wait;
 
-/// The reply to an ask: the slot that it came by, its flat text, and the message which that spells.
+/// The reply to an ask.
 #[derive(Drop)]
 pub struct Reply {
+    /// The slot that it came by, counted from 0.
     pub slot: u64,
+    /// Its flat text, as the slot was filled with it.
     pub flat: Bytes,
+    /// The message which the flat text spells.
     pub message: Message,
 }
 
@@ -55,6 +59,7 @@ fn write_once_free<R: Wait>(
     requires thread { seat.old.thread ≡ clock.old.thread.0 }
     ensures written { IsWritten item clock.old clock.new seat.old seat.new result }
     ensures port { IsAtPort seat.new }
+    ensures known { KnowsWhole by_number seat.new }
     ensures seat { KeepsSeat seat.old seat.new }
     ensures taking { (thread : ThreadId) (room : ℕ) → CanTake thread room seat.old → CanTake thread room seat.new }
     ensures clock { clock.new.thread ≡ clock.old.thread }
@@ -67,6 +72,7 @@ fn give_up<R: Wait>(h: &mut Hands, rt: &R, slot: u64, fault: SendFault) -> Resul
     requires { MayCancel h.old.book_seat.thread slot h.old.book_seat.front }
     ensures closed { HasClosed slot h.old.clock h.new.clock h.old.book_seat h.new.book_seat }
     ensures fault { result ≡ Err fault }
+    ensures book_known { KnowsWhole maker_of h.new.book_seat }
     ensures book { h.new.book ≡ h.old.book }
     ensures book_seat { KeepsSeat h.old.book_seat h.new.book_seat }
     ensures clock { h.new.clock.thread ≡ h.old.clock.thread }
@@ -81,6 +87,7 @@ fn await_reply<R: Wait>(alloc: Global, h: &mut Hands, rt: &R, slot: u64) -> Resu
     ensures replied { IsReplied slot h.old.clock h.new.clock h.old.book_seat h.new.book_seat result }
     ensures message { IfOk result (λ reply. reply.message ≡ spelled reply.flat) }
     ensures spells { IfOk result (λ reply. Spells reply.flat reply.message) }
+    ensures book_known { KnowsWhole maker_of h.new.book_seat }
     ensures book { h.new.book ≡ h.old.book }
     ensures book_seat { KeepsSeat h.old.book_seat h.new.book_seat }
     ensures clock { h.new.clock.thread ≡ h.old.clock.thread }
@@ -116,6 +123,8 @@ fn converse<R: Wait>(
     ensures message { IfOk result (λ reply. reply.message ≡ spelled reply.flat) }
     ensures spells { IfOk result (λ reply. Spells reply.flat reply.message) }
     ensures port { IsAtPort seat.new }
+    ensures known { KnowsWhole by_number seat.new }
+    ensures book_known { KnowsWhole maker_of h.new.book_seat }
     ensures seat { KeepsSeat seat.old seat.new }
     ensures taking { (thread : ThreadId) (room : ℕ) → CanTake thread room seat.old → CanTake thread room seat.new }
     ensures book { h.new.book ≡ h.old.book }
@@ -146,6 +155,9 @@ fn ask_by<R: Wait>(
     ensures message { IfOk result (λ reply. reply.message ≡ spelled reply.flat) }
     ensures spells { IfOk result (λ reply. Spells reply.flat reply.message) }
     ensures port { IsAtPort seat.old → IsAtPort seat.new }
+    ensures known { IfReached result (KnowsWhole by_number seat.new) }
+    ensures knows_still { KnowsWhole by_number seat.old → KnowsWhole by_number seat.new }
+    ensures book_known { KnowsWhole maker_of h.new.book_seat }
     ensures seat { KeepsSeat seat.old seat.new }
     ensures taking { (thread : ThreadId) (room : ℕ) → CanTake thread room seat.old → CanTake thread room seat.new }
     ensures book { h.new.book ≡ h.old.book }
@@ -156,8 +168,14 @@ fn ask_by<R: Wait>(
     converse(alloc, h, rt, port, seat, item, slot)
 }
 
-/// Writes the message with its envelope to the port, waits for the reply, and answers it. Where the port refuses
-/// the message, no reply is awaited. (The Be Book, BMessenger: a synchronous send.)
+/// Writes the message with its envelope to the port, waits for the reply, and answers it. It waits for its
+/// turns, for room at the port, and for the reply. `TooLong`, exactly where the flat text has over 4,096 bytes,
+/// comes before any step. Then a slot is opened, and the item written with the duty to fill it. Where the item
+/// is not written, for `BadPort`, `Spent` or want of memory, the slot is cancelled, unless it was filled by
+/// then. `WouldBlock` is not answered. After `NoMemory` the entries so far stay; the reply is lost where memory
+/// ran out for its message. The seat is one at this port, without a turn, and of the thread of these hands. The
+/// envelope has no address for a reply, and pops no more specifiers than there are. (The Be Book, The
+/// Application Kit, BMessenger: SendMessage(), with a reply that is waited for.)
 pub fn ask<R: Wait>(
     alloc: Global,
     h: &mut Hands,
@@ -177,6 +195,10 @@ pub fn ask<R: Wait>(
     ensures message { IfOk result (λ reply. reply.message ≡ spelled reply.flat) }
     ensures spells { IfOk result (λ reply. Spells reply.flat reply.message) }
     ensures port { IsAtPort seat.old → IsAtPort seat.new }
+    ensures known { IfReached result (KnowsWhole by_number seat.new) }
+    ensures knows_still { KnowsWhole by_number seat.old → KnowsWhole by_number seat.new }
+    ensures book_known { IfReached result (KnowsWhole maker_of h.new.book_seat) }
+    ensures book_knows_still { KnowsWhole maker_of h.old.book_seat → KnowsWhole maker_of h.new.book_seat }
     ensures seat { KeepsSeat seat.old seat.new }
     ensures taking { (thread : ThreadId) (room : ℕ) → CanTake thread room seat.old → CanTake thread room seat.new }
     ensures book { h.new.book ≡ h.old.book }

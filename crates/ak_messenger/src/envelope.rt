@@ -6,14 +6,19 @@ use ak_flatten::{Duty, FlattenFault, Item};
 use ak_message::{Address, Message, Target};
 use std::alloc::Global;
 
-/// What stands on a message when it is sent: for which handler it is, the sender's team, whether a user dropped
-/// it, how many of its specifiers are popped, and where a reply is posted, if anywhere.
+/// What stands on a message when it is sent. A message's own count of popped specifiers is not sent: the
+/// envelope's is.
 #[derive(Clone, Copy, Debug, PartialEq, Eq)]
 pub struct Envelope {
+    /// For which handler of the looper it is.
     pub target: Target,
+    /// The sender's team.
     pub team: u32,
+    /// Whether a user dropped it.
     pub dropped: bool,
+    /// How many of its specifiers are popped.
     pub popped: u32,
+    /// Where a reply is posted, if anywhere; nowhere for an ask.
     pub back: Option<Address>,
 }
 

@@ -3,17 +3,19 @@ ghost use Rattle.std.specs.Prelude.{◌≡◌};
 use ak_base::NoMemory;
 use ak_flatten::{FlattenFault, UnflattenFault};
 
-/// Why a message was not sent. They are tested in this order.
+/// Why a message was not sent, or has no reply. `TooLong` is tested first, then what the port refuses, in this
+/// order. `NoMemory` may come at any step but in place of `TooLong`.
 #[derive(Clone, Copy, Debug, PartialEq, Eq)]
 pub enum SendFault {
     /// Its flat text has over 4,096 bytes.
     TooLong,
+    /// Memory ran out.
     NoMemory,
     /// The port is shut.
     BadPort,
     /// The port has accepted as many items as it ever does.
     Spent,
-    /// The port has no room, and the sender does not wait.
+    /// The port has no room, and the sender does not wait. An ask never answers it.
     WouldBlock,
 }
 

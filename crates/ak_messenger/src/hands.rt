@@ -5,11 +5,15 @@ use ak_port::ReplyBook;
 use ak_turn::{Clock, Seat, TurnLock};
 use std::sync::Arc;
 
-/// What one thread holds to send and to ask: its clock, and its seat at the run's reply book.
+/// What one thread holds to send and to ask. Between calls the seat is one at that book, of the clock's thread,
+/// and holds no turn.
 #[derive(Drop)]
 pub struct Hands {
+    /// The thread's clock.
     pub clock: Clock,
+    /// The run's reply book, shared.
     pub book: Arc<TurnLock<ReplyBook>>,
+    /// The thread's seat at the book.
     pub book_seat: Seat<ReplyBook>,
     ghost of: { book_seat.lock ≡ arc_value book },
     ghost idle: { book_seat.turn ≡ false },

@@ -1,5 +1,5 @@
 //! Messages sent to ports by what a thread holds. A post is one entry at the port. An ask opens a slot, writes
-//! with the duty to fill it, and waits for the reply; where the write is refused it cancels the slot. Each
+//! with the duty to fill it, and waits for the reply. Where the write is refused it cancels the slot. Each
 //! entry has the envelope and the message's flat text. Calls may wait for a turn, for room and for a reply.
 #![tactic(auto)]
 

@@ -1,8 +1,7 @@
-//! The outside: where the program's bytes come from and where they go. A `Source` and a `Sink` count
-//! their faults, and a fault is answered only where that count rose. What one has left or has written
-//! is told by those in memory, and by those of the system as far as what is below them tells it; clauses
-//! on content hold where it is told.
-//! `read_all` and `write_all` are the ways through, with a limit for what comes in.
+//! The outside: where the program's bytes come from and where they go. A `Source` and a `Sink` count their
+//! faults, and a fault is answered only where that count rose. Those in memory tell what they have left or have
+//! written, and those of the system as far as what is below them tells it. Clauses on content hold where it is
+//! told. `read_all` and `write_all` are the ways through, with a limit for what comes in.
 #![tactic(auto)]
 
 mod call_log;

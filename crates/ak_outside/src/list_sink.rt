@@ -27,7 +27,8 @@ impl Model for ListSink {
 }
 
 impl ListSink {
-    /// Nothing was written and no call was made yet. Takes no memory.
+    /// A sink of which the calls of these numbers fail. Nothing was written and no call was made yet. Takes no
+    /// memory.
     pub fn new(alloc: Global, fails: Vec<u64>) -> ListSink
         ensures written { result.written ≡ [] }
         ensures calls { result.calls ≡ no_calls fails.items }
@@ -38,7 +39,7 @@ impl ListSink {
         }
     }
 
-    /// All that was written.
+    /// All that was written, in order. Takes no memory.
     pub fn written(&self) -> &[u8]
         ensures { result.now ≡ self.now.written }
     {

@@ -14,6 +14,7 @@ use std::fmt;
 pub enum ReadFault {
     /// A read failed, and the source counted a fault.
     Failed,
+    /// Memory ran out for the bytes.
     NoMemory,
 }
 
@@ -47,8 +48,9 @@ impl From<NoMemory> for ReadFault {
 // The most that one read is asked for, in bytes.
 const PIECE: usize = 4096;
 
-/// Reads until the source ends, or until `limit` + 1 bytes were read, so that an answer longer than
-/// `limit` says that there was too much. Never reads more than that. A read that fails ends it.
+/// Reads until the source ends, or until `limit` + 1 bytes were read. So an answer longer than `limit` says
+/// that there was too much. Never reads more than that. A read that fails ends it, as `Failed`; `NoMemory`
+/// where memory ran out. After either, what was read by then is lost.
 pub fn read_all<S: Source>(alloc: Global, source: &mut S, limit: u32) -> Result<Bytes, ReadFault>
     ensures read { IfOk result (λ bytes. Consumes (S.left source.old) (S.left source.new) bytes) }
     ensures bound { IfOk result (λ bytes. length bytes ≤ limit + 1) }

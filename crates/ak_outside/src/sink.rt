@@ -19,7 +19,9 @@ pub trait Sink {
     /// How many calls failed so far.
     ghost faults: { Self → ℕ };
 
-    /// Writes from the front of a piece that is not empty, and may take less than all of it.
+    /// Writes from the front of a piece that is not empty, and may take less than all of it. A write that fails
+    /// takes nothing, and raises the count of faults; any other leaves the count. A count at the end of a `u64`
+    /// need not rise.
     fn write(&mut self, piece: &[u8]) -> SinkWrite
         requires { 0 < length piece.now }
         ensures bytes { Writes (written self.old) (written self.new) piece.now result }

@@ -19,7 +19,9 @@ pub trait Source {
     /// How many calls failed so far.
     ghost faults: { Self → ℕ };
 
-    /// Reads into a buffer that has room. A buffer that is not filled is no sign of the end.
+    /// Reads the next bytes to the front of a buffer that has room. A buffer that is not filled is no sign of
+    /// the end. A read that fails takes none, and raises the count of faults; any other leaves the count. A
+    /// count at the end of a `u64` need not rise.
     fn read(&mut self, buf: &mut [u8]) -> SourceRead
         requires { 0 < length buf.old }
         ensures bytes { Reads (left self.old) (left self.new) buf.new result }

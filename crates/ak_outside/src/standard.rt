@@ -26,6 +26,7 @@ impl<R> Model for StdSource<R> {
 }
 
 impl<R> StdSource<R> {
+    /// The reader as a source, of which no call has failed yet. Takes no memory.
     pub fn new(reader: R) -> StdSource<R>
         ensures { result ≡ not_failed reader }
     {
@@ -73,6 +74,7 @@ impl<W> Model for StdSink<W> {
 }
 
 impl<W> StdSink<W> {
+    /// The writer as a sink, of which no call has failed yet. Takes no memory.
     pub fn new(writer: W) -> StdSink<W>
         ensures { result ≡ not_failed writer }
     {

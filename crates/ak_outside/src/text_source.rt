@@ -29,7 +29,8 @@ impl Model for TextSource {
 }
 
 impl TextSource {
-    /// No call was made yet. Takes no memory.
+    /// A source of these bytes, of which the calls of these numbers fail. No call was made yet. Takes no
+    /// memory.
     pub fn new(bytes: Bytes, fails: Vec<u64>) -> TextSource
         ensures left { result.left ≡ bytes }
         ensures calls { result.calls ≡ no_calls fails.items }

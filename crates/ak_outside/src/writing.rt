@@ -23,8 +23,9 @@ impl fmt::Display for WriteFailed {
 
 impl Error for WriteFailed {}
 
-/// Writes the whole piece, which may be empty: one write after the other, until all is taken. A write
-/// that fails ends it.
+/// Writes the whole piece, which may be empty: one write after the other, until all is taken. A write that
+/// fails ends it, as `WriteFailed`; a front of the piece, less than all of it, was written then. Takes no
+/// memory of its own.
 pub fn write_all<K: Sink>(sink: &mut K, piece: &[u8]) -> Result<(), WriteFailed>
     ensures ok { OnOk result (Appends (K.written sink.old) (K.written sink.new) piece.now) }
 

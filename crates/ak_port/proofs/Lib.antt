@@ -1,3 +1,4 @@
+pub mod Stamps
 pub mod PortReplays
 pub mod PortLimits
 pub mod PortItems
@@ -5,6 +6,7 @@ pub mod PortSound
 pub mod PortCalled
 pub mod PortTaking
 pub mod PortTaken
+pub mod PortRested
 pub mod PortWriting
 pub mod ReplyHistory
 pub mod ReplySlots

@@ -1,9 +1,12 @@
 -- Lists of entries that are replayed: in two parts, and with one entry more.
-use Rattle.std.proofs.Common.{◌≡◌, ℕ, true, List, [], ◌∷◌, ◌++◌, refl, sym, ap, ◌∙◌, subst}
+use Rattle.std.proofs.Common.{◌≡◌, ℕ, ◌<◌, true, List, [], ◌∷◌, ◌++◌, refl, ap, ◌∙◌}
 use Rattle.ak_port.specs.declared.port_entry.PortEntry.{PortEntry}
 use Rattle.ak_port.specs.declared.port_entry.PortEvent.{PortEvent}
 use Rattle.ak_port.specs.declared.port_entry.PortEvent.TheVariants as event
-use Rattle.ak_port.specs.PortMachine.{PortState, PortStep, AreSteps, IsPort, replayed, state_after, state_of, unmade, IsAllowed, follows_making}
+use Rattle.ak_turn.specs.Lines.{last_stamp_of}
+use Rattle.ak_port.specs.PortCalls.{stamp_number}
+use Rattle.ak_port.specs.PortMachine.{PortState, PortStep, AreSteps, IsPort, replayed, state_after, state_of, unmade}
+use Rattle.ak_port.proofs.Stamps.{rise_push}
 
 pub replayed-append : (s : PortState) (xs ys : List PortEntry) → replayed s (xs ++ ys) ≡ replayed (replayed s xs) ys
 replayed-append s [] ys = refl
@@ -37,16 +40,10 @@ made_stays s (event.Took k) made = made
 made_stays s (event.Rest k) made = made
 made_stays s event.Shut made = made
 
--- a legal entry more
-pub IsPort-push : (taker : ℕ) (xs : List PortEntry) (x : PortEntry) → IsPort taker xs → PortStep taker (state_of xs) x → IsPort taker (xs ++ x ∷ [])
-IsPort-push taker xs x port step = record {
+-- a legal entry more, with a stamp past the last one
+pub IsPort-push : (taker : ℕ) (xs : List PortEntry) (x : PortEntry) → IsPort taker xs → PortStep taker (state_of xs) x → last_stamp_of stamp_number xs < x.stamp → IsPort taker (xs ++ x ∷ [])
+IsPort-push taker xs x port step past = record {
   steps = AreSteps-append taker unmade xs (x ∷ []) port.steps (step, tt);
+  stamps = rise_push stamp_number xs x port.stamps past;
   made = ap (λ s. s.made) (state_of-push xs x) ∙ made_stays (state_of xs) x.event port.made;
-}
-
--- a new port
-pub IsPort-made : (taker : ℕ) (x : PortEntry) (capacity life : ℕ) → x.event ≡ event.Made capacity life → IsPort taker (x ∷ [])
-IsPort-made taker x capacity life is = record {
-  steps = (record { after_making = ap follows_making (sym is); allowed = subst (IsAllowed taker x.by.0 unmade) (sym is) tt }, tt);
-  made = ap (λ e. (state_after unmade e).made) is;
 }

@@ -11,6 +11,8 @@ use Rattle.ak_port.specs.declared.port_entry.PortEntry.{PortEntry}
 use Rattle.ak_port.specs.declared.port_entry.PortEvent.TheVariants as event
 use Rattle.ak_port.specs.declared.port_entry.Refusal.{Refusal}
 use Rattle.ak_port.specs.declared.port_entry.Refusal.TheVariants as refusal
+use Rattle.ak_turn.specs.Lines.{last_stamp_of}
+use Rattle.ak_port.specs.PortCalls.{stamp_number}
 use Rattle.ak_port.specs.PortInside.{IsSound, Tells, reserved, one_unless}
 use Rattle.ak_port.specs.PortLaws.{IsWithin}
 use Rattle.ak_port.specs.PortMachine.{PortState, PortStep, IsPort, IsAllowed, state_after, state_of, pending_count, numbered, last_taken, refusal_of, refused_event, follows_making}
@@ -64,10 +66,10 @@ room_left b sound none =
     (omega arith, omega arith)
 
 -- ---- one entry more
-pub sound_next : (b b' : Inside) (x : PortEntry) → IsSound b → b'.taker ≡ b.taker → b'.capacity ≡ b.capacity → b'.life ≡ b.life → b'.entries.items ≡ b.entries.items ++ x ∷ [] → PortStep b.taker.0 (state_of b.entries.items) x
+pub sound_next : (b b' : Inside) (x : PortEntry) → IsSound b → b'.taker ≡ b.taker → b'.capacity ≡ b.capacity → b'.life ≡ b.life → b'.entries.items ≡ b.entries.items ++ x ∷ [] → last_stamp_of stamp_number b.entries.items < x.stamp → PortStep b.taker.0 (state_of b.entries.items) x
     → Tells (state_after (state_of b.entries.items) x.event) b' → vec_len b'.entries + reserved b' ≤ vec_capacity b'.entries → b'.capacity ≤ deque_capacity b'.pending → IsSound b'
-sound_next b b' x sound taker capacity life items step tells room ring = record {
-  port = subst (λ t. IsPort t b'.entries.items) (ap (λ t. t.0) (sym taker)) (subst (IsPort b.taker.0) (sym items) (IsPort-push b.taker.0 b.entries.items x sound.port step));
+sound_next b b' x sound taker capacity life items past step tells room ring = record {
+  port = subst (λ t. IsPort t b'.entries.items) (ap (λ t. t.0) (sym taker)) (subst (IsPort b.taker.0) (sym items) (IsPort-push b.taker.0 b.entries.items x sound.port step past));
   tells = subst (λ s. Tells s b') (sym (state_of-push b.entries.items x) ∙ ap state_of (sym items)) tells;
   within = (subst (λ n. n ≤ 1000) (sym capacity) sound.within.0, subst (λ n. n ≤ 8192) (sym life) sound.within.1);
   entries = room;
@@ -78,12 +80,12 @@ step_of : (taker : ℕ) (xs : List PortEntry) (x : PortEntry) → IsPort taker x
 step_of taker xs x port follows allowed = record { after_making = port.made ∙ sym follows; allowed = allowed }
 
 -- shut
-pub shut_sound : (b b' : Inside) (x : PortEntry) → IsSound b → b.shut ≡ false → x.event ≡ event.Shut → b'.taker ≡ b.taker → b'.capacity ≡ b.capacity → b'.life ≡ b.life → b'.entries.items ≡ b.entries.items ++ x ∷ []
+pub shut_sound : (b b' : Inside) (x : PortEntry) → IsSound b → b.shut ≡ false → x.event ≡ event.Shut → b'.taker ≡ b.taker → b'.capacity ≡ b.capacity → b'.life ≡ b.life → b'.entries.items ≡ b.entries.items ++ x ∷ [] → last_stamp_of stamp_number b.entries.items < x.stamp
     → vec_len b'.entries ≡ vec_len b.entries + 1 → vec_capacity b'.entries ≡ vec_capacity b.entries → b'.pending ≡ b.pending → b'.written ≡ b.written → b'.shut ≡ true → b'.rested ≡ b.rested → IsSound b'
-shut_sound b b' x sound shut is taker capacity life items len held pending written shuts rested =
+shut_sound b b' x sound shut is taker capacity life items past len held pending written shuts rested =
     let s = state_of b.entries.items in
     let was = sound.tells in
-    sound_next b b' x sound taker capacity life items
+    sound_next b b' x sound taker capacity life items past
     (step_of b.taker.0 b.entries.items x sound.port (ap follows_making is) (subst (IsAllowed b.taker.0 x.by.0 s) (sym is) (was.shut ∙ shut)))
     (subst (λ e. Tells (state_after s e) b') (sym is) (record {
       capacity = was.capacity ∙ sym capacity;
@@ -102,15 +104,15 @@ shut_sound b b' x sound shut is taker capacity life items len held pending writt
     (subst (λ n. n ≤ deque_capacity b'.pending) (sym capacity) (subst (λ q. b.capacity ≤ deque_capacity q) (sym pending) sound.ring))
 
 -- written
-pub written_sound : (b b' : Inside) (x : PortEntry) (item : ItemData) → IsSound b → refusal_of (state_of b.entries.items) ≡ None → x.event ≡ event.Written b.written item → b'.taker ≡ b.taker → b'.capacity ≡ b.capacity → b'.life ≡ b.life → (before : List PortEntry) → before ≡ b.entries.items → b'.entries.items ≡ before ++ x ∷ []
+pub written_sound : (b b' : Inside) (x : PortEntry) (item : ItemData) → IsSound b → refusal_of (state_of b.entries.items) ≡ None → x.event ≡ event.Written b.written item → b'.taker ≡ b.taker → b'.capacity ≡ b.capacity → b'.life ≡ b.life → (before : List PortEntry) → before ≡ b.entries.items → b'.entries.items ≡ before ++ x ∷ [] → last_stamp_of stamp_number before < x.stamp
     → vec_len b'.entries + reserved b' ≤ vec_capacity b'.entries → b'.pending.items ≡ b.pending.items ++ item ∷ [] → deque_len b'.pending ≡ deque_len b.pending + 1 → deque_capacity b'.pending ≡ deque_capacity b.pending
     → b'.written ≡ b.written + 1 → b'.shut ≡ b.shut → b'.rested ≡ b.rested → IsSound b'
-written_sound b b' x item sound none is taker capacity life before kept items room pending pending_len ring written shut rested =
+written_sound b b' x item sound none is taker capacity life before kept items past room pending pending_len ring written shut rested =
     let s = state_of b.entries.items in
     let was = sound.tells in
     let within = within_limits b.taker.0 b.entries.items sound.port in
     let is' : x.event ≡ event.Written (length s.written) item = is ∙ ap (λ n. event.Written n item) (sym was.count) in
-    sound_next b b' x sound taker capacity life (items ∙ ap (λ l. l ++ x ∷ []) kept)
+    sound_next b b' x sound taker capacity life (items ∙ ap (λ l. l ++ x ∷ []) kept) (subst (λ l. last_stamp_of stamp_number l < x.stamp) kept past)
     (step_of b.taker.0 b.entries.items x sound.port (ap follows_making is) (subst (IsAllowed b.taker.0 x.by.0 s) (sym is') (open_allows b.taker.0 x.by.0 s item within none)))
     (subst (λ e. Tells (state_after s e) b') (sym is) (record {
       capacity = was.capacity ∙ sym capacity;
@@ -125,13 +127,13 @@ written_sound b b' x item sound none is taker capacity life before kept items ro
     (subst (λ n. n ≤ deque_capacity b'.pending) (sym capacity) (subst (λ n. b.capacity ≤ n) (sym ring) sound.ring))
 
 -- refused
-pub refused_sound : (b b' : Inside) (x : PortEntry) (why : Refusal) → IsSound b → refusal_of (state_of b.entries.items) ≡ Some why → x.event ≡ refused_event why → b'.taker ≡ b.taker → b'.capacity ≡ b.capacity → b'.life ≡ b.life → (before : List PortEntry) → before ≡ b.entries.items → b'.entries.items ≡ before ++ x ∷ []
+pub refused_sound : (b b' : Inside) (x : PortEntry) (why : Refusal) → IsSound b → refusal_of (state_of b.entries.items) ≡ Some why → x.event ≡ refused_event why → b'.taker ≡ b.taker → b'.capacity ≡ b.capacity → b'.life ≡ b.life → (before : List PortEntry) → before ≡ b.entries.items → b'.entries.items ≡ before ++ x ∷ [] → last_stamp_of stamp_number before < x.stamp
     → vec_len b'.entries + reserved b' ≤ vec_capacity b'.entries → b'.pending ≡ b.pending → b'.written ≡ b.written → b'.shut ≡ b.shut → b'.rested ≡ b.rested → IsSound b'
-refused_sound b b' x why sound some is taker capacity life before kept items room pending written shut rested =
+refused_sound b b' x why sound some is taker capacity life before kept items past room pending written shut rested =
     let s = state_of b.entries.items in
     let was = sound.tells in
     let within = within_limits b.taker.0 b.entries.items sound.port in
-    sound_next b b' x sound taker capacity life (items ∙ ap (λ l. l ++ x ∷ []) kept)
+    sound_next b b' x sound taker capacity life (items ∙ ap (λ l. l ++ x ∷ []) kept) (subst (λ l. last_stamp_of stamp_number l < x.stamp) kept past)
     (step_of b.taker.0 b.entries.items x sound.port (ap follows_making is ∙ refused_follows why) (subst (IsAllowed b.taker.0 x.by.0 s) (sym is) (refused_allows b.taker.0 x.by.0 s why within some)))
     (subst (λ t. Tells t b') (sym (ap (state_after s) is ∙ refused_stays s why)) (record {
       capacity = was.capacity ∙ sym capacity;
@@ -146,15 +148,15 @@ refused_sound b b' x why sound some is taker capacity life before kept items roo
     (subst (λ n. n ≤ deque_capacity b'.pending) (sym capacity) (subst (λ q. b.capacity ≤ deque_capacity q) (sym pending) sound.ring))
 
 -- k items were taken
-pub took_sound : (b b' : Inside) (x : PortEntry) (k : ℕ) → IsSound b → x.by.0 ≡ b.taker.0 → b.shut ≡ false → 1 ≤ k → k ≤ deque_len b.pending → x.event ≡ event.Took k → b'.taker ≡ b.taker → b'.capacity ≡ b.capacity → b'.life ≡ b.life → b'.entries.items ≡ b.entries.items ++ x ∷ []
+pub took_sound : (b b' : Inside) (x : PortEntry) (k : ℕ) → IsSound b → x.by.0 ≡ b.taker.0 → b.shut ≡ false → 1 ≤ k → k ≤ deque_len b.pending → x.event ≡ event.Took k → b'.taker ≡ b.taker → b'.capacity ≡ b.capacity → b'.life ≡ b.life → b'.entries.items ≡ b.entries.items ++ x ∷ [] → last_stamp_of stamp_number b.entries.items < x.stamp
     → vec_len b'.entries ≡ vec_len b.entries + 1 → vec_capacity b'.entries ≡ vec_capacity b.entries → b'.pending.items ≡ drop k b.pending.items → deque_len b'.pending + k ≡ deque_len b.pending → deque_capacity b'.pending ≡ deque_capacity b.pending
     → b'.written ≡ b.written → b'.shut ≡ b.shut → b'.rested ≡ b.rested → IsSound b'
-took_sound b b' x k sound by opened some most is taker capacity life items len held pending pending_len ring written shut rested =
+took_sound b b' x k sound by opened some most is taker capacity life items past len held pending pending_len ring written shut rested =
     let s = state_of b.entries.items in
     let was = sound.tells in
     let within = within_limits b.taker.0 b.entries.items sound.port in
     let few : k ≤ pending_count s = let long = was.pending_len in let count = was.count in omega arith in
-    sound_next b b' x sound taker capacity life items
+    sound_next b b' x sound taker capacity life items past
     (step_of b.taker.0 b.entries.items x sound.port (ap follows_making is) (subst (IsAllowed b.taker.0 x.by.0 s) (sym is) (by, was.shut ∙ opened, some, few)))
     (subst (λ e. Tells (state_after s e) b') (sym is) (record {
       capacity = was.capacity ∙ sym capacity;
@@ -171,16 +173,16 @@ took_sound b b' x k sound by opened some most is taker capacity life items len h
     (subst (λ n. n ≤ deque_capacity b'.pending) (sym capacity) (subst (λ n. b.capacity ≤ n) (sym ring) sound.ring))
 
 -- the rest was taken
-pub rest_sound : (b b' : Inside) (x : PortEntry) (k : ℕ) → IsSound b → x.by.0 ≡ b.taker.0 → b.shut ≡ true → b.rested ≡ false → k ≡ deque_len b.pending → x.event ≡ event.Rest k → b'.taker ≡ b.taker → b'.capacity ≡ b.capacity → b'.life ≡ b.life → b'.entries.items ≡ b.entries.items ++ x ∷ []
+pub rest_sound : (b b' : Inside) (x : PortEntry) (k : ℕ) → IsSound b → x.by.0 ≡ b.taker.0 → b.shut ≡ true → b.rested ≡ false → k ≡ deque_len b.pending → x.event ≡ event.Rest k → b'.taker ≡ b.taker → b'.capacity ≡ b.capacity → b'.life ≡ b.life → b'.entries.items ≡ b.entries.items ++ x ∷ [] → last_stamp_of stamp_number b.entries.items < x.stamp
     → vec_len b'.entries ≡ vec_len b.entries + 1 → vec_capacity b'.entries ≡ vec_capacity b.entries → b'.pending.items ≡ drop k b.pending.items → deque_len b'.pending + k ≡ deque_len b.pending → deque_capacity b'.pending ≡ deque_capacity b.pending
     → b'.written ≡ b.written → b'.shut ≡ b.shut → b'.rested ≡ true → IsSound b'
-rest_sound b b' x k sound by closed unrested all is taker capacity life items len held pending pending_len ring written shut rested =
+rest_sound b b' x k sound by closed unrested all is taker capacity life items past len held pending pending_len ring written shut rested =
     let s = state_of b.entries.items in
     let was = sound.tells in
     let within = within_limits b.taker.0 b.entries.items sound.port in
     let whole : k ≡ pending_count s = let long = was.pending_len in let count = was.count in omega arith in
     let to_end : s.taken + k ≡ length s.written = let long = was.pending_len in let count = was.count in omega arith in
-    sound_next b b' x sound taker capacity life items
+    sound_next b b' x sound taker capacity life items past
     (step_of b.taker.0 b.entries.items x sound.port (ap follows_making is) (subst (IsAllowed b.taker.0 x.by.0 s) (sym is) (by, was.shut ∙ closed, was.rested ∙ unrested, whole)))
     (subst (λ e. Tells (state_after s e) b') (sym is) (record {
       capacity = was.capacity ∙ sym capacity;

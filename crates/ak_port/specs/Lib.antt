@@ -9,3 +9,5 @@ pub mod ReplyKept
 pub mod ReplyLaws
 pub mod ReplySeats
 pub mod SeatKept
+pub mod Stamps
+pub mod TakerLaws

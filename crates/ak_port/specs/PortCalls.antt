@@ -3,7 +3,7 @@ use Rattle.std.specs.Prelude.{◌≡◌, ℕ, ◌+◌, ◌<◌, ◌≤◌, Bool,
 use Rattle.ak_base.specs.declared.thread.ThreadId.{ThreadId}
 use Rattle.ak_turn.specs.declared.clock.Clock.{Clock}
 use Rattle.ak_turn.specs.Lines.{last_stamp_of}
-use Rattle.ak_turn.specs.Seats.{SeatData, HasSeen, HasCalled}
+use Rattle.ak_turn.specs.Seats.{SeatData, HasSeen, HasCalled, at_leisure, entered_by}
 use Rattle.ak_flatten.specs.Item.{ItemData}
 use Rattle.ak_port.specs.declared.port_entry.PortEntry.{PortEntry}
 use Rattle.ak_port.specs.declared.port_entry.PortEvent.{PortEvent}
@@ -58,6 +58,11 @@ abbrev pub HasAnswered : Option PortEvent → Clock → Clock → PortSeat → P
 HasAnswered (Some event) clock clock' seat seat' = HasEntered clock clock' event seat seat'
 HasAnswered None clock clock' seat seat' = HasLooked clock clock' seat seat'
 
+-- in the turn that the seat had its thread made one entry with that event, or none; the turn was passed on
+abbrev pub HasAnsweredAtTurn : Option PortEvent → Clock → Clock → PortSeat → PortSeat → Type 0
+HasAnsweredAtTurn (Some event) clock clock' seat seat' = (seat' ≡ at_leisure (entered_by seat (entry_now clock seat.front event))) × (clock' ≡ clock_after clock seat.front)
+HasAnsweredAtTurn None clock clock' seat seat' = (seat' ≡ at_leisure seat) × (clock' ≡ clock)
+
 -- the seat's front is the history of a port with the seat's taker
 abbrev pub IsAtPort : PortSeat → Type 0
 IsAtPort seat = IsSomeAnd seat.opening (λ (taker : ThreadId). IsPort taker.0 seat.front)
@@ -97,6 +102,14 @@ refused_answer refusal.Closed item = written.Closed item
 refused_answer refusal.Spent item = written.Spent item
 refused_answer refusal.Full item = written.Full item
 
+-- where a write was refused, why
+abbrev pub IfRefused : WriteAnswer → (Refusal → Type 0) → Type 0
+IfRefused (written.Wrote p) P = Unit {0}
+IfRefused (written.Closed back) P = P refusal.Closed
+IfRefused (written.Spent back) P = P refusal.Spent
+IfRefused (written.Full back) P = P refusal.Full
+IfRefused (written.NoMemory back) P = Unit {0}
+
 abbrev pub IsFull : WriteAnswer → Bool
 IsFull (written.Full back) = true
 IsFull _ = false
@@ -112,6 +125,10 @@ take_count (taken.Rest k) = k
 abbrev pub IfTook : TakeAnswer → (ℕ → Type 0) → Type 0
 IfTook (taken.Took k) P = P k
 IfTook (taken.Rest k) P = Unit {0}
+
+abbrev pub IfRest : TakeAnswer → Type 0 → Type 0
+IfRest (taken.Took k) P = Unit {0}
+IfRest (taken.Rest k) P = P
 
 abbrev pub close_entry : CloseAnswer → Option PortEvent
 close_entry closed.Shut = Some event.Shut

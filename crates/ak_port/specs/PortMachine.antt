@@ -2,6 +2,7 @@
 use Rattle.std.specs.Prelude.{◌≡◌, ℕ, ◌+◌, ◌-◌, ◌<◌, ◌≤◌, ◌==◌, Bool, true, false, List, [], ◌∷◌, ◌++◌, length, take, drop, Option, Some, None, if◌then◌else◌}
 use Rattle.ak_flatten.specs.Item.{ItemData}
 use Rattle.ak_flatten.specs.declared.item.Taken.{Taken}
+use Rattle.ak_port.specs.Stamps.{Rise}
 use Rattle.ak_port.specs.declared.port_entry.PortEntry.{PortEntry}
 use Rattle.ak_port.specs.declared.port_entry.PortEvent.{PortEvent}
 use Rattle.ak_port.specs.declared.port_entry.PortEvent.TheVariants as event
@@ -100,9 +101,14 @@ LacksRoom entries = refusal_of (state_of entries) ≡ Some refusal.Full
 abbrev pub LacksItems : List PortEntry → Type 0
 LacksItems entries = ((state_of entries).shut ≡ false) × (pending_count (state_of entries) ≡ 0)
 
+-- the stamps rise, from past that number on
+abbrev pub StampsRise : ℕ → List PortEntry → Type 0
+StampsRise last entries = Rise (λ (entry : PortEntry). entry.stamp) last entries
+
 -- the history of a port with that taker
 pub record IsPort (taker : ℕ) (entries : List PortEntry) : Type 0 where
   pub steps : AreSteps taker unmade entries
+  pub stamps : StampsRise 0 entries
   pub made : (state_of entries).made ≡ true
 
 -- ---- items with their positions
@@ -143,3 +149,10 @@ handed_from s (entry ∷ entries) = handed_out s entry.event ++ handed_from (sta
 -- all that was handed out
 abbrev pub handed_in : List PortEntry → List Taken
 handed_in entries = handed_from unmade entries
+
+-- the rest was taken: the port is shut, what was taken is all that was ever written, and nothing is pending
+pub record IsRested (entries : List PortEntry) : Type 0 where
+  pub shut : (state_of entries).shut ≡ true
+  pub rested : (state_of entries).rested ≡ true
+  pub all : taken_items (state_of entries) ≡ written_in entries
+  pub nothing : pending_items (state_of entries) ≡ []

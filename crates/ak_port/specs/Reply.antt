@@ -1,9 +1,10 @@
 -- The machine of a reply book: its state is read off the list of its entries, and tells which entry may come next.
-use Rattle.std.specs.Prelude.{◌≡◌, ℕ, zero, suc, ◌<◌, ◌==◌, Bool, false, IsTrue, List, [], ◌∷◌, ◌++◌, length, slice_get, Any, None, Some, codes}
+use Rattle.std.specs.Prelude.{◌≡◌, ℕ, zero, suc, ◌==◌, Bool, false, IsTrue, List, [], ◌∷◌, ◌++◌, length, slice_get, Any, None, Some, codes}
 use Rattle.std.specs.List.{list_any}
 use Rattle.ak_base.specs.Code.{code_of}
 use Rattle.ak_flatten.specs.Laws.{first_fault}
 use Rattle.ak_flatten.specs.Spelling.{spelling}
+use Rattle.ak_port.specs.Stamps.{Rise}
 use Rattle.ak_port.specs.declared.reply_entry.ReplyEntry.{ReplyEntry}
 use Rattle.ak_port.specs.declared.reply_entry.ReplyEvent.{ReplyEvent}
 use Rattle.ak_port.specs.declared.reply_entry.ReplyEvent.TheVariants.{Opened, Filled, Cancelled, Taken}
@@ -57,10 +58,9 @@ abbrev pub Replays : List SlotData → List ReplyEntry → Type 0
 Replays slots [] = Unit {0}
 Replays slots (entry ∷ entries) = BookStep slots entry.by.0 entry.event × Replays (changed slots entry.by.0 entry.event) entries
 
--- the stamps rise
+-- the stamps rise, from past that number on
 abbrev pub StampsRise : ℕ → List ReplyEntry → Type 0
-StampsRise last [] = Unit {0}
-StampsRise last (entry ∷ entries) = (last < entry.stamp) × StampsRise entry.stamp entries
+StampsRise last entries = Rise (λ (entry : ReplyEntry). entry.stamp) last entries
 
 -- the list is a history of a reply book
 pub record IsLegal (entries : List ReplyEntry) : Type 0 where

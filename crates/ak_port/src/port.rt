@@ -2,9 +2,10 @@
 ghost use Rattle.std.specs.Prelude.{◌≡◌, ℕ, ◌+◌, ◌-◌, ◌∷◌, ◌++◌, [], ◌<◌, ◌≤◌, ◌^◌, false, true, min, Some, IfOk, IfErr, IfSome, IfNone, OnOk, OnErr};
 ghost use Rattle.std.specs.Arc.{arc_value};
 ghost use Rattle.std.specs.VecDeque.{deque_len, deque_capacity};
-ghost use Rattle.ak_turn.specs.Seats.{first_seat};
-ghost use Rattle.ak_port.specs.PortMachine.{last_taken, pending_count, state_of, LacksItems, LacksRoom};
-ghost use Rattle.ak_port.specs.PortCalls.{clock_after, close_entry, making, take_count, take_event, write_entry, CanTake, GivesBack, HasAnswered, HasEntered, HasLooked, IfTook, IsAtPort, IsFull};
+ghost use Rattle.ak_turn.specs.Lines.{last_stamp_of};
+ghost use Rattle.ak_turn.specs.Seats.{first_seat, KnowsWhole};
+ghost use Rattle.ak_port.specs.PortMachine.{last_taken, pending_count, refusal_of, state_of, taken_items, write_event, IsRested, LacksItems, LacksRoom};
+ghost use Rattle.ak_port.specs.PortCalls.{by_number, clock_after, close_entry, making, stamp_number, take_count, take_event, write_entry, CanTake, GivesBack, HasAnswered, HasAnsweredAtTurn, HasEntered, HasLooked, IfRefused, IfRest, IfTook, IsAtPort, IsFull};
 ghost use Rattle.ak_port.specs.SeatKept.{KeepsSeat};
 ghost use Rattle.ak_base.specs.declared.thread.ThreadId.{ThreadId};
 
@@ -12,7 +13,7 @@ use crate::port_book::PortBook;
 use crate::port_entry::{CloseAnswer, How, TakeAnswer, WriteAnswer};
 use ak_base::{NoMemory, ThreadId};
 use ak_flatten::{Item, Taken};
-use ak_turn::{Clock, Seat, TurnLock};
+use ak_turn::{Clock, Seat, Turn, TurnLock};
 use std::alloc::Global;
 use std::collections::VecDeque;
 use std::sync::{Arc, Wait};
@@ -23,12 +24,16 @@ pub const CAPACITY_LIMIT: u32 = 1000;
 /// The most items that a port accepts in all.
 pub const LIFE_LIMIT: u32 = 8192;
 
-/// A port, shared. (The Be Book, ports.)
+/// A port, shared: the book of one port behind a lock, at which each thread has a seat. A call asks of the seat
+/// that it is one at this port, has no turn, and is of the clock's thread. The seat stays so. (The Be Book, The
+/// Kernel Kit, Ports.)
 pub type Port = TurnLock<PortBook>;
 
-/// A new port, which holds so many items at a time and accepts so many in all, and the maker's seat, which is
-/// the head. It reserves the entries that shutting it and taking the rest need. Without memory no entry is
-/// made, and the clock stands.
+/// A new port for that taker, which holds `capacity` items at a time, 1 to 1,000, and accepts `life` in all, 1
+/// to 8,192. It comes with the maker's seat, which is the head. The making is its first entry, by the maker's
+/// clock. It reserves the entries that shutting it and taking the rest need, and room for as many pending items
+/// as it holds. The clock's time is below 2^63. `NoMemory` makes no entry, and the clock stands. (The Be Book,
+/// The Kernel Kit, Ports: create_port().)
 pub fn make(
     alloc: Global,
     capacity: u32,
@@ -52,36 +57,119 @@ pub fn make(
     Ok(made)
 }
 
-// One try of a write: `Err` gives the item back, without an entry, where it waits.
+/// Writes an item at the end of what is pending in the turn that the seat has, or notes why not, and passes the turn
+/// on. It is handed nothing to wait with: its answer is the one for the list as the turn shows it. Whoever is not to
+/// wait for room takes a turn and calls it, as a `write` with `NoWait` does.
+pub fn write_at_turn(
+    turn: Turn<'_, PortBook>,
+    seat: &mut Seat<PortBook>,
+    clock: &mut Clock,
+    item: Item,
+) -> WriteAnswer
+    requires of { seat.old.lock ≡ turn.lock }
+    requires turn { seat.old.turn ≡ true }
+    requires thread { seat.old.thread ≡ clock.old.thread.0 }
+    requires opening { seat.old.opening ≡ Some turn.book.taker }
+    requires list { turn.book.entries ≡ seat.old.front }
+    requires time { clock.old.time < 2 ^ 63 }
+    requires last { last_stamp_of stamp_number turn.book.entries < 2 ^ 63 }
+    ensures answered { HasAnsweredAtTurn (write_entry result item) clock.old clock.new seat.old seat.new }
+    ensures machine { IfSome (write_entry result item) (λ event. event ≡ write_event (state_of seat.old.front) item) }
+    ensures back { GivesBack result item }
+    ensures port { IsAtPort seat.new }
+    ensures known { KnowsWhole by_number seat.old → KnowsWhole by_number seat.new }
+{
+    let mut turn = turn;
+    let answer = turn.book().write(clock, item);
+    turn.finish(seat);
+    answer
+}
+
+// A write that does not wait for room: one turn, and its answer.
+fn write_once<R: Wait>(
+    port: &Port,
+    rt: &R,
+    seat: &mut Seat<PortBook>,
+    clock: &mut Clock,
+    item: Item,
+) -> WriteAnswer
+    requires of { seat.old.lock ≡ port.now }
+    requires idle { seat.old.turn ≡ false }
+    requires thread { seat.old.thread ≡ clock.old.thread.0 }
+    ensures answered { HasAnswered (write_entry result item) clock.old clock.new seat.old seat.new }
+    ensures back { GivesBack result item }
+    ensures port { IsAtPort seat.new }
+    ensures known { KnowsWhole by_number seat.new }
+{
+    let turn = port.lock(rt, seat);
+    clock.ready(rt);
+    write_at_turn(turn, seat, clock, item)
+}
+
+// One try of a write that waits for room: `Err` gives the item back, without an entry, where the port is full.
 fn try_write<R: Wait>(
     port: &Port,
     rt: &R,
     seat: &mut Seat<PortBook>,
     clock: &mut Clock,
     item: Item,
-    how: How,
 ) -> Result<WriteAnswer, Item>
     requires of { seat.old.lock ≡ port.now }
     requires idle { seat.old.turn ≡ false }
     requires thread { seat.old.thread ≡ clock.old.thread.0 }
     ensures answered { IfOk result (λ answer. HasAnswered (write_entry answer item) clock.old clock.new seat.old seat.new) }
     ensures back { IfOk result (λ answer. GivesBack answer item) }
-    ensures full { IfOk result (λ answer. IsFull answer ≡ true → how ≡ How.NoWait) }
+    ensures room { IfOk result (λ answer. IsFull answer ≡ true → ⊥) }
     ensures looked { OnErr result (HasLooked clock.old clock.new seat.old seat.new) }
     ensures item { IfErr result (λ back. back ≡ item) }
-    ensures waits { OnErr result ((how ≡ How.Wait) × LacksRoom seat.new.front) }
-    ensures port { IsAtPort seat.new }
+    ensures waits { OnErr result (LacksRoom seat.new.front) }
+    ensures port { IfOk result (λ _. IsAtPort seat.new) }
+    ensures known { KnowsWhole by_number seat.new }
 {
     let mut turn = port.lock(rt, seat);
     clock.ready(rt);
-    let tried = turn.book().write(clock, item, how);
-    turn.finish(seat);
-    tried
+    if turn.book().is_full() {
+        turn.finish(seat);
+        return Err(item);
+    }
+    Ok(write_at_turn(turn, seat, clock, item))
 }
 
-/// Writes an item at the end of what is pending, and answers its position. A write that finds the port full
-/// and is to wait gives its turn back, and tries again once there is a new entry. It copies the flat text,
-/// which stays in the history, and reserves what taking the item needs.
+// A write that waits for room: it gives its turn back, and tries again once there is a new entry.
+fn write_once_free<R: Wait>(
+    port: &Port,
+    rt: &R,
+    seat: &mut Seat<PortBook>,
+    clock: &mut Clock,
+    item: Item,
+) -> WriteAnswer
+    requires of { seat.old.lock ≡ port.now }
+    requires idle { seat.old.turn ≡ false }
+    requires thread { seat.old.thread ≡ clock.old.thread.0 }
+    ensures answered { HasAnswered (write_entry result item) clock.old clock.new seat.old seat.new }
+    ensures back { GivesBack result item }
+    ensures room { IsFull result ≡ true → ⊥ }
+    ensures port { IsAtPort seat.new }
+    ensures known { KnowsWhole by_number seat.new }
+{
+    let mut item = item;
+    for _ in rt.forever() {
+        match try_write(port, rt, seat, clock, item) {
+            Ok(answer) => return answer,
+            Err(back) => item = back,
+        }
+        port.wait_past(rt, seat.seen());
+    }
+    unreachable!()
+}
+
+/// Writes an item at the end of what is pending, and answers its position, counted from 0. Refused, in this
+/// order, with `Closed`, `Spent`, and, where it is not to wait, `Full`; the item is given back as it was. Each
+/// of these is one entry. `NoMemory` gives the item back too, and makes none. It waits for its turn. A write
+/// that finds the port full and is to wait gives its turn back, and tries again once there is a new entry; one
+/// that is not to wait has its answer in its one turn. It
+/// copies the flat text, which stays in the history, and reserves what taking the item needs. (The Be Book, The
+/// Kernel Kit, Ports: write_port().)
 pub fn write<R: Wait>(
     port: &Port,
     rt: &R,
@@ -94,22 +182,19 @@ pub fn write<R: Wait>(
     requires idle { seat.old.turn ≡ false }
     requires thread { seat.old.thread ≡ clock.old.thread.0 }
     ensures answered { HasAnswered (write_entry result item) clock.old clock.new seat.old seat.new }
+    ensures refused { IfRefused result (λ why. refusal_of (state_of seat.new.front) ≡ Some why) }
     ensures seat { KeepsSeat seat.old seat.new }
     ensures clock { clock.new.thread ≡ clock.old.thread }
     ensures port { IsAtPort seat.new }
+    ensures known { KnowsWhole by_number seat.new }
     ensures back { GivesBack result item }
     ensures full { IsFull result ≡ true → how ≡ How.NoWait }
     ensures taking { (thread : ThreadId) (room : ℕ) → CanTake thread room seat.old → CanTake thread room seat.new }
 {
-    let mut item = item;
-    for _ in rt.forever() {
-        match try_write(port, rt, seat, clock, item, how) {
-            Ok(answer) => return answer,
-            Err(back) => item = back,
-        }
-        port.wait_past(rt, seat.seen());
+    match how {
+        How::NoWait => write_once(port, rt, seat, clock, item),
+        How::Wait => write_once_free(port, rt, seat, clock, item),
     }
-    unreachable!()
 }
 
 // One try of a take.
@@ -134,6 +219,7 @@ fn try_take<R: Wait>(
     ensures nothing { IfNone result (out.new ≡ out.old) }
     ensures empty { IfNone result (LacksItems seat.new.front) }
     ensures port { IsAtPort seat.new }
+    ensures known { KnowsWhole by_number seat.new }
 {
     let mut turn = port.lock(rt, seat);
     clock.ready(rt);
@@ -142,8 +228,11 @@ fn try_take<R: Wait>(
     tried
 }
 
-/// Takes the oldest pending items, no more than `most`, with their positions; where nothing is pending it
-/// waits. Once the port is shut it takes all that is left, which is the last that is taken. Takes no memory.
+/// Takes the oldest pending items, as many as there are but no more than `most`, with their positions, to the
+/// end of `out`. Where nothing is pending it waits. Once the port is shut it takes all that is left, maybe
+/// nothing, which is the last that is taken: then all that the port ever accepted is taken. The thread is the
+/// port's taker and has not taken the rest; `out` has room for the port's capacity. The take is one entry.
+/// Takes no memory. (The Be Book, The Kernel Kit, Ports: read_port().)
 pub fn take<R: Wait>(
     port: &Port,
     rt: &R,
@@ -161,8 +250,13 @@ pub fn take<R: Wait>(
     ensures seat { KeepsSeat seat.old seat.new }
     ensures clock { clock.new.thread ≡ clock.old.thread }
     ensures port { IsAtPort seat.new }
+    ensures known { KnowsWhole by_number seat.new }
     ensures items { out.new.items ≡ out.old.items ++ last_taken (take_count result) (state_of seat.new.front) }
     ensures count { IfTook result (λ k. k ≡ min most (k + pending_count (state_of seat.new.front))) }
+    ensures some { IfTook result (λ k. 1 ≤ k) }
+    ensures rises { (state_of seat.new.front).taken ≡ (state_of seat.old.front).taken + take_count result }
+    ensures goes_on { taken_items (state_of seat.new.front) ≡ taken_items (state_of seat.old.front) ++ last_taken (take_count result) (state_of seat.new.front) }
+    ensures rest { IfRest result (IsRested seat.new.front) }
     ensures room { deque_capacity out.new ≡ deque_capacity out.old }
     ensures taking { (room : ℕ) → CanTake clock.old.thread room seat.old → IfTook result (λ _. CanTake clock.old.thread room seat.new) }
 {
@@ -187,6 +281,7 @@ fn try_close<R: Wait>(
     requires thread { seat.old.thread ≡ clock.old.thread.0 }
     ensures answered { HasAnswered (close_entry result) clock.old clock.new seat.old seat.new }
     ensures port { IsAtPort seat.new }
+    ensures known { KnowsWhole by_number seat.new }
     ensures already { result ≡ CloseAnswer.AlreadyShut → (state_of seat.new.front).shut ≡ true }
 {
     let mut turn = port.lock(rt, seat);
@@ -200,8 +295,9 @@ fn try_close<R: Wait>(
     }
 }
 
-/// Shuts the port: nothing is written any more. `AlreadyShut`, without an entry, where it is shut. Takes no
-/// memory.
+/// Shuts the port: nothing is written any more, and what is pending stays to be taken. Any thread with a seat
+/// may shut it. That is one entry; `AlreadyShut`, without an entry, where it is shut. It waits for its turn.
+/// Takes no memory. (The Be Book, The Kernel Kit, Ports: close_port().)
 pub fn close<R: Wait>(
     port: &Port,
     rt: &R,
@@ -215,6 +311,7 @@ pub fn close<R: Wait>(
     ensures seat { KeepsSeat seat.old seat.new }
     ensures clock { clock.new.thread ≡ clock.old.thread }
     ensures port { IsAtPort seat.new }
+    ensures known { KnowsWhole by_number seat.new }
     ensures shut { (state_of seat.new.front).shut ≡ true }
     ensures taking { (thread : ThreadId) (room : ℕ) → CanTake thread room seat.old → CanTake thread room seat.new }
 {

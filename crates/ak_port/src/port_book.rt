@@ -2,10 +2,10 @@ ghost use Rattle.std.specs.Prelude.{◌≡◌, ◌+◌, ◌∷◌, ◌++◌, [],
 ghost use Rattle.std.specs.VecDeque.{deque_len, deque_capacity};
 ghost use Rattle.ak_turn.specs.Lines.{last_stamp_of};
 ghost use Rattle.ak_port.specs.PortInside.{one_unless};
-ghost use Rattle.ak_port.specs.PortMachine.{numbered, last_taken, pending_count, refusal_of, refused_event, state_of, LacksItems, LacksRoom};
+ghost use Rattle.ak_port.specs.PortMachine.{numbered, last_taken, pending_count, refusal_of, refused_event, state_of, write_event, LacksItems, LacksRoom};
 ghost use Rattle.ak_port.specs.PortCalls.{clock_after, entry_now, making, stamp_number, GivesBack, HasAdded, IfTook, IsFull, IsPortBook, refused_answer, take_count, take_event, write_entry};
 
-use crate::port_entry::{How, PortEntry, PortEvent, Refusal, TakeAnswer, WriteAnswer};
+use crate::port_entry::{PortEntry, PortEvent, Refusal, TakeAnswer, WriteAnswer};
 use ak_base::{NoMemory, ThreadId};
 use ak_flatten::{Item, Taken};
 use ak_turn::{Book, Clock};
@@ -13,7 +13,8 @@ use std::alloc::Global;
 use std::collections::VecDeque;
 use std::marker::Model;
 
-/// A port, as its taker and the list of what was done to it. (The Be Book, ports.)
+/// A port, as its taker and the list of what was done to it, oldest first. (The Be Book, The Kernel Kit,
+/// Ports.)
 #[derive(Drop)]
 pub struct PortBook {
     taker: ThreadId,
@@ -205,7 +206,7 @@ impl PortBook {
         })
     }
 
-    /// The thread that takes. The list is the history of a port with that taker.
+    /// The thread that takes. The list is the history of a port with that taker. Takes no memory.
     pub fn taker(&self) -> ThreadId
         ensures value { result ≡ self.now.taker }
         ensures port { IsPortBook self.now }
@@ -294,31 +295,32 @@ impl PortBook {
         answer_of(refusal, item)
     }
 
-    /// Writes the item, or notes why not. `Err` gives it back where the port is full and the write waits.
-    pub(crate) fn write(
-        &mut self,
-        clock: &mut Clock,
-        item: Item,
-        how: How,
-    ) -> Result<WriteAnswer, Item>
+    /// Whether a write that waits has to: as many items are pending as it holds, and nothing else refuses one.
+    pub(crate) fn is_full(&self) -> bool
+        ensures full { result ≡ true → LacksRoom self.now.entries }
+        ensures free { result ≡ false → LacksRoom self.now.entries → ⊥ }
+    {
+        match self.refusal() {
+            Some(Refusal::Full) => true,
+            None | Some(Refusal::Closed | Refusal::Spent) => false,
+        }
+    }
+
+    /// Writes the item, or notes why not.
+    pub(crate) fn write(&mut self, clock: &mut Clock, item: Item) -> WriteAnswer
         requires time { clock.old.time < 2 ^ 63 }
         requires last { last_stamp_of stamp_number self.old.entries < 2 ^ 63 }
-        ensures added { IfOk result (λ answer. HasAdded (write_entry answer item) clock.old clock.new self.old self.new) }
-        ensures back { IfOk result (λ answer. GivesBack answer item) }
-        ensures full { IfOk result (λ answer. IsFull answer ≡ true → how ≡ How.NoWait) }
-        ensures same { OnErr result (HasAdded None clock.old clock.new self.old self.new) }
-        ensures item { IfErr result (λ back. back ≡ item) }
-        ensures waits { OnErr result ((how ≡ How.Wait) × LacksRoom self.old.entries) }
+        ensures added { HasAdded (write_entry result item) clock.old clock.new self.old self.new }
+        ensures back { GivesBack result item }
+        ensures machine { IfSome (write_entry result item) (λ event. event ≡ write_event (state_of self.old.entries) item) }
+        ensures full { IsFull result ≡ true → LacksRoom self.old.entries }
         ensures port { IsPortBook self.new }
     {
         // Reading the taker shows that the list is a port's.
         let _ = &self.taker;
         match self.refusal() {
-            None => Ok(self.accept(clock, item)),
-            Some(refusal) => match (refusal, how) {
-                (Refusal::Full, How::Wait) => Err(item),
-                _ => Ok(self.refuse(clock, item, refusal)),
-            },
+            None => self.accept(clock, item),
+            Some(refusal) => self.refuse(clock, item, refusal),
         }
     }
 

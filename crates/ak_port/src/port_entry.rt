@@ -7,17 +7,20 @@ use std::alloc::Global;
 /// What was done to a port, by which thread, and when by its clock.
 #[derive(Debug, Drop)]
 pub struct PortEntry {
+    /// One more than the greater of the clock's time and the last stamp before it.
     pub stamp: u64,
+    /// The thread that made it.
     pub by: ThreadId,
+    /// What was done.
     pub event: PortEvent,
 }
 
-/// What was done to a port. Positions count all items that were ever written, from 0. (The Be Book, ports.)
+/// What was done to a port. Positions count all items that were ever written, from 0.
 #[derive(Debug, Drop)]
 pub enum PortEvent {
     /// It was made, to hold so many items at a time, and to accept so many in all.
     Made { capacity: u32, life: u32 },
-    /// An item was written.
+    /// An item was written, at that position: as many were written before it.
     Written { position: u64, item: Item },
     /// A write was refused, since as many items were pending as the port holds.
     Full,
@@ -36,14 +39,17 @@ pub enum PortEvent {
 /// Whether a write to a full port waits.
 #[derive(Clone, Copy, Debug, PartialEq, Eq)]
 pub enum How {
+    /// It waits for room.
     Wait,
+    /// It is answered `Full`.
     NoWait,
 }
 
-/// What a write answers. A refused item is given back.
+/// What a write answers. The refusals are tested in the order in which they stand. A refused item is given back
+/// as it was. Each answer but `NoMemory` is an entry.
 #[derive(Debug, Drop)]
 pub enum WriteAnswer {
-    /// It was written, at that position.
+    /// It was written, at that position, counted from 0.
     Wrote(u64),
     /// The port is shut.
     Closed(Item),
@@ -51,6 +57,7 @@ pub enum WriteAnswer {
     Spent(Item),
     /// As many items are pending as the port holds, and the write was not to wait.
     Full(Item),
+    /// Memory ran out: nothing was written, and there is no entry.
     NoMemory(Item),
 }
 
@@ -71,14 +78,17 @@ pub enum TakeAnswer {
     Rest(u32),
 }
 
+/// What a closing answers.
 #[derive(Clone, Copy, Debug, PartialEq, Eq)]
 pub enum CloseAnswer {
+    /// It shut the port.
     Shut,
+    /// The port was shut before. There is no entry.
     AlreadyShut,
 }
 
 impl PortEvent {
-    /// An equal event.
+    /// An equal event, or `NoMemory` where memory ran out.
     pub fn try_clone(&self, alloc: Global) -> Result<PortEvent, NoMemory>
         ensures { IfOk result (λ event. event ≡ self.now) }
     {
@@ -102,7 +112,7 @@ impl PortEvent {
 }
 
 impl PortEntry {
-    /// An equal entry.
+    /// An equal entry, or `NoMemory` where memory ran out.
     pub fn try_clone(&self, alloc: Global) -> Result<PortEntry, NoMemory>
         ensures { IfOk result (λ entry. entry ≡ self.now) }
     {

@@ -2,7 +2,7 @@
 
 ghost use Rattle.ak_port.specs.PortLaws as law;
 
-/// What was written is what was handed out, then what is pending, in order and each once; what was handed out
+/// What was written is what was handed out, then what is pending, in order and each once. What was handed out
 /// is the beginning of what was written, as long as was taken.
 pub fn written_is_taken_or_pending()
     ensures each_once { law.EachOnce }

@@ -14,8 +14,9 @@ use std::alloc::Global;
 use std::marker::Model;
 use std::mem;
 
-/// The slots that waiting senders open for replies, as the list of what was done to them. (The Be Book,
-/// BMessenger: a synchronous send waits for its reply.)
+/// The slots that waiting senders open for replies, as the list of what was done to them, oldest first. A call
+/// at a shared book asks of the seat that it is one there, has no turn, and is of the clock's thread. The seat
+/// stays so. (The Be Book, The Application Kit, BMessenger: a synchronous SendMessage() waits for its reply.)
 #[derive(Drop)]
 pub struct ReplyBook {
     entries: Vec<Kept>,
@@ -203,7 +204,7 @@ impl ReplyBook {
     ghost use Rattle.ak_turn.specs.declared.clock.Clock.{Clock};
     ghost use Rattle.ak_port.specs.ReplySeats.{entry_at, stamp_of, stamped, IsItsSlot, MayCancel, MayTake};
 
-    /// A book without slots.
+    /// A book without slots and without entries, or `NoMemory` where memory ran out.
     pub fn new(alloc: Global) -> Result<ReplyBook, NoMemory>
         ensures { IfOk result (λ book. book ≡ []) }
     {

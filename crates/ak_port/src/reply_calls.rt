@@ -1,7 +1,8 @@
 //! The calls on a shared reply book. Each may wait for its turn, and makes at most one entry.
 ghost use Rattle.std.specs.Prelude.{◌≡◌, ◌≤◌, false, length, None, Some, IfOk, IfErr, IfNone, IfSome, OnErr, IsSome, unwrap_or};
+ghost use Rattle.ak_turn.specs.Seats.{KnowsWhole};
 ghost use Rattle.ak_port.specs.Reply.{IsFlatText, FillsWith, none_text, open_stage, slots_after};
-ghost use Rattle.ak_port.specs.ReplySeats.{HasEnteredBook, HasLookedAtBook, HasFoundSettled, HasFoundFilled, IsItsSlot, MayCancel, MayTake};
+ghost use Rattle.ak_port.specs.ReplySeats.{maker_of, HasEnteredBook, HasLookedAtBook, HasFoundSettled, HasFoundFilled, IsItsSlot, MayCancel, MayTake};
 ghost use Rattle.ak_port.specs.SeatKept.{KeepsSeat};
 
 use crate::reply_book::ReplyBook;
@@ -10,7 +11,9 @@ use ak_base::{Bytes, NoMemory};
 use ak_turn::{Clock, Seat, TurnLock};
 use std::sync::Wait;
 
-/// Opens the next slot, and answers its number. It keeps the memory for all that may become of the slot.
+/// Opens the next slot, and answers its number, counted from 0. It waits for its turn, and makes one entry. It
+/// keeps the memory for all that may become of the slot; `NoMemory` makes no entry, and the clock stands. The
+/// thread may cancel the slot then, or wait for what it is filled with.
 pub fn open_ask<R: Wait>(
     book: &TurnLock<ReplyBook>,
     rt: &R,
@@ -22,6 +25,7 @@ pub fn open_ask<R: Wait>(
     requires thread { seat.old.thread ≡ clock.old.thread.0 }
     ensures seat { KeepsSeat seat.old seat.new }
     ensures clock { clock.new.thread ≡ clock.old.thread }
+    ensures known { KnowsWhole maker_of seat.new }
     ensures opened { IfOk result (λ n. HasEnteredBook clock.old clock.new (ReplyEvent.Opened n) seat.old seat.new) }
     ensures take { IfOk result (λ n. MayTake seat.new.thread n seat.new.front) }
     ensures cancel { IfOk result (λ n. MayCancel seat.new.thread n seat.new.front) }
@@ -50,6 +54,7 @@ fn try_fill<R: Wait>(
     requires text { IfSome flat IsFlatText }
     ensures seat { KeepsSeat seat.old seat.new }
     ensures clock { clock.new.thread ≡ clock.old.thread }
+    ensures known { KnowsWhole maker_of seat.new }
     ensures filled { result ≡ Ok FillAnswer.Filled → HasEnteredBook clock.old clock.new (ReplyEvent.Filled n (unwrap_or flat none_text)) seat.old seat.new }
     ensures duplicate { result ≡ Ok FillAnswer.Duplicate → HasFoundSettled n clock.old clock.new seat.old seat.new }
     ensures unopened { IfErr result (λ text. text ≡ flat) }
@@ -78,6 +83,7 @@ fn fill_in<R: Wait>(
     requires text { IfSome flat IsFlatText }
     ensures seat { KeepsSeat seat.old seat.new }
     ensures clock { clock.new.thread ≡ clock.old.thread }
+    ensures known { KnowsWhole maker_of seat.new }
     ensures filled { result ≡ FillAnswer.Filled → HasEnteredBook clock.old clock.new (ReplyEvent.Filled n (unwrap_or flat none_text)) seat.old seat.new }
     ensures duplicate { result ≡ FillAnswer.Duplicate → HasFoundSettled n clock.old clock.new seat.old seat.new }
 {
@@ -92,8 +98,9 @@ fn fill_in<R: Wait>(
     unreachable!()
 }
 
-/// Waits until the slot is opened, and fills it with the flat text of the reply. `Duplicate` exactly where it is
-/// filled or cancelled then. Takes no memory.
+/// Fills the slot with those bytes, the flat text of the reply. It waits for its turn, and until the slot is
+/// opened. `Duplicate`, without an entry, exactly where it is filled or cancelled then; else one entry. Takes
+/// no memory.
 pub fn fill<R: Wait>(
     book: &TurnLock<ReplyBook>,
     rt: &R,
@@ -108,13 +115,14 @@ pub fn fill<R: Wait>(
     requires text { IsFlatText flat }
     ensures seat { KeepsSeat seat.old seat.new }
     ensures clock { clock.new.thread ≡ clock.old.thread }
+    ensures known { KnowsWhole maker_of seat.new }
     ensures filled { result ≡ FillAnswer.Filled → HasEnteredBook clock.old clock.new (ReplyEvent.Filled n flat) seat.old seat.new }
     ensures duplicate { result ≡ FillAnswer.Duplicate → HasFoundSettled n clock.old clock.new seat.old seat.new }
 {
     fill_in(book, rt, seat, clock, n, Some(flat))
 }
 
-/// The same with the flat text that stands for no reply. Takes no memory.
+/// The same with the flat text that stands for no reply, of `NONE` without fields. Takes no memory.
 pub fn fill_none<R: Wait>(
     book: &TurnLock<ReplyBook>,
     rt: &R,
@@ -127,13 +135,15 @@ pub fn fill_none<R: Wait>(
     requires thread { seat.old.thread ≡ clock.old.thread.0 }
     ensures seat { KeepsSeat seat.old seat.new }
     ensures clock { clock.new.thread ≡ clock.old.thread }
+    ensures known { KnowsWhole maker_of seat.new }
     ensures filled { result ≡ FillAnswer.Filled → HasEnteredBook clock.old clock.new (ReplyEvent.Filled n none_text) seat.old seat.new }
     ensures duplicate { result ≡ FillAnswer.Duplicate → HasFoundSettled n clock.old clock.new seat.old seat.new }
 {
     fill_in(book, rt, seat, clock, n, None)
 }
 
-/// Cancels a slot of the thread's own. `Duplicate` exactly where it is filled. Takes no memory.
+/// Cancels a slot that the thread opened and did not cancel. It waits for its turn. `Duplicate`, without an
+/// entry, exactly where the slot was filled; else one entry. Takes no memory.
 pub fn cancel<R: Wait>(
     book: &TurnLock<ReplyBook>,
     rt: &R,
@@ -147,6 +157,7 @@ pub fn cancel<R: Wait>(
     requires own { MayCancel seat.old.thread n seat.old.front }
     ensures seat { KeepsSeat seat.old seat.new }
     ensures clock { clock.new.thread ≡ clock.old.thread }
+    ensures known { KnowsWhole maker_of seat.new }
     ensures cancelled { result ≡ CancelAnswer.Cancelled → HasEnteredBook clock.old clock.new (ReplyEvent.Cancelled n) seat.old seat.new }
     ensures duplicate { result ≡ CancelAnswer.Duplicate → HasFoundFilled n clock.old clock.new seat.old seat.new }
 {
@@ -171,6 +182,7 @@ fn try_take<R: Wait>(
     requires own { MayTake seat.old.thread n seat.old.front }
     ensures seat { KeepsSeat seat.old seat.new }
     ensures clock { clock.new.thread ≡ clock.old.thread }
+    ensures known { KnowsWhole maker_of seat.new }
     ensures taken { IfSome result (λ _. HasEnteredBook clock.old clock.new (ReplyEvent.Taken n) seat.old seat.new) }
     ensures filled { IfSome result (λ flat. FillsWith n flat seat.new.front) }
     ensures text { IfSome result IsFlatText }
@@ -185,7 +197,8 @@ fn try_take<R: Wait>(
     result
 }
 
-/// Waits until a slot of the thread's own is filled, and takes the reply's flat text. Takes no memory.
+/// Waits until a slot is filled that the thread opened and neither cancelled nor took, and takes the reply's
+/// flat text. The bytes are those that the slot was filled with. The taking is one entry. Takes no memory.
 pub fn wait_for<R: Wait>(
     book: &TurnLock<ReplyBook>,
     rt: &R,
@@ -199,6 +212,7 @@ pub fn wait_for<R: Wait>(
     requires own { MayTake seat.old.thread n seat.old.front }
     ensures seat { KeepsSeat seat.old seat.new }
     ensures clock { clock.new.thread ≡ clock.old.thread }
+    ensures known { KnowsWhole maker_of seat.new }
     ensures taken { HasEnteredBook clock.old clock.new (ReplyEvent.Taken n) seat.old seat.new }
     ensures filled { FillsWith n result seat.new.front }
     ensures text { IsFlatText result }

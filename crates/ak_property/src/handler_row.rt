@@ -6,7 +6,7 @@ use crate::table::PropertyTable;
 use ak_base::Code;
 use ak_filter::FilterList;
 
-/// What routing asks of what a handler holds.
+/// What routing asks of what a handler holds. Its calls have no answer for want of memory.
 pub trait HandlerRow {
     /// Its property table, its filters, and the codes on which it has reactions.
     ghost told: { Self → RowData };
@@ -19,7 +19,7 @@ pub trait HandlerRow {
     fn filters(&self) -> &FilterList
         ensures { result.now ≡ (told self.now).filters };
 
-    /// The first place of a reaction on this code. `None` where it has none.
+    /// The place of the first reaction on this code, counted from 0. `None` where it has none.
     fn reaction_on(&self, what: Code) -> Option<u32>
         ensures { result ≡ position (λ code. code == what.0) (told self.now).reactions };
 }

@@ -1,6 +1,7 @@
-//! The properties that a handler has, as a table of rows: for each a name, a kind, the commands and forms
+//! The properties that a handler has, as a table of rows. A row has a name, a kind, the commands and forms
 //! that it takes, and how it is used. The first row that fits a command counts. `suite_message` tells the
-//! suites and properties of a handler. Nothing here waits, and nothing is shared.
+//! suites and properties of a handler. Nothing here waits, and nothing is shared. (The Be Book, The
+//! Application Kit, BPropertyInfo.)
 #![tactic(auto)]
 
 mod handler_row;

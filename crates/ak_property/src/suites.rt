@@ -7,8 +7,10 @@ use ak_base::{Code, NoMemory, Text};
 use ak_message::{Message, Value};
 use std::alloc::Global;
 
-/// The reply `RPLY` that tells the suites of a handler, 1 to 19, and the names of its properties: `suites`,
-/// `properties` where the table has rows, and `error` 0.
+/// The reply `RPLY` that tells the suites of a handler, 1 to 19, and the names of its properties. Its fields
+/// are the texts `suites`, the texts `properties` where the table has rows, and the `Int32` `error`, which is
+/// 0. All stand in the order given. `NoMemory` where memory ran out. (The Be Book, The Application Kit,
+/// BHandler: GetSupportedSuites().)
 pub fn suite_message(
     alloc: Global,
     suites: &[Text],

@@ -10,22 +10,28 @@ use std::marker::Model;
 /// How many rows a table may have.
 pub const ROW_LIMIT: usize = 64;
 
-/// One property: its name and kind, the commands and the forms of specifiers that it takes, where none
-/// means all, and how it is used. (The Be Book, BPropertyInfo.)
+/// One property: its name and kind, the commands and the forms of specifiers that it takes, where none means
+/// all, and how it is used. (The Be Book, The Application Kit, BPropertyInfo.)
 #[derive(Debug, Drop)]
 pub struct PropertyRow {
+    /// What a specifier has to name, byte for byte.
     pub name: Text,
+    /// The kind of its elements. No match depends on it.
     pub kind: Kind,
+    /// The codes of the commands that it takes. None means all.
     pub commands: Items<Code>,
+    /// The forms that it takes, by the numbers of `At::form`. None means all.
     pub forms: Items<u32>,
+    /// A text that tells how it is used. No match depends on it.
     pub usage: Text,
 }
 
-/// Why a row was not added.
+/// Why a row was not added. They are tested in this order.
 #[derive(Clone, Copy, Debug, PartialEq, Eq)]
 pub enum RowFault {
     /// There are 64 rows.
     RowLimit,
+    /// Memory ran out.
     NoMemory,
 }
 
@@ -68,6 +74,7 @@ impl PropertyTable {
     }
 
     /// Adds a row at the end. `RowLimit` at 64 rows. An `Err` changes nothing, and the row is dropped.
+    /// `NoMemory` where memory ran out.
     pub fn add_row(&mut self, row: PropertyRow) -> Result<(), RowFault>
         ensures limit { ROW_LIMIT ≡ 64 }
         ensures row_limit { IsErrOf result RowFault.RowLimit ↔ (length self.old ≡ 64) }
@@ -81,10 +88,11 @@ impl PropertyTable {
         Ok(())
     }
 
-    /// The place of the first row of that name whose forms are empty or hold `form`, and whose commands are
-    /// empty or hold `what`, or whatever its commands where `index` is not 0. `index` is the number of
-    /// specifiers that are left, less one: while more than one is left, no command is carried out. `None` where no
-    /// row fits. Takes no memory.
+    /// The place of the first row that fits, counted from 0. It has that name, and its forms are empty or
+    /// hold `form`. Its commands are empty or hold `what`, or they are not asked, where `index` is not 0.
+    /// `index` is the number of specifiers that are left, less one: while more than one is left, no command
+    /// is carried out. `None` where no row fits. Takes no memory. (The Be Book, The Application Kit,
+    /// BPropertyInfo: FindMatch().)
     pub fn find_match(&self, what: Code, index: u32, form: u32, name: &Text) -> Option<usize>
         ensures value { result ≡ match_of self.now what.0 index form name.now }
         ensures within { IfSome result (λ place. place < 64) }
@@ -94,7 +102,7 @@ impl PropertyTable {
             .position(|row| row.fits(what, index, form, name))
     }
 
-    /// An equal table.
+    /// An equal table. `NoMemory` where memory ran out.
     pub fn try_clone(&self) -> Result<PropertyTable, NoMemory>
         ensures { IfOk result (λ t. t ≡ self.now) }
     {
@@ -102,7 +110,7 @@ impl PropertyTable {
         Ok(PropertyTable { rows })
     }
 
-    /// The rows in order.
+    /// The rows in order. Takes no memory.
     pub fn as_slice(&self) -> &[PropertyRow]
         ensures value { result.now ≡ self.now }
         ensures limit { length self.now ≤ 64 }
@@ -122,7 +130,7 @@ fn copied(alloc: Global, rows: &[PropertyRow]) -> Result<Vec<PropertyRow>, NoMem
 }
 
 impl PropertyRow {
-    /// An equal row.
+    /// An equal row. `NoMemory` where memory ran out.
     pub fn try_clone(&self, alloc: Global) -> Result<PropertyRow, NoMemory>
         ensures { IfOk result (λ row. row ≡ self.now) }
     {

@@ -13,8 +13,11 @@ use std::alloc::Global;
 use std::marker::Model;
 use std::snapshot::Snapshot;
 
-/// The book of the roster: the described applications, the teams that run, all that was done, and a door for
-/// each looper that was started. Contracts see the descriptions, the lines and the doors.
+/// The book of the roster: the described applications, the teams that run, and all that was done, oldest first.
+/// It keeps a door for each looper that was started. Contracts see the descriptions, the lines and the doors.
+/// It is at rest while it has a door of each of these. A call that is given a clock asks that its time and the
+/// last stamp are below 2^63. So they are at a turn, once the clock is ready. (The Be Book, The Application
+/// Kit, BRoster.)
 #[derive(Drop)]
 pub struct RosterBook<D: Grant> {
     pub(crate) heads: Vec<AppHead>,
@@ -40,7 +43,8 @@ impl<D: Grant> Model for RosterBook<D> {
 }
 
 impl<D: Grant> RosterBook<D> {
-    /// A roster of these applications, at most 16, with nothing done yet.
+    /// A roster of these applications, at most 16, each with 1 to 8 loopers, with nothing done yet. It makes
+    /// room for the teams and doors of a run. Answers `NoMemory` where memory ran out.
     pub fn new(alloc: Global, apps: Vec<AppHead>) -> Result<RosterBook<D>, NoMemory>
         requires { IsHeads apps.items }
         ensures { IfOk result (λ roster. roster ≡ record { heads = apps.items; lines = []; doors = [] }) }
@@ -65,7 +69,8 @@ impl<D: Grant> RosterBook<D> {
         self.heads.as_slice()
     }
 
-    /// The teams that run, in the order of their numbers. Takes no memory.
+    /// The teams that run, in the order of their numbers. Takes no memory. (The Be Book, The Application Kit,
+    /// BRoster: GetAppList().)
     pub fn app_list(&self) -> &[Running]
         ensures value { result.now ≡ (state self.now).running }
         ensures is_roster { IsRoster D.object D.threads self.now }

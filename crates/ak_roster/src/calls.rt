@@ -19,10 +19,11 @@ use ak_base::{AppWord, NoMemory};
 use ak_turn::{Book, Clock};
 
 impl<D: Grant> RosterBook<D> {
-    /// What a launch of the first description that fits the word comes to. `NotFound` where none fits;
-    /// `AlreadyRunning` where its mode is single and a team of its path runs, or exclusive and one of its
-    /// signature, with the least such team; `Limit` where 16 teams were started, or there would be more than
-    /// 32 loopers. Each of these is an entry. Where it starts there is none: `launch` makes it.
+    /// What a launch of the first description that fits the word comes to. `NotFound` where none fits, as none
+    /// fits a team's number. `AlreadyRunning`, with the least such team, where its mode is single and a team of
+    /// its path runs, or exclusive and one of its signature. `Limit` where 16 teams were started, or there
+    /// would be more than 32 loopers. They are tested in this order, and each is an entry. Where it starts
+    /// there is none: `launch` makes it. `NoMemory` makes none either, and nothing changes.
     pub fn decide(&mut self, word: &AppWord, clock: &mut Clock) -> Decision
         requires time { clock.old.time < 2 ^ 63 }
         requires stamp { last_stamp self.old.lines < 2 ^ 63 }
@@ -57,7 +58,9 @@ impl<D: Grant> RosterBook<D> {
         }
     }
 
-    /// The least running team that fits the word. `NoTeam` where none fits. Both are entries.
+    /// The least running team that fits the word, by its number or its description. `NoTeam` where none fits.
+    /// Both are entries. `NoMemory` makes none, and nothing changes. (The Be Book, The Application Kit,
+    /// BRoster: TeamFor().)
     pub fn find(&mut self, word: &AppWord, clock: &mut Clock) -> FindAnswer
         requires time { clock.old.time < 2 ^ 63 }
         requires stamp { last_stamp self.old.lines < 2 ^ 63 }
@@ -77,7 +80,8 @@ impl<D: Grant> RosterBook<D> {
         }
     }
 
-    /// Enters that the team no longer runs, where it did; otherwise there is no entry. Takes no memory.
+    /// Enters that the team no longer runs, and answers true, where it ran; otherwise there is no entry. The
+    /// team's number is not used again. Takes no memory.
     pub fn gone(&mut self, team: u32, clock: &mut Clock) -> bool
         requires time { clock.old.time < 2 ^ 63 }
         requires stamp { last_stamp self.old.lines < 2 ^ 63 }

@@ -16,9 +16,10 @@ use std::mem;
 use std::snapshot::Snapshot;
 
 impl<D: Grant> RosterBook<D> {
-    /// A part of the door of that looper, for the clock's thread, which has none: it is not main, nor that
-    /// looper, nor the first looper of its team, nor the keeper, and it did not get the door before. `None` where
-    /// no such looper was started; then there is no entry.
+    /// A part of the door of the looper with that number, for the clock's thread, which has none. So it is not
+    /// main, nor that looper, nor the first looper of its team, nor the keeper. It did not get the door before.
+    /// The book is at rest. `None` where no such looper was started, tested first; then there is no
+    /// entry. The grant is one entry. `NoMemory` makes none, and nothing changes.
     pub fn grant(&mut self, looper: u32, clock: &mut Clock) -> Result<Option<D::Part>, NoMemory>
         requires rest { IsAtRest self.old }
         requires thread { IsStranger clock.old.thread.0 looper (slice_get (state self.old).loopers looper) }
@@ -43,8 +44,9 @@ impl<D: Grant> RosterBook<D> {
         Ok(Some(part))
     }
 
-    /// All doors, by the loopers' numbers; the book keeps none. They tell the objects that the lines have, and
-    /// the threads that have a part. It serves the end of a run. Takes no memory.
+    /// All doors, by the loopers' numbers from 0; the book keeps none, and is at rest no more where there were
+    /// some. They tell the objects that the lines have, and the threads that have a part. It serves the end of
+    /// a run. Takes no memory.
     pub fn take_doors(&mut self) -> Vec<D>
         requires rest { IsAtRest self.old }
         ensures doors { result.items ≡ self.old.doors }

@@ -6,8 +6,10 @@ use ak_base::{NoMemory, ThreadId};
 /// A door to an object that threads share, which makes a part of its own for each thread that is to use the
 /// object. It may tell its object, and the threads that have a part. No value of an object need exist.
 pub trait Grant: Drop {
+    /// What one thread gets, to use the object by.
     type Part;
 
+    /// What the door leads to, for proofs alone.
     type Object;
 
     ghost object: { Self → Option Self.Object };
@@ -18,7 +20,8 @@ pub trait Grant: Drop {
     // The part is a new one, for that thread.
     ghost is_for: { Self.Part → ℕ → Type 0 };
 
-    /// A part of the object for that thread, which has none. An `Err` changes nothing.
+    /// A part of the object for that thread, which has none. The door tells the same object then, and, where it
+    /// tells threads, that one too. `NoMemory` changes nothing.
     fn part(&mut self, thread: ThreadId) -> Result<Self::Part, NoMemory>
         requires new { IsNewIn (threads self.old) thread.0 }
         ensures object { object self.new ≡ object self.old }

@@ -1,22 +1,26 @@
 use ak_base::Text;
 
-/// How often an application may run at once. (The names are those of The Be Book, BApplication.)
+/// How often an application may run at once. (The names are those of The Be Book, The Application Kit,
+/// BApplication.)
 #[derive(Clone, Copy, Debug, PartialEq, Eq)]
 pub enum Mode {
-    /// One team of its path.
+    /// It does not start while a team of its path runs.
     Single,
-    /// Any number.
+    /// It may run any number of times.
     Multiple,
-    /// One team of its signature.
+    /// It does not start while a team of its signature runs, whatever that one's mode.
     Exclusive,
 }
 
 /// What the roster knows of a described application.
 #[derive(Debug, Drop)]
 pub struct AppHead {
+    /// Its path. What stands after its last slash is the name of the application.
     pub path: Text,
+    /// Its signature, which several may have.
     pub signature: Text,
+    /// How often it may run at once.
     pub mode: Mode,
-    /// 1 to 8.
+    /// How many loopers it has: 1 to 8.
     pub loopers: u32,
 }

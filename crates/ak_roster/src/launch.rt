@@ -17,8 +17,10 @@ use ak_turn::{Book, Clock};
 
 impl<D: Grant> RosterBook<D> {
     /// Starts the application of which `decide` answered so, in the same turn, with a door for each of its
-    /// loopers. Where a door tells its threads, main launches, and they are main, that looper, the team's first
-    /// looper and the keeper. `NoMemory` gives the doors back and makes no entry.
+    /// loopers, in their order. The word is a path or a signature, and the book is at rest. Where a door tells
+    /// its threads, main launches, and they are main, that looper, the team's first looper and the keeper. The
+    /// team and its loopers have the numbers that were decided. The launch is one entry. `NoMemory` gives the
+    /// doors back and makes none, and nothing changes. (The Be Book, The Application Kit, BRoster: Launch().)
     #[tactic(auto, using(crate::proofs::Launching::started_facts))]
     pub fn launch(&mut self, word: &AppWord, clock: &mut Clock, doors: Vec<D>) -> Launched<D>
         requires word { IsWord word.now }

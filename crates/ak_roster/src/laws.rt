@@ -14,7 +14,8 @@ pub fn no_team_returns()
     ensures gone { law.NoTeamReturns }
 {}
 
-/// At most one team of a path runs whose mode is single, and of a signature whose mode is exclusive.
+/// Of two running teams the later one has another path where its mode is single, and another signature where it
+/// is exclusive.
 pub fn modes_hold()
     ensures { law.ModesHold }
 {}

@@ -1,5 +1,5 @@
 //! Who runs, under which name and mode. The book of the roster has one history of launches, look-ups, ends of
-//! teams and doors that were given; each answer is the one that the machine of `specs/Machine.antt` gives at
+//! teams and doors that were given. Each answer is the one that the machine of `specs/Machine.antt` gives at
 //! its entry's place. The book also keeps a door for each started looper, and gives its parts to the threads
 //! that ask. Nothing here waits; threads share the book behind a turn lock.
 #![tactic(auto)]

@@ -4,12 +4,15 @@ pub const TEAM_LIMIT: u32 = 16;
 /// How many loopers may be started in a run.
 pub const LOOPER_LIMIT: u32 = 32;
 
-/// A team that runs: its number, from 1 on; the place of its description; the number of its first looper, over
-/// the whole run, from 0 on; and how many loopers it has.
+/// A team that runs.
 #[derive(Clone, Copy, Debug, PartialEq, Eq)]
 pub struct Running {
+    /// Its number, from 1 on; none is used again.
     pub team: u32,
+    /// The place of its description, counted from 0.
     pub description: u32,
+    /// The number of its first looper, from 0 on over the whole run; the others follow.
     pub first: u32,
+    /// How many loopers it has.
     pub loopers: u32,
 }

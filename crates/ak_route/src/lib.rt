@@ -1,6 +1,7 @@
 //! Routing: who of a looper's handlers gets a message, and as what. The first target, where the
 //! specifiers lead from there, what the filters make of it, and which handler of the chain takes it.
-//! It works in place, and has no answer for want of memory. Nothing here waits, and nothing is shared.
+//! It works in place, and has no answer for want of memory. Nothing here waits, and nothing is shared. (The
+//! Be Book, The Application Kit, BLooper, BMessageFilter and Scripting.)
 #![tactic(auto)]
 
 mod filtering;

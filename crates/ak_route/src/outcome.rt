@@ -3,12 +3,12 @@ ghost use Rattle.std.specs.Prelude.{◌≡◌, ◌≤◌, [], length};
 use ak_base::Text;
 use std::marker::Model;
 
-/// As what a handler takes a message.
+/// As what a handler takes a message: as the first of these that holds.
 #[derive(Clone, Copy, Debug, PartialEq, Eq)]
 pub enum Taker {
-    /// As a command on the property of that row of its table.
+    /// As a command on the property of that row of its table. Rows count from 0.
     Property(u32),
-    /// With its reaction at that place.
+    /// With its first reaction on the code, at that place. Reactions count from 0.
     Reaction(u32),
     /// As something that every handler, looper or application knows.
     BuiltIn,
@@ -17,19 +17,20 @@ pub enum Taker {
 /// Where a message goes.
 #[derive(Clone, Copy, Debug, PartialEq, Eq)]
 pub enum Route {
-    /// To the handler with that token.
+    /// To the handler with that token, which takes it as `taker` says.
     Deliver { token: u64, taker: Taker },
     /// A filter skipped it.
     Skipped,
-    /// Its handler is not there any more.
+    /// The handler whose token is its target is not there.
     Dropped,
+    /// Its specifiers lead nowhere, or no handler of the chain takes it.
     NotUnderstood,
-    /// To the looper at that place of the application.
+    /// To a later looper of the application, at that place among its loopers. The application's own has 0.
     Forward { looper: u32 },
 }
 
-/// Where a looper stands: of an application's own looper the names of the application's loopers, at most 8,
-/// of which the first is taken for the looper itself; of any other looper none. Contracts see these names.
+/// Where a looper stands. An application's own looper has the names of the application's loopers, at most 8,
+/// of which the first is taken for itself. Any other looper has none. Contracts see these names.
 #[derive(Debug, Drop)]
 pub struct Place<'a> {
     loopers: &'a [Text],
@@ -46,8 +47,8 @@ impl<'a> Model for Place<'a> {
 }
 
 impl<'a> Place<'a> {
-    /// An application's own looper, with the names of the application's loopers. Without names it is as
-    /// any other looper.
+    /// An application's own looper, with the names of the application's loopers in their order, at most 8.
+    /// Without names it is as any other looper. Takes no memory.
     pub fn own(loopers: &'a [Text]) -> Place<'a>
         requires { length loopers.now ≤ 8 }
         ensures { result ≡ loopers.entry.now }
@@ -55,7 +56,7 @@ impl<'a> Place<'a> {
         Place { loopers }
     }
 
-    /// Any other looper.
+    /// Any other looper. Takes no memory.
     pub fn other() -> Place<'a>
         ensures { result ≡ [] }
     {

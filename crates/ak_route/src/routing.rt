@@ -15,10 +15,12 @@ use ak_handler::{HandlerSet, LOOPER};
 use ak_message::{Message, Target};
 use ak_property::HandlerRow;
 
-/// The route of a message that came to a looper: `local` where its sender's team is the looper's, `dropped`
-/// where a user dropped it, and `first` is the target that it was sent to. What led on its way is popped,
-/// and it has the code that the filters gave it; where a filter skips it, its code stays. There is no
-/// answer for want of memory.
+/// The route of a message that came to a looper, whose handlers are `set` and whose common filters are
+/// `common`. `local` says that its sender's team is the looper's, and `dropped` that a user dropped it.
+/// `first` is the target that it was sent to, and `place` tells where the looper stands. What led on its way
+/// is popped, and it has the code that the filters gave it; where a filter skips it, its code stays. There is
+/// no answer for want of memory, and no refusal. (The Be Book, The Application Kit, BHandler:
+/// ResolveSpecifier().)
 pub fn route<R: HandlerRow + Drop>(
     set: &HandlerSet<R>,
     common: &FilterList,

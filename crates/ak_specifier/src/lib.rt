@@ -1,6 +1,7 @@
 //! The specifiers of a scripting message: which property of which handler it speaks of, and which of its
 //! elements. The last one added is current, and popping it makes the one added before it current.
-//! What `add_specifier` adds, `current` gives back. Nothing here waits, and nothing is shared.
+//! What `add_specifier` adds, `current` gives back. Nothing here waits, and nothing is shared. (The Be Book,
+//! The Application Kit, Scripting.)
 #![tactic(auto)]
 
 mod laws;

@@ -12,8 +12,8 @@ pub fn left(m: &Message) -> u32
     m.specifiers() - m.popped()
 }
 
-/// Pops the current specifier: the one added before it becomes current. `BadScript` where none is left.
-/// An `Err` changes nothing. Takes no memory.
+/// Pops the current specifier: the one added before it becomes current. `BadScript` where none is left. An
+/// `Err` changes nothing. Takes no memory. (The Be Book, The Application Kit, BMessage: PopSpecifier().)
 pub fn pop(m: &mut Message) -> Result<(), BadScript>
     ensures bad_script { IsErr result ↔ (left_of m.old ≡ 0) }
     ensures ok { OnOk result (m.new ≡ popped_once m.old) }

@@ -13,10 +13,11 @@ use ak_message::{AtRef, Kind, Message, SpecifierRef, Value};
 #[derive(Clone, Copy, Debug, PartialEq, Eq)]
 pub struct BadScript;
 
-/// The current specifier: the last one added that is not popped. Its code is the number of its form, and
-/// its fields are `property` (text) and by its form `index`, `range` (the count), `id` (32-bit numbers) and
-/// `name` (text); the first value of each counts, and other fields do not matter. `BadScript` where none is
-/// left, and where it is not of this form. Takes no memory.
+/// The current specifier: the last one added that is not popped. Its code is the number of its form. Its
+/// fields are `property`, a text, and those of its form: `index`, `range` (the count) and `id`, which are
+/// 32-bit numbers, and `name`, a text. The first value of each counts, and other fields do not matter.
+/// `BadScript` where none is left, and where it is not of this form. Takes no memory. (The Be Book, The
+/// Application Kit, BMessage: GetCurrentSpecifier().)
 pub fn current(m: &Message) -> Result<SpecifierRef<'_>, BadScript>
     ensures { option_map specifier_of (result_ok result) ≡ current_of m.now }
 {

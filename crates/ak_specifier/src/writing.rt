@@ -9,8 +9,9 @@ use ak_message::{
 use std::alloc::Global;
 
 /// Adds a specifier, which becomes the current one: none is popped any more. `BadType` where the field
-/// `specifiers` is not of messages, `FieldLimit` where it has 255 values, and where it is new and there are
-/// 64 fields; no other fault comes but `NoMemory`. An `Err` changes nothing, and the specifier is dropped.
+/// `specifiers` is not of messages. Then `FieldLimit` where it has 255 values, or where it is new and there
+/// are 64 fields. No other fault comes but `NoMemory`. An `Err` changes nothing, and the specifier is
+/// dropped. (The Be Book, The Application Kit, BMessage: AddSpecifier().)
 #[tactic(auto, using(crate::proofs::Last::added_is_current))]
 pub fn add_specifier(alloc: Global, m: &mut Message, s: Specifier) -> Result<(), AddFault>
     ensures refused { IfSome (specifier_fault m.old) (λ f. result ≡ Err f) }

@@ -1,5 +1,5 @@
 -- Calls of one seat, one after another, and what a thread made in all.
-use Rattle.std.proofs.Common.{◌≡◌, ◌≢◌, ℕ, Bool, true, false, List, [], ◌∷◌, ◌++◌, length, cond, filter, All, sym, ap, ◌∙◌, subst, append_assoc, append-nil, eq-eqb, ne_eqb, refl, arith, Contains}
+use Rattle.std.proofs.Common.{◌≡◌, ◌≢◌, ℕ, List, [], ◌∷◌, ◌++◌, length, cond, sym, ap, ◌∙◌, subst, append_assoc, append-nil, eq-eqb, ne_eqb, refl, arith, Contains}
 use Rattle.std.proofs.lemmas.List.Elements.{All-append, All-contains, All-head, All-tail, Contains-append_left, Contains-append_right, filter-append}
 use Rattle.ak_turn.specs.declared.view.Part.{Part}
 use Rattle.ak_turn.specs.Lines.{AreByOthers, made_by, places}

@@ -10,4 +10,5 @@ pub mod Joining
 pub mod Starting
 pub mod Locking
 pub mod Finishing
+pub mod Knowing
 pub mod Calls

@@ -21,7 +21,9 @@ module _ {B O L : Type 0} (opening : B → O) (lines : B → List L) (at_rest : 
       let base : KnowsWhole by (seat_seen lock (staged (HasTurn ticket) (fronted (lines t.book) v))) = record {
         own = t.shown.me.all_own;
         joined = t.shown.joined;
+        apart = t.shown.apart;
         names = if_some v.names (λ names. All (λ line. Contains names (by line)) (lines t.book)) t.shown.names;
+        named = if_some v.names (λ names. Contains names v.me.thread) t.shown.named;
       } in (
         record {
           between = t.between;

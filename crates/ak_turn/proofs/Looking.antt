@@ -50,7 +50,9 @@ module _ {B O L : Type 0} (opening : B → O) (lines : B → List L) (at_rest : 
       record {
         me = know v.me live.me;
         joined = λ k d lt. know (get_or v.joined k d) (live.joined k d lt);
+        apart = live.apart;
         names = λ names is. subst (λ (ns : List ℕ). All (λ line. Contains ns (by line)) l) (sym (live.names names is).0) (all l told);
+        named = λ names is. subst (λ (ns : List ℕ). Contains ns v.me.thread) (sym (live.names names is).0) live.me.named;
       }
 
   -- the seat has the turn

@@ -1,5 +1,5 @@
 -- What contracts see of a seat, of a lock and of a turn.
-use Rattle.std.specs.Prelude.{◌≡◌, ◌⊎◌, ℕ, Bool, true, false, List, [], ◌∷◌, ◌++◌, length, All, Contains, Option, Some, IfSome}
+use Rattle.std.specs.Prelude.{◌≡◌, ◌≢◌, ◌⊎◌, ℕ, Bool, true, false, List, [], ◌∷◌, ◌++◌, length, All, Contains, Option, Some, IfSome}
 use Rattle.atomic_table.specs.Seated.{TableId}
 use Rattle.ak_turn.specs.declared.view.Part.{Part}
 use Rattle.ak_turn.specs.Lines.{AreByOthers, made_by, places}
@@ -82,11 +82,13 @@ module _ {O L : Type 0} where
 
   -- What a seat with the turn knows of the whole list, which is its front. The entries there by its thread are just its own, at their
   -- places, in their order; the same holds of each thread that was joined to it, of which the list goes on from what was known; and
-  -- where the seat is the head, each entry is by one of the names
+  -- where the seat is the head, each entry is by one of the names. None of the joined threads is the seat's own, which is among the names
   pub record KnowsWhole (by : L → ℕ) (seat : SeatData O L) : Type 0 where
     pub own : seat.own ≡ places by seat.thread seat.front
     pub joined : All (IsKnown by seat.front) seat.joined
+    pub apart : All (λ part. seat.thread ≢ part.thread) seat.joined
     pub names : IfSome seat.names (λ names. All (λ line. Contains names (by line)) seat.front)
+    pub named : IfSome seat.names (λ names. Contains names seat.thread)
 
   -- what a turn may leave: the list as the seat has seen it, or with one entry more, by the seat's thread
   abbrev pub IsNext : (L → ℕ) → SeatData O L → List L → Type 0

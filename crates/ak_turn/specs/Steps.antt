@@ -53,11 +53,13 @@ module _ {O L : Type 0} where
   }
 
   -- the list goes on from all fronts that the seat knows, has of each of its threads just the lines that it knows as that thread's,
-  -- and where the seat has the names, each line is by one of them
+  -- and where the seat has the names, each line is by one of them; none of the joined threads is its own, which is among the names
   pub record IsShown (by : L → ℕ) (v : View O L) (lines : List L) : Type 0 where
     pub me : IsKnown by lines v.me
     pub joined : All (IsKnown by lines) v.joined
+    pub apart : All (λ part. v.me.thread ≢ part.thread) v.joined
     pub names : (names : List ℕ) → v.names ≡ Some names → All (λ line. Contains names (by line)) lines
+    pub named : (names : List ℕ) → v.names ≡ Some names → Contains names v.me.thread
 
 -- a seat at the table: what it knows, and the slots that it holds
 abbrev pub Sat : Type 0 → Type 0 → Type 0 → Type 0

@@ -7,10 +7,13 @@ use ak_base::NoMemory;
 /// changes, and a list of lines, one for each entry, oldest first. A line may hold more than its entry.
 /// No value of an opening or a line need exist.
 pub trait Book: Drop {
+    /// What the journal shows of one thing done: its stamp, the thread that did it, what it was.
     type Entry;
 
+    /// What no call changes of the object.
     type Opening;
 
+    /// An entry, and what is kept beside it.
     type Line;
 
     ghost opening: { Self → Self.Opening };
@@ -33,7 +36,8 @@ pub trait Book: Drop {
     fn len(&self) -> u64
         ensures { result ≡ length (lines self.now) };
 
-    /// A copy of the entry at that place, the oldest at 0. `None` from `len` on.
+    /// A copy of the entry at that place, the oldest at 0. `None` from `len` on; `NoMemory` where memory ran
+    /// out.
     fn entry(&self, place: u64) -> Result<Option<Self::Entry>, NoMemory>
         ensures { IfOk result (λ entry. entry ≡ option_map plain (slice_get (lines self.now) place)) };
 }

@@ -1,8 +1,8 @@
-//! Turns of a shared object. An object is a book of the entries that threads made, which stand in one list;
-//! each has a stamp by its thread's clock and the object's last stamp. A thread has a seat at the object's
-//! lock: at its turn it has the book, and knows the whole list, in which the entries by its thread are just
-//! those that it made. The list has one history, of which every seat has seen a beginning. `lock`, `ready`
-//! and `wait_past` may wait; that a wait ends is not promised.
+//! Turns of a shared object. An object is a book of the entries that threads made, which stand in one list.
+//! Each has a stamp by its thread's clock and the object's last stamp. A thread has a seat at the object's
+//! lock. At its turn it has the book and knows the whole list, in which the entries by its thread are just
+//! those that it made. The list has one history, of which every seat has seen a beginning. `lock`, `ready` and
+//! `wait_past` may wait; that a wait ends is not promised.
 #![tactic(auto)]
 
 mod book;

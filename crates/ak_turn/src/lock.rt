@@ -1,4 +1,4 @@
-ghost use Rattle.std.specs.Prelude.{◌≡◌, ◌<◌, ◌^◌, All, None, Some, IfOk, false};
+ghost use Rattle.std.specs.Prelude.{◌≡◌, ◌≢◌, ◌<◌, ◌^◌, All, None, Some, IfOk, false};
 ghost use Rattle.std.specs.Arc.{arc_value};
 ghost use Rattle.ak_turn.specs.Lines.{last_stamp_of, maker, places};
 ghost use Rattle.ak_turn.specs.Seats.{IsGiven, KnowsWhole, first_seat, new_seat, titled_seat, joined_seat};
@@ -18,8 +18,8 @@ use std::snapshot::Snapshot;
 use std::sync::atomic::AtomicU64;
 use std::sync::{Arc, Wait};
 
-/// The lock of one object. Threads take turns, in the order of the tickets that they draw; a thread that asks while
-/// others have tickets may first sleep a few times. The thread whose turn it is has the object's book.
+/// The lock of one object. Threads take turns, in the order of the tickets that they draw. A thread that asks
+/// while others have tickets may first sleep a few times. The thread whose turn it is has the object's book.
 #[derive(Drop)]
 pub struct TurnLock<B: Book> {
     pub(crate) board: Board<B>,
@@ -50,6 +50,8 @@ fn number_of(thread: ThreadId) -> u32
 
 impl<B: Book> TurnLock<B> {
     /// A lock for that book, and its first seat, for that thread. It is the head, and all entries are its own.
+    /// The book is at rest, and has entries by that thread alone. `NoMemory` where memory ran out; the book is
+    /// let go then.
     pub fn new(
         alloc: Global,
         book: B,
@@ -80,9 +82,11 @@ impl<B: Book> TurnLock<B> {
         Ok((lock, Seat { place, seen }))
     }
 
-    /// Waits for the seat's turn, and gives it the book. The book's list goes on from the seat's front by
-    /// entries of other threads; the seat has seen them all. It returns only where the last stamp is below
-    /// 2^63. Takes no memory.
+    /// Waits for the seat's turn, and gives it the book. The seat is one of this lock, and has no turn. The
+    /// book is at rest, and its list goes on from the seat's front by entries of other threads; the seat has
+    /// seen them all. The entries by the seat's thread are just its own, and so of each seat that was joined to
+    /// it. Of the head each entry is by one of its names. It returns only where the last stamp is below 2^63.
+    /// Takes no memory.
     // Part of its caller, as `finish` is: a turn that nobody waits for takes less time where the book is not moved about in memory.
     #[inline(always)]
     pub fn lock<'a, R: Wait>(&'a self, rt: &R, seat: &mut Seat<B>) -> Turn<'a, B>
@@ -108,13 +112,17 @@ impl<B: Book> TurnLock<B> {
         Turn { lock: self, book }
     }
 
-    /// Waits while the object has just so many entries as `seen`, which a seat tells. Takes no memory.
-    pub fn wait_past<R: Wait>(&self, rt: &R, seen: u64) {
-        rest_for_entry(rt, &self.board.shared, &self.watchers, seen);
+    /// Waits while the object has just so many entries as `seen`, which a seat tells, and answers the other
+    /// number that it found. It looks without a seat, so no seat knows more after it. Takes no memory.
+    pub fn wait_past<R: Wait>(&self, rt: &R, seen: u64) -> u64
+        ensures { result ≢ seen }
+    {
+        rest_for_entry(rt, &self.board.shared, &self.watchers, seen)
     }
 
     /// A seat for a new thread. It has seen as much as the seat, and none of the entries is its own. The seat
-    /// stays the head. Takes no memory.
+    /// stays the head. It is the head of this lock, without a turn, and the thread is none of its names. Takes
+    /// no memory.
     pub fn split(&self, seat: &mut Seat<B>, thread: ThreadId) -> Seat<B>
         requires of { seat.old.lock ≡ self.now }
         requires idle { seat.old.turn ≡ false }
@@ -148,8 +156,9 @@ impl<B: Book> TurnLock<B> {
         }
     }
 
-    /// The seat knows what both knew: at its next turn the list goes on from both fronts, and what the other
-    /// made is all that there is by its thread. It is the head where one of the two was. Takes no memory.
+    /// The seat knows what both knew. At its next turn the list goes on from both fronts, and what the other
+    /// made is all that there is by its thread. It is the head where one of the two was. Both are seats of this
+    /// lock, and neither has a turn. Takes no memory.
     pub fn join(&self, seat: &mut Seat<B>, other: Seat<B>)
         requires of { (seat.old.lock ≡ self.now) × (other.lock ≡ self.now) }
         requires idle { seat.old.turn ≡ false }

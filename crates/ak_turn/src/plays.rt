@@ -11,10 +11,13 @@ use std::snapshot::Snapshot;
 /// What the table is told when it is made. No value of it is kept.
 #[derive(Drop)]
 pub struct Start<B> {
+    /// The book as it is put in.
     pub book: Snapshot<B>,
+    /// The number of the first seat's thread.
     pub thread: u32,
 }
 
+/// The rule of a lock's table: `Kept` says what holds between any two steps.
 pub struct TurnRule<B> {
     book: PhantomData<B>,
 }

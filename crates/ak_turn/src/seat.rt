@@ -4,8 +4,9 @@ use crate::book::Book;
 use crate::plays::Place;
 use std::marker::Model;
 
-/// A thread's seat at a lock. It knows the object's opening; a beginning of the object's history that it has
-/// seen, its front; which entries there are its own; and, of the head, the threads that have had a seat.
+/// A thread's seat at a lock. It knows the object's opening, and its front, which is the beginning of the
+/// object's history that it has seen. It knows which entries there are its own. The head also knows the names,
+/// which are the threads that have had a seat.
 #[derive(Drop)]
 pub struct Seat<B: Book> {
     pub(crate) place: Place<B>,

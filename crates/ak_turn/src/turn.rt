@@ -1,7 +1,7 @@
 ghost use Rattle.std.specs.Prelude.{◌≡◌, ◌++◌, ◌∷◌, [], Some, true};
 ghost use Rattle.std.specs.Borrow.{sem};
 ghost use Rattle.ak_turn.specs.Lines.{maker};
-ghost use Rattle.ak_turn.specs.Seats.{at_leisure, entered_by, IsNext};
+ghost use Rattle.ak_turn.specs.Seats.{at_leisure, entered_by, IsNext, KnowsWhole};
 
 use crate::book::Book;
 use crate::lock::TurnLock;
@@ -29,7 +29,7 @@ impl<'a, B: Book> Model for Turn<'a, B> {
 impl<'a, B: Book> Turn<'a, B> {
     ghost use Rattle.ak_turn.specs.Lending.{lends_book};
 
-    /// The object's book. Takes no memory.
+    /// The object's book, to read it and to make an entry. Takes no memory.
     pub fn book(&mut self) -> &mut B
         ensures* writes_back { sem 𝓛 (lends_book B.row B.Entry.row B.Opening.row B.Line.row B.Book self.entry result) }
         ensures value { result.now ≡ self.old.book }
@@ -37,8 +37,9 @@ impl<'a, B: Book> Turn<'a, B> {
         &mut self.book
     }
 
-    /// Gives the book back, with a new entry or as it was, and passes the turn on. The seat has then seen the
-    /// whole list. Takes no memory.
+    /// Gives the book back, with one new entry by the seat's thread or as it was, and passes the turn on. The
+    /// seat is the one that has the turn; the book is at rest, with its opening. The seat has then seen the
+    /// whole list, and knows of it what it knew at the turn. Waits for nothing. Takes no memory.
     #[inline(always)]
     pub fn finish(self, seat: &mut Seat<B>)
         requires of { seat.old.lock ≡ self.lock }
@@ -48,6 +49,7 @@ impl<'a, B: Book> Turn<'a, B> {
         requires list { IsNext (maker B.plain B.by) seat.old (B.lines self.book) }
         ensures same { B.lines self.entry.book ≡ seat.old.front → seat.new ≡ at_leisure seat.old }
         ensures entered { (line : B.Line) → B.lines self.entry.book ≡ seat.old.front ++ line ∷ [] → seat.new ≡ at_leisure (entered_by seat.old line) }
+        ensures known { KnowsWhole (maker B.plain B.by) seat.old → KnowsWhole (maker B.plain B.by) seat.new }
     {
         let Turn { lock, book } = self;
         let common = &lock.board.shared;
@@ -61,7 +63,8 @@ impl<'a, B: Book> Turn<'a, B> {
         wake(common, &lock.watchers, &lock.sleepers, served, is_longer);
     }
 
-    /// Gives the book out, and never passes the turn on. Takes no memory.
+    /// Gives the book out, and never passes the turn on: threads that ask for a turn then wait for ever. Takes
+    /// no memory.
     pub fn keep(self) -> B
         ensures { result ≡ self.entry.book }
     {

@@ -1,5 +1,5 @@
 //! How a thread waits. No clause depends on it, and nobody burns a processor.
-ghost use Rattle.std.specs.Prelude.{◌<◌};
+ghost use Rattle.std.specs.Prelude.{◌<◌, ◌≢◌};
 ghost use Rattle.ak_turn.specs.Steps.{IsWide};
 
 use crate::book::Book;
@@ -134,23 +134,35 @@ pub(crate) fn wake<B: Book>(
     }
 }
 
-// Waits while the count of entries is that number. Whoever waits is counted.
+// Looks at the count of entries, and parks, as long as it is that number. Answers the other one that was found.
+fn count_past<B: Book, R: Wait>(rt: &R, common: &Common<B>, seen: u64) -> u64
+    requires { IsWide common.now.table_id }
+    ensures { result ≢ seen }
+{
+    for _ in rt.forever() {
+        let count = common.peek(COUNT);
+        if count != seen {
+            return count;
+        }
+        common.park(rt, COUNT, low(seen));
+    }
+    unreachable!()
+}
+
+// Waits while the count of entries is that number, and answers the other one that was found. Whoever waits is counted.
 pub(crate) fn rest_for_entry<B: Book, R: Wait>(
     rt: &R,
     common: &Common<B>,
     watchers: &AtomicU64,
     seen: u64,
-)
+) -> u64
     requires { IsWide common.now.table_id }
+    ensures { result ≢ seen }
 {
     watchers.fetch_add(1, SeqCst);
-    for _ in rt.forever() {
-        if common.peek(COUNT) != seen {
-            break;
-        }
-        common.park(rt, COUNT, low(seen));
-    }
+    let count = count_past(rt, common, seen);
     watchers.fetch_sub(1, SeqCst);
+    count
 }
 
 // Never returns.

@@ -1,15 +1,15 @@
 -- What a message brings as the value of a command.
-use Rattle.std.proofs.Common.{◌≡◌, ◌≢◌, ℕ, zero, suc, ◌<◌, Bool, true, false, cond, ◌⊎◌, inl, inr, List, [], ◌∷◌, length, codes, find, Option, None, Some, Result, Ok, Err, slice_get, refl, ap, sym, subst, ◌∙◌, arith, tests}
+use Rattle.std.proofs.Common.{◌≡◌, ◌≢◌, ◌<◌, Bool, true, false, cond, List, [], ◌∷◌, length, codes, find, Option, None, Some, Result, Ok, Err, slice_get, refl, ap, sym, subst, ◌∙◌, arith, tests}
 use Rattle.std.specs.List.{All}
 use Rattle.std.proofs.lemmas.Bool.{false≢true}
 use Rattle.std.proofs.lemmas.List.Elements.{All-head, All-tail}
 use Rattle.ak_message.specs.declared.kind.Kind.{Kind}
 use Rattle.ak_message.specs.Kind.{is_same_kind, same_kind-is}
 use Rattle.ak_message.specs.Message.{ValueData, FieldData, MessageData, kind_of}
-use Rattle.ak_message.specs.Fields.{is_named, field_named, value_in, IsField, IsMessage}
+use Rattle.ak_message.specs.Fields.{is_named, value_in, IsField, IsMessage}
 use Rattle.ak_value.specs.declared.fault.ElementFault.{ElementFault}
 use Rattle.ak_value.specs.declared.fault.ElementFault.TheVariants as fault
-use Rattle.ak_value.specs.Access.{data_of, data_found, data_field, then_do}
+use Rattle.ak_value.specs.Access.{data_of, data_found, data_field}
 
 -- what is found is one of them
 behind : {X : Type 0} (P : X → Type 0) (x y : X) (b : Bool) (rest : Option X) → cond b (Some x) rest ≡ Some y → P x → (rest ≡ Some y → P y) → P y

@@ -1,18 +1,17 @@
 -- Each refusal comes exactly where its cause holds.
-use Rattle.std.proofs.Common.{◌≡◌, ◌≢◌, ◌↔◌, ℕ, Bool, true, false, cond, eqb, List, codes, Option, None, Some, Result, Ok, Err, ok_or, IfOk, IfErr, IsErrOf, IsOkUnless, refl, ap, sym, subst, ◌∙◌, arith, tests}
+use Rattle.std.proofs.Common.{◌≡◌, ◌≢◌, ◌↔◌, ℕ, Bool, true, false, cond, eqb, Option, None, Some, Result, Ok, Err, ok_or, IfOk, IfErr, IsErrOf, IsOkUnless, refl, ap, sym, subst, ◌∙◌, arith}
 use Rattle.std.proofs.lemmas.Bool.{false≢true, eqb-true}
-use Rattle.ak_base.specs.Code.{code_of}
 use Rattle.ak_message.specs.declared.specifier.At.{At}
 use Rattle.ak_message.specs.declared.specifier.At.TheVariants as at
-use Rattle.ak_message.specs.Message.{ValueData, FieldData, MessageData}
+use Rattle.ak_message.specs.Message.{ValueData, MessageData}
 use Rattle.ak_message.specs.Fields.{IsMessage}
 use Rattle.ak_value.specs.declared.fault.ElementFault.{ElementFault}
 use Rattle.ak_value.specs.declared.fault.ElementFault.TheVariants as fault
 use Rattle.ak_value.specs.Elements.{ElementsData}
 use Rattle.ak_value.specs.Choice.{Part, part_of, chosen, choice_fault}
-use Rattle.ak_value.specs.Access.{Accessed, access_of, carried_out, has_form, is_name, gets, sets, counts, creates, deletes, needs_data, chooses, data_of, data_field, has_room, HasData, Refuses, then_do, on_chosen, set_chosen, get, set, delete, count, create, name_of}
+use Rattle.ak_value.specs.Access.{Accessed, access_of, has_form, is_name, chooses, data_of, has_room, HasData, Refuses, then_do, on_chosen, set_chosen, get, set, delete, count, create, name_of}
 use Rattle.ak_value.specs.Laws.{OneCause}
-use Rattle.ak_value.proofs.Bringing.{no_data, other_data, same_data, IsBrought, DataCase, no_field, other_kind, same_kind, data_cases}
+use Rattle.ak_value.proofs.Bringing.{no_data, other_data, same_data, no_field, other_kind, same_kind, data_cases}
 
 -- ---- the choice
 module _ (F : Part → Accessed) where

@@ -1,9 +1,10 @@
 -- A search in the code's elements is the search in what contracts see of them, and no element has a number below zero as its id.
-use Rattle.std.proofs.Common.{◌≡◌, ℕ, ℤ, pos, negsuc, ◌+◌, ◌-◌, ◌<◌, ◌≤◌, Bool, true, false, cond, ltb, List, [], ◌∷◌, length, map, Option, None, Some, refl, ap, arith, tests}
+use Rattle.std.proofs.Common.{◌≡◌, ℕ, ℤ, pos, negsuc, Bool, List, [], ◌∷◌, length, map, None, refl, arith, tests}
 use Rattle.std.specs.List.{position_or_len, position}
 use Rattle.std.proofs.lemmas.List.{length-map}
 use Rattle.ak_value.specs.Elements.{ElementData}
 use Rattle.ak_value.specs.Choice.{has_id, whole_of}
+use Rattle.ak_value.specs.Laws.{NoneBelowZero}
 
 position_or_len-map : {A B : Type 0} (p : B → Bool) (f : A → B) (xs : List A) → position_or_len p (map f xs) ≡ position_or_len (λ x. p (f x)) xs
 position_or_len-map p f [] = refl
@@ -19,3 +20,7 @@ passes_none n (x ∷ xs) = omega (arith, passes_none n xs)
 pub no_such_id : (id : ℤ) (xs : List ElementData) → whole_of id ≡ None → position (has_id id) xs ≡ None
 no_such_id (pos n) xs e = absurd cc
 no_such_id (negsuc n) xs e = rw (passes_none n xs) (grind (arith, tests))
+
+pub none_below_zero : NoneBelowZero
+none_below_zero list i (pos n) = grind (arith, no_such_id (negsuc i) list refl)
+none_below_zero list i (negsuc n) = grind (arith, no_such_id (negsuc i) list refl)

@@ -1,13 +1,13 @@
 -- Described elements have what is always true of elements.
-use Rattle.std.proofs.Common.{◌≡◌, ℕ, zero, suc, ◌+◌, ◌<◌, ◌≤◌, List, [], ◌∷◌, ◌++◌, length, get_or, map, refl, ap, sym, subst, ◌∙◌, arith}
-use Rattle.std.specs.List.{All, AllPairs}
+use Rattle.std.proofs.Common.{◌≡◌, ℕ, zero, suc, ◌+◌, ◌<◌, ◌≤◌, List, [], ◌∷◌, length, get_or, refl, ap, arith}
+use Rattle.std.specs.List.{All}
 use Rattle.std.proofs.lemmas.List.{length-map}
 use Rattle.std.proofs.lemmas.List.Elements.{All-map}
 use Rattle.ak_message.specs.declared.kind.Kind.{Kind}
 use Rattle.ak_message.specs.declared.message.Value.{Value}
 use Rattle.ak_message.specs.Message.{ValueData, kind_of}
 use Rattle.ak_message.specs.Seen.{value_of}
-use Rattle.ak_value.specs.Elements.{ElementData, ElementsData, IsElements, numbered, described}
+use Rattle.ak_value.specs.Elements.{ElementData, IsElements, numbered, described}
 use Rattle.ak_value.specs.Seen.{pairs_of}
 
 length-numbered : (id : ℕ) (xs : List (List ℕ × ValueData)) → length (numbered id xs) ≡ length xs

@@ -1,13 +1,13 @@
 -- Each command keeps what is always true of elements.
-use Rattle.std.proofs.Common.{◌≡◌, ℕ, zero, suc, ◌+◌, ◌-◌, ◌<◌, ◌≤◌, Bool, true, List, [], ◌∷◌, ◌++◌, length, get_or, map, take, drop, refl, ap, sym, subst, ◌∙◌, arith, tests}
-use Rattle.std.specs.List.{All, AllPairs, remove, slice_range}
-use Rattle.std.proofs.lemmas.List.{length-map, length-append, length-take, length-drop, length_push, get_or-map, map-append, drop-drop, take-append-drop}
-use Rattle.std.proofs.lemmas.List.Edits.{remove-append_right, split_between}
-use Rattle.std.proofs.lemmas.List.Elements.{All-append, All-take, All-drop, All-push, All-map, All-weaker, All-head, All-tail, All-cons}
+use Rattle.std.proofs.Common.{◌≡◌, ℕ, zero, suc, ◌+◌, ◌<◌, ◌≤◌, true, List, [], ◌∷◌, ◌++◌, length, get_or, map, take, drop, refl, ap, sym, subst, ◌∙◌, arith, tests}
+use Rattle.std.specs.List.{All, AllPairs}
+use Rattle.std.proofs.lemmas.List.{length-map, length_push, get_or-map, map-append}
+use Rattle.std.proofs.lemmas.List.Edits.{split_between}
+use Rattle.std.proofs.lemmas.List.Elements.{All-append, All-take, All-drop, All-push, All-map, All-tail, All-cons}
 use Rattle.std.proofs.lemmas.List.Quantifiers.{all_pairs_push, all_pairs_remove}
 use Rattle.ak_message.specs.declared.kind.Kind.{Kind}
 use Rattle.ak_message.specs.Message.{ValueData, kind_of}
-use Rattle.ak_value.specs.Elements.{ElementData, ElementsData, IdsRise, IsElements, with_first}
+use Rattle.ak_value.specs.Elements.{ElementData, ElementsData, IsElements, with_first}
 use Rattle.ak_value.specs.Choice.{Part, elements_in, with_part}
 use Rattle.ak_value.specs.Access.{with_value, has_room, create}
 use Rattle.ak_value.proofs.Parts.{without, without_none, without_more, length-without}

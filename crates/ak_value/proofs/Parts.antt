@@ -1,14 +1,13 @@
 -- Parts of a list that are removed or written element by element.
-use Rattle.std.proofs.Common.{◌≡◌, ℕ, zero, suc, ◌+◌, ◌-◌, ◌<◌, ◌≤◌, List, [], ◌∷◌, ◌++◌, length, get_or, set, map, take, drop, refl, ap, sym, subst, ◌∙◌, arith, tests}
+use Rattle.std.proofs.Common.{◌≡◌, ℕ, ◌+◌, ◌-◌, ◌<◌, ◌≤◌, List, [], ◌∷◌, ◌++◌, length, get_or, set, map, take, drop, refl, ap, sym, ◌∙◌, arith}
 use Rattle.std.specs.List.{remove, slice_range}
 use Rattle.std.proofs.lemmas.List.{length-append, length-drop, length-take-le, drop-drop, take-append-drop, map-append, take-map, drop-map, length-map, drop_more, append_assoc, get_or_at, get_or-map, set_at, map-set, map_push}
 use Rattle.std.proofs.lemmas.List.Edits.{remove-append_right, between_none, between_more, length-between}
 use Rattle.ak_value.specs.declared.elements.Element.{Element}
 use Rattle.ak_message.specs.Message.{ValueData}
 use Rattle.ak_message.specs.Seen.{value_of}
-use Rattle.ak_value.specs.Elements.{ElementData}
 use Rattle.ak_value.specs.Access.{with_value}
-use Rattle.ak_value.specs.Choice.{part, elements_in, with_part}
+use Rattle.ak_value.specs.Choice.{part, with_part}
 use Rattle.ak_value.specs.Seen.{element_of, elements_of_list}
 
 module _ {X : Type 0} where

@@ -1,10 +1,9 @@
 -- Which elements a form chooses: a part of the list, by where it begins and how many it has.
-use Rattle.std.specs.Prelude.{◌≡◌, ℕ, ℤ, pos, negsuc, ◌+◌, ◌-◌, ◌==◌, Bool, false, ◌&&◌, nat_le, nat_lt, if◌then◌else◌, List, ◌++◌, length, map, take, drop, Option, None, Some, option_map, option_and_then, Result, Ok, Err, ok_or}
+use Rattle.std.specs.Prelude.{ℕ, ℤ, pos, negsuc, ◌+◌, ◌-◌, ◌==◌, Bool, false, ◌&&◌, nat_le, if◌then◌else◌, List, ◌++◌, length, take, drop, Option, None, Some, option_map, option_and_then, Result, ok_or}
 use Rattle.std.specs.List.{position, slice_range}
 use Rattle.std.specs.Str.{bytes_eq}
 use Rattle.ak_message.specs.declared.specifier.At.{At}
 use Rattle.ak_message.specs.declared.specifier.At.TheVariants as at
-use Rattle.ak_message.specs.Message.{ValueData}
 use Rattle.ak_value.specs.declared.fault.ElementFault.{ElementFault}
 use Rattle.ak_value.specs.declared.fault.ElementFault.TheVariants as fault
 use Rattle.ak_value.specs.Elements.{ElementData}

@@ -29,15 +29,17 @@ ReverseRangeIsForward =
     → elements_of list (at.ReverseRange (pos (i + count)) (pos count))
     ≡ option_map reverse (elements_of (reverse list) (at.Range (pos i) (pos count)))
 
--- it counts from 1, and no form chooses by a number below zero
+-- it counts from 1, and no form chooses by an index, a count or an id below zero
 abbrev pub CountsFromOne : Type 0
 CountsFromOne = (list : List ElementData) → part_of list (at.Reverse (pos 0)) ≡ None
 
 abbrev pub NoneBelowZero : Type 0
 NoneBelowZero =
-    (list : List ElementData) (i : ℕ) (count : ℤ)
+    (list : List ElementData) (i : ℕ) (other : ℤ)
     → (part_of list (at.Index (negsuc i)) ≡ None) × (part_of list (at.Reverse (negsuc i)) ≡ None)
-    × (part_of list (at.Range (negsuc i) count) ≡ None) × (part_of list (at.ReverseRange (negsuc i) count) ≡ None)
+    × (part_of list (at.Range (negsuc i) other) ≡ None) × (part_of list (at.Range other (negsuc i)) ≡ None)
+    × (part_of list (at.ReverseRange (negsuc i) other) ≡ None) × (part_of list (at.ReverseRange other (negsuc i)) ≡ None)
+    × (part_of list (at.Id (negsuc i)) ≡ None)
 
 -- no reverse range has more elements than there are from its index on
 abbrev pub ReverseRangeEnds : Type 0

@@ -30,7 +30,8 @@ impl Elements {
     ///
     /// `Direct` chooses the first element. The name of a new one is that of the form, else the first text of
     /// the message's field `name`, else empty. The faults are tested in the order of `ElementFault`. An `Err`
-    /// changes nothing.
+    /// changes nothing. `NoMemory` comes last. `PSET` and `PDEL` answer `None`. A count and an id are an
+    /// `Int32`. (The Be Book, The Application Kit, Scripting.)
     pub fn access(
         &mut self,
         what: Code,

@@ -24,8 +24,9 @@ pub(crate) struct Element {
     pub(crate) value: Value,
 }
 
-/// The elements of a property, all of one kind, in the order in which they were created. Each has an id,
-/// from 1 up, that no other one had before it.
+/// The elements of a property, at most 64 and all of one kind, in the order in which they were created. Each
+/// has a name, which may be empty, and an id, from 1 up, that no other one had before it. Contracts see the
+/// kind, the list and the next id.
 #[derive(Drop)]
 pub struct Elements {
     pub(crate) kind: Kind,
@@ -50,7 +51,7 @@ impl Elements {
     ghost use Rattle.ak_value.specs.Elements.{IsElements};
 
     /// The elements of these names and values, at most 64 and each of that kind, with the ids 1, 2 and so
-    /// on. An element without a name has the empty one.
+    /// on. An element without a name has the empty one. `NoMemory` where memory ran out.
     pub fn new(alloc: Global, kind: Kind, list: Vec<(Text, Value)>) -> Result<Elements, NoMemory>
         requires limit { length list.items ≤ 64 }
         requires same_kind { All (λ x. kind_of (value_of x.1) ≡ kind) list.items }
@@ -75,7 +76,7 @@ impl Elements {
 
     /// Adds an element at the end, with the next id; one without a name has the empty one. `BadType` where the
     /// value is of another kind, and then `ElementLimit` where there are 64 elements or no id is left. An
-    /// `Err` changes nothing, and the name and the value are dropped.
+    /// `Err` changes nothing, and the name and the value are dropped. `NoMemory` comes last.
     pub fn add(&mut self, name: Text, value: Value) -> Result<(), ElementFault>
         ensures refused { IfSome (add_fault self.old (kind_of (value_of value))) (λ f. result ≡ Err f) }
         ensures only { IfNone (add_fault self.old (kind_of (value_of value))) (IsOkUnless result ElementFault.NoMemory) }
@@ -101,7 +102,7 @@ impl Elements {
         self.list.len() < ELEMENT_LIMIT && self.next_id < ID_LIMIT
     }
 
-    /// Equal elements, with the same ids and the same next one.
+    /// Equal elements, with the same ids and the same next one. `NoMemory` where memory ran out.
     pub fn try_clone(&self) -> Result<Elements, NoMemory>
         ensures { IfOk result (λ e. e ≡ self.now) }
     {

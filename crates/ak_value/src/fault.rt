@@ -16,6 +16,7 @@ pub enum ElementFault {
     BadIndex,
     /// There are 64 elements, or no id is left.
     ElementLimit,
+    /// Memory ran out.
     NoMemory,
 }
 

@@ -7,8 +7,8 @@ pub fn chosen_lie_within()
     ensures { law.ChosenLieWithin }
 {}
 
-/// The reverse forms choose what the forward forms choose on the reversed list, from 1 on. No form chooses
-/// by a number below zero.
+/// The reverse forms choose what the forward forms choose on the reversed list, from 1 on. No form chooses by
+/// an index, a reverse index, a count or an id below zero.
 pub fn reverse_counts_from_the_end()
     ensures index { law.ReverseIsForward }
     ensures range { law.ReverseRangeIsForward }
@@ -17,8 +17,8 @@ pub fn reverse_counts_from_the_end()
     ensures below_zero { law.NoneBelowZero }
 {}
 
-/// Whatever commands are carried out, the ids rise from 1 up and are below the next one, which never falls,
-/// and no id is given twice.
+/// Whatever commands are carried out, the ids rise from 1 up and are below the next one, which never falls.
+/// No id is given twice.
 pub fn ids_are_never_used_again()
     ensures rising { law.IdsStayRising }
     ensures once { law.NoIdIsUsedAgain }

@@ -1,6 +1,6 @@
 //! The elements of a property: values of one kind, each with a name and an id that is never used again.
 //! A scripting command gets, sets, counts, creates or deletes those that the form of its specifier
-//! chooses. Nothing here waits, and nothing is shared.
+//! chooses. Nothing here waits, and nothing is shared. (The Be Book, The Application Kit, Scripting.)
 #![tactic(auto)]
 
 mod access;

@@ -5,7 +5,7 @@ ghost use Rattle.ak_action.specs.Interp.{AnswersFind};
 ghost use Rattle.ak_action.specs.Opening.{FitsPlace, contains};
 ghost use Rattle.ak_desk.specs.Desk.{stamp_in, DeskAwaits, DeskMayWant, DeskTakes};
 ghost use Rattle.ak_desk.specs.Machine.{counted, dispatches, gave_up, gives_up};
-ghost use Rattle.ak_desk.specs.Task.{AnswersAsk, AnswersForward, AnswersPost};
+ghost use Rattle.ak_desk.specs.Answering.{AnswersAsk, AnswersForward, AnswersPost};
 
 use crate::stop::Stop;
 use ak_action::{Answer, LooperPlan, Want};

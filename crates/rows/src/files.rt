@@ -1,7 +1,8 @@
 use std::rt::Files;
 use std::{fs, io};
 
-/// The names of the files of this folder that end so, in order.
+/// The names that end so in the folder that the program runs in, in order; a folder's name counts too. The
+/// error is that of reading the folder, or want of memory.
 pub fn file_names(
     rt: &(impl Files + AllocGlobal + Clone + Drop),
     ending: &str,

@@ -1,6 +1,6 @@
-//! What programs share that read rows of tests: the names of the files with an ending in the folder that they
-//! run in, the lines of a file with their numbers, how many rows were told as they say, and what is printed of
-//! a file and of a row that is told otherwise. Nothing here waits, and nothing is shared.
+//! What programs share that read rows of tests. The names with an ending in the folder that they run in; the
+//! lines of a file with their numbers. How many rows were told as they say, and what is printed of a file, and
+//! of a row that is told otherwise. Nothing here waits, and nothing is shared.
 #![tactic(auto)]
 
 mod files;

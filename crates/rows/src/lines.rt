@@ -5,14 +5,16 @@ ghost use Rattle.rows.specs.Lines.{line_seen, lines_of, numbered};
 use ak_base::NoMemory;
 use std::alloc::Global;
 
-/// A line of a file: its number, counted from 1, and its bytes without the LF at its end.
+/// A line of a file.
 #[derive(Clone, Copy, Debug)]
 pub struct FileLine<'a> {
+    /// Its number, counted from 1.
     pub number: u64,
+    /// Its bytes, without the LF at its end.
     pub text: &'a [u8],
 }
 
-/// The lines of the file in order. The last one may end without LF.
+/// The lines of the file in order. The last one may end without LF. `NoMemory` where memory ran out.
 pub fn file_lines(alloc: Global, file: &[u8]) -> Result<Vec<FileLine<'_>>, NoMemory>
     ensures { IfOk result (λ lines. map line_seen lines.items ≡ numbered 1 (lines_of file.now)) }
 {

@@ -11,7 +11,8 @@ fn no_memory(_error: NoMemory) -> io::Error {
     io::Error::from(ErrorKind::OutOfMemory)
 }
 
-/// What is printed of a file.
+/// What is printed of a file, a line in bytes: how many of its rows are told as they say. `NoMemory` where
+/// memory ran out.
 pub fn file_text(alloc: Global, name: &[u8], tally: Tally) -> Result<Bytes, NoMemory>
     ensures { IfOk result (λ text. text ≡ report.file_text name.now tally.told tally.rows) }
 {
@@ -26,8 +27,8 @@ pub fn file_text(alloc: Global, name: &[u8], tally: Tally) -> Result<Bytes, NoMe
     Ok(text)
 }
 
-/// What is printed of a row that is told otherwise than it says: the file, the number of its first line,
-/// what is told of it, and what it says.
+/// What is printed of a row that is told otherwise than it says. It names the file, the number of the row's
+/// first line, counted from 1, what is told of it, and what it says. `NoMemory` where memory ran out.
 pub fn row_text(
     alloc: Global,
     name: &[u8],
@@ -60,13 +61,14 @@ fn print_text(rt: &impl Print, text: &[u8]) -> io::Result<()> {
     }
 }
 
-/// Prints what is printed of a file.
+/// Prints what is printed of a file. `OutOfMemory` where memory ran out, else the error of the printing.
 pub fn print_file(rt: &(impl Print + AllocGlobal), name: &str, tally: Tally) -> io::Result<()> {
     let text = file_text(rt.alloc(), name.as_bytes(), tally).map_err(no_memory)?;
     print_text(rt, text.as_slice())
 }
 
-/// Prints what is printed of a row that is told otherwise.
+/// Prints what is printed of a row that is told otherwise, or `no text` where that is not UTF-8. `OutOfMemory`
+/// where memory ran out, else the error of the printing.
 pub fn print_row(
     rt: &(impl Print + AllocGlobal),
     name: &str,

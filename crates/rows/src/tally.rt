@@ -3,7 +3,9 @@ ghost use Rattle.std.specs.Prelude.{◌≡◌, ◌+◌, ◌-◌, ◌^◌, if◌t
 /// How many rows of a file there were, and how many of them were told as they say.
 #[derive(Clone, Copy, Debug, PartialEq, Eq)]
 pub struct Tally {
+    /// How many rows there were.
     pub rows: u64,
+    /// How many of them were told as they say.
     pub told: u64,
 }
 

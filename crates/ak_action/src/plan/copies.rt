@@ -5,7 +5,7 @@ use ak_base::{Items, NoMemory, Text};
 use std::alloc::Global;
 
 impl PlanParts {
-    /// Equal parts.
+    /// Equal parts. `NoMemory` where memory ran out.
     pub fn try_clone(&self, alloc: Global) -> Result<PlanParts, NoMemory>
         ensures { IfOk result (λ p. p ≡ self.now) }
     {
@@ -21,7 +21,7 @@ impl PlanParts {
 }
 
 impl PlanRow {
-    /// An equal one.
+    /// An equal one. `NoMemory` where memory ran out.
     pub fn try_clone(&self, alloc: Global) -> Result<PlanRow, NoMemory>
         ensures { IfOk result (λ r. r ≡ self.now) }
     {

@@ -9,8 +9,9 @@ use crate::fault::{RemoveFault, ReplaceFault};
 use crate::kind::Kind;
 
 impl Message {
-    /// Puts the value in place of the one at that index of the field of that name. The faults are tested
-    /// in the order of `ReplaceFault`. An `Err` changes nothing, and the value is dropped. Takes no memory.
+    /// Puts the value in place of the one at that index of the field of that name. The faults are tested in
+    /// the order of `ReplaceFault`. An `Err` changes nothing, and the value is dropped. Takes no memory.
+    /// Indexes count from 0. (The Be Book, The Application Kit, BMessage: ReplaceData().)
     pub fn replace(&mut self, name: &[u8], index: u32, value: Value) -> Result<(), ReplaceFault>
         ensures refused { IfSome (replace_fault self.old.fields name.now index (value_of value)) (λ f. result ≡ Err f) }
         ensures only { IfNone (replace_fault self.old.fields name.now index (value_of value)) (IsOk result) }
@@ -46,8 +47,9 @@ impl Message {
     }
 
     /// Removes the value at that index of the field of that name, and with the last value the field. The
-    /// faults are tested in the order of `RemoveFault`. An `Err` changes nothing. No more specifiers are
-    /// popped than are left.
+    /// faults are tested in the order of `RemoveFault`. An `Err` changes nothing. Where fewer specifiers stay
+    /// than were popped, as many are popped as there are. Takes no memory. (The Be Book, The Application Kit,
+    /// BMessage: RemoveData().)
     pub fn remove_data(&mut self, name: &[u8], index: u32) -> Result<(), RemoveFault>
         ensures refused { IfSome (remove_fault self.old.fields name.now index) (λ f. result ≡ Err f) }
         ensures only { IfNone (remove_fault self.old.fields name.now index) (IsOk result) }
@@ -64,7 +66,7 @@ impl Message {
     }
 
     /// Hands out the first value of the field of that name and kind, and removes it as `remove_data` does.
-    /// `None` where `find` is refused at index 0; then nothing is changed.
+    /// `None` where `find` is refused at index 0; then nothing is changed. Takes no memory.
     pub fn take_first(&mut self, name: &[u8], kind: Kind) -> Option<Value>
         ensures value { option_map value_of result ≡ result_ok (found_in self.old.fields name.now kind 0) }
         ensures some { OnSome result (self.new ≡ with_fields_left self.old (removed_data self.old.fields name.now 0)) }
@@ -76,7 +78,9 @@ impl Message {
         }
     }
 
-    /// Removes the field of that name. An `Err` changes nothing. No more specifiers are popped than are left.
+    /// Removes the field of that name. It is refused with `NameNotFound` alone. An `Err` changes nothing.
+    /// Where that was the field of the specifiers, none is popped any more. Takes no memory. (The Be Book,
+    /// The Application Kit, BMessage: RemoveName().)
     #[tactic(auto, using(crate::proofs::Changing::removals))]
     pub fn remove_name(&mut self, name: &[u8]) -> Result<(), RemoveFault>
         ensures refused { IfSome (name_fault self.old.fields name.now) (λ f. result ≡ Err f) }

@@ -6,7 +6,7 @@ use ak_base::{Bytes, NoMemory};
 use std::alloc::Global;
 
 impl Message {
-    /// An equal message, its popped specifiers too.
+    /// An equal message, its popped specifiers too. `NoMemory` where memory ran out.
     #[cycle(copies)]
     pub fn try_clone(&self) -> Result<Message, NoMemory>
         ensures { IfOk result (λ m. m ≡ self.now) }
@@ -60,7 +60,7 @@ fn copied_values(alloc: Global, values: &[Value]) -> Result<Vec<Value>, NoMemory
 }
 
 impl Value {
-    /// An equal value.
+    /// An equal value. `NoMemory` where memory ran out.
     #[cycle(copies)]
     pub fn try_clone(&self, alloc: Global) -> Result<Value, NoMemory>
         ensures { IfOk result (λ v. value_of v ≡ value_of self.now) }

@@ -1,5 +1,5 @@
 -- The seat is at what the machine allows.
-use Rattle.std.proofs.Common.{◌≡◌, Some, ap, sym, ◌∙◌}
+use Rattle.std.proofs.Common.{Some, ap, sym, ◌∙◌}
 use Rattle.ak_desk.specs.Desk.{DeskData, edit_entry}
 use Rattle.ak_desk.proofs.Sharing.{at_desk}
 use Rattle.ak_desk.proofs.shared.edit_shared.Goals as goal

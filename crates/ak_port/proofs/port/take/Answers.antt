@@ -2,6 +2,7 @@ use Rattle.std.proofs.Common.{◌-◌, ◌∙◌, Some, ap, subst, sym}
 use Rattle.std.specs.VecDeque.{deque_len, deque_capacity}
 use Rattle.ak_port.specs.PortCalls.{CanTake, take_event}
 use Rattle.ak_port.proofs.PortCalled.{answered_keeps, looked_then_entered, looked_then_looked, looked_stays}
+use Rattle.ak_port.proofs.PortTaken.{takes_all, takes_count, takes_more, takes_some}
 use Rattle.ak_port.proofs.PortTaking.{can_after_take, can_after_seen}
 use Rattle.ak_port.proofs.port.take.Goals as goal
 
@@ -18,6 +19,22 @@ returns-in-Some-try_take-clause-clock g c = (answered_keeps (Some (take_event c.
 pub returns-in-Some-try_take-clause-taking : goal.returns-in-Some-try_take-clause-taking
 returns-in-Some-try_take-clause-taking g c =
     can_after_take c.in-Some-try_take.answer _ _ _ _ (returns-in-Some-try_take-clause-answered g c) c.in-Some-try_take.ensures.port c.args.clock.now.thread
+
+pub returns-in-Some-try_take-clause-some : goal.returns-in-Some-try_take-clause-some
+returns-in-Some-try_take-clause-some g c =
+    takes_some c.args.clock.now.thread _ _ c.in-Some-try_take.answer _ _ (returns-in-Some-try_take-clause-answered g c) c.requires.taking.taker c.requires.thread c.in-Some-try_take.ensures.port
+
+pub returns-in-Some-try_take-clause-rises : goal.returns-in-Some-try_take-clause-rises
+returns-in-Some-try_take-clause-rises g c =
+    takes_count c.args.clock.now.thread _ _ c.in-Some-try_take.answer _ _ (returns-in-Some-try_take-clause-answered g c) c.requires.taking.taker c.requires.thread c.in-Some-try_take.ensures.port
+
+pub returns-in-Some-try_take-clause-goes_on : goal.returns-in-Some-try_take-clause-goes_on
+returns-in-Some-try_take-clause-goes_on g c =
+    takes_more c.args.clock.now.thread _ _ c.in-Some-try_take.answer _ _ (returns-in-Some-try_take-clause-answered g c) c.requires.taking.taker c.requires.thread c.in-Some-try_take.ensures.port
+
+pub returns-in-Some-try_take-clause-rest : goal.returns-in-Some-try_take-clause-rest
+returns-in-Some-try_take-clause-rest g c =
+    takes_all c.args.clock.now.thread _ _ c.in-Some-try_take.answer _ _ (returns-in-Some-try_take-clause-answered g c) c.requires.taking.taker c.requires.thread c.in-Some-try_take.ensures.port
 
 pub loop-preserved : goal.loop-preserved
 loop-preserved g c =

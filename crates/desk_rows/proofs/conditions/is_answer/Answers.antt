@@ -5,8 +5,9 @@ use Rattle.ak_action.specs.declared.answer.Want.{Want}
 use Rattle.ak_action.specs.declared.answer.Want.TheVariants as want
 use Rattle.ak_message.specs.declared.address.Address.{Address}
 use Rattle.ak_message.specs.Message.{MessageData}
+use Rattle.ak_desk.specs.Answering.{AnswersAsk, AnswersPost}
 use Rattle.ak_desk.specs.Desk.{BegunData, DeskAwaits, OfBegun}
-use Rattle.ak_desk.specs.Task.{AnswersAsk, AnswersPost, Awaits, TakesAnswer}
+use Rattle.ak_desk.specs.Task.{Awaits, TakesAnswer}
 use Rattle.desk_rows.proofs.conditions.is_answer.Goals as goal
 
 posted : (to : Address) (m : MessageData) (back : Option Address) (a : Answer) (b : Option BegunData) → OfBegun (Awaits (want.Post to m back)) b → AnswersPost a → OfBegun (λ t. TakesAnswer t a) b

@@ -3,10 +3,10 @@ use Rattle.std.proofs.Common.{◌≡◌, ◌+◌, ◌<◌, Option, None, Some, o
 use Rattle.std.proofs.lemmas.Grind.{common_steps}
 use Rattle.ak_desk.specs.declared.desk.Begun.{Begun}
 use Rattle.ak_desk.specs.Desk.{BegunData, DeskData, OfBegun}
-use Rattle.ak_desk.specs.DeskInside.{HasPlaces, IsBegun, Stands, begun_seen}
+use Rattle.ak_desk.specs.DeskInside.{HasPlaces, IsBegun, Stands, begun_seen, desk_inside}
 use Rattle.ak_desk.specs.Machine.{IsHistory}
 use Rattle.ak_desk.specs.Task.{IsDone}
-use Rattle.ak_desk.proofs.Standing.{ended_stands}
+use Rattle.ak_desk.proofs.Standing.{dispatched_of, ended_stands}
 use Rattle.ak_desk.proofs.desk.Desk.end.Goals as goal
 
 pub invariant_of-self-2 : goal.invariant_of-self-2
@@ -28,3 +28,16 @@ invariant_of-self-2 c =
       stands = subst (λ (o : Option Begun). Stands c.self.inside.opening.value c.add.new.lines.items (option_map begun_seen o) c.self.inside.state) (sym none) history;
       places = subst (λ (o : Option Begun). HasPlaces c.add.new.lines.items (option_map begun_seen o) (vec_len c.add.new.lines) (vec_capacity c.add.new.lines)) (sym none) (λ _. room);
     }
+
+pub returns-clause-desk : goal.returns-clause-desk
+returns-clause-desk c = grind (arith, common_steps)
+
+pub returns-clause-made : goal.returns-clause-made
+returns-clause-made c = grind (arith, common_steps)
+
+pub returns-clause-clock : goal.returns-clause-clock
+returns-clause-clock c = grind (arith, common_steps)
+
+pub returns-clause-dispatched : goal.returns-clause-dispatched
+returns-clause-dispatched c =
+    dispatched_of c.args.clock.now _ c.args.self.now (desk_inside c.self.inside) _ _ c.self.view_is c.a_dispatch_comes_as_told.ensures c.self.invariant.stands c.requires.done c.requires.looper (returns-clause-desk c) (returns-clause-made c) (returns-clause-clock c)

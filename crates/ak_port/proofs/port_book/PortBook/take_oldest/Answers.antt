@@ -1,6 +1,7 @@
 use Rattle.std.proofs.Common.{◌≡◌, ◌++◌, ◌<◌, min, false, sym, refl, ap, ◌∙◌, subst}
 use Rattle.ak_port.specs.PortCalls.{PortData}
 use Rattle.ak_port.specs.PortMachine.{state_of, pending_count}
+use Rattle.ak_port.proofs.Stamps.{next_is_past}
 use Rattle.ak_port.proofs.PortSound.{took_sound, handed_took, some_taken, left_behind}
 use Rattle.ak_port.proofs.port_book.PortBook.take_oldest.Goals as goal
 
@@ -21,7 +22,7 @@ invariant_of-self c =
     let count = some_taken b c.args.most c.min-count.result c.pending_len.result c.self.invariant all some c.requires.most c.min-count.ensures in
     took_sound b _ _ c.min-count.result c.self.invariant (ap (λ t. t.0) (subst (λ (p : PortData). c.args.clock.now.thread ≡ p.taker) seen c.requires.taker))
     (sym c.self.invariant.tells.shut ∙ subst (λ (p : PortData). (state_of p.entries).shut ≡ false) seen c.requires.open) count.0 count.1 refl refl refl refl
-    c.enter.ensures.items c.enter.ensures.len c.enter.ensures.capacity c.hand_out.ensures.pending c.hand_out.ensures.pending_len c.hand_out.ensures.pending_room refl refl refl
+    c.enter.ensures.items (next_is_past c.args.clock.now.time _) c.enter.ensures.len c.enter.ensures.capacity c.hand_out.ensures.pending c.hand_out.ensures.pending_len c.hand_out.ensures.pending_room refl refl refl
 
 pub returns-clause-items : goal.returns-clause-items
 returns-clause-items c =

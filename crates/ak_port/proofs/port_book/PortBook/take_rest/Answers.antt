@@ -1,6 +1,7 @@
 use Rattle.std.proofs.Common.{◌≡◌, ◌++◌, false, true, sym, refl, ap, ◌∙◌, subst}
 use Rattle.ak_port.specs.PortCalls.{PortData}
 use Rattle.ak_port.specs.PortMachine.{state_of, pending_count}
+use Rattle.ak_port.proofs.Stamps.{next_is_past}
 use Rattle.ak_port.proofs.PortSound.{rest_sound, handed_rest, few_pending}
 use Rattle.ak_port.proofs.port_book.PortBook.take_rest.Goals as goal
 
@@ -12,7 +13,7 @@ invariant_of-self c =
     (sym c.self.invariant.tells.shut ∙ subst (λ (p : PortData). (state_of p.entries).shut ≡ true) seen c.requires.shut)
     (sym c.self.invariant.tells.rested ∙ subst (λ (p : PortData). (state_of p.entries).rested ≡ false) seen c.requires.unrested)
     (subst (λ (p : PortData). c.pending_len-count.result ≡ pending_count (state_of p.entries)) seen c.pending_len-count.ensures.count ∙ sym (few_pending b c.self.invariant).0) refl refl refl refl
-    c.enter.ensures.items c.enter.ensures.len c.enter.ensures.capacity c.hand_out.ensures.pending c.hand_out.ensures.pending_len c.hand_out.ensures.pending_room refl refl refl
+    c.enter.ensures.items (next_is_past c.args.clock.now.time _) c.enter.ensures.len c.enter.ensures.capacity c.hand_out.ensures.pending c.hand_out.ensures.pending_len c.hand_out.ensures.pending_room refl refl refl
 
 pub returns-clause-items : goal.returns-clause-items
 returns-clause-items c =

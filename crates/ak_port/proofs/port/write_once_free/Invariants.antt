@@ -1,7 +1,7 @@
 -- the seat has looked since the call, and the item is the one to be written
 use Rattle.std.proofs.Common.{◌≡◌, false}
 use Rattle.ak_port.specs.PortCalls.{HasLooked}
-use Rattle.ak_port.proofs.port.write.Given as goal
+use Rattle.ak_port.proofs.port.write_once_free.Given as goal
 
 abbrev pub invariant-loop : goal.invariant-loop
 invariant-loop g l = record {

@@ -1,0 +1,11 @@
+use Rattle.ak_port.proofs.PortTaken.{takes_more, taken_stays, taken_then_pending}
+use Rattle.ak_port.proofs.taker_laws.takes_go_on.Goals as goal
+
+pub returns-clause-more : goal.returns-clause-more
+returns-clause-more c = takes_more
+
+pub returns-clause-others : goal.returns-clause-others
+returns-clause-others c = taken_stays
+
+pub returns-clause-pending : goal.returns-clause-pending
+returns-clause-pending c = taken_then_pending

@@ -1,0 +1,44 @@
+-- What holds of every taker.
+use Rattle.std.specs.Prelude.{◌≡◌, ℕ, ◌≤◌, true, List, [], ◌++◌, Option, Some}
+use Rattle.ak_base.specs.declared.thread.ThreadId.{ThreadId}
+use Rattle.ak_turn.specs.declared.clock.Clock.{Clock}
+use Rattle.ak_turn.specs.Lines.{AreByOthers}
+use Rattle.ak_turn.specs.Seats.{new_seat, titled_seat}
+use Rattle.ak_port.specs.declared.port_entry.PortEntry.{PortEntry}
+use Rattle.ak_port.specs.declared.port_entry.TakeAnswer.{TakeAnswer}
+use Rattle.ak_port.specs.PortCalls.{PortSeat, CanTake, HasEntered, IsAtPort, by_number, take_count, take_event}
+use Rattle.ak_port.specs.PortMachine.{IsPort, state_of, handed_from, last_taken, pending_items, taken_items, written_in}
+
+-- a take adds what it hands out to what its seat knew as taken
+abbrev pub TakesGoOn : Type 0
+TakesGoOn = (thread : ThreadId) (clock clock' : Clock) (answer : TakeAnswer) (seat seat' : PortSeat) → HasEntered clock clock' (take_event answer) seat seat' → seat.opening ≡ Some thread → seat.thread ≡ thread.0 → IsAtPort seat'
+    → taken_items (state_of seat'.front) ≡ taken_items (state_of seat.front) ++ last_taken (take_count answer) (state_of seat'.front)
+
+-- other threads take nothing
+abbrev pub OthersTakeNothing : Type 0
+OthersTakeNothing = (taker : ℕ) (entries between : List PortEntry) → AreByOthers by_number taker between → IsPort taker (entries ++ between) → taken_items (state_of (entries ++ between)) ≡ taken_items (state_of entries)
+
+-- what was written is what the taker knows as taken, and then what is pending
+abbrev pub TakenThenPending : Type 0
+TakenThenPending = (taker : ℕ) (entries between : List PortEntry) → AreByOthers by_number taker between → IsPort taker (entries ++ between) → written_in (entries ++ between) ≡ taken_items (state_of entries) ++ pending_items (state_of (entries ++ between))
+
+-- a new seat for the port's taker can take
+abbrev pub NewSeatsTake : Type 0
+NewSeatsTake = (thread : ThreadId) (room : ℕ) (names : Option (List ℕ)) (seat seat' : PortSeat) → seat.opening ≡ Some thread → (state_of seat.front).made ≡ true → (state_of seat.front).capacity ≤ room → seat' ≡ new_seat thread.0 names seat
+    → CanTake thread room seat'
+
+-- a taker's seat still can take that another was split from
+abbrev pub SplitSeatsTake : Type 0
+SplitSeatsTake = (thread : ThreadId) (room : ℕ) (names : Option (List ℕ)) (seat seat' : PortSeat) → CanTake thread room seat → seat' ≡ titled_seat names seat → CanTake thread room seat'
+
+-- of a list and what came after it: nothing more was written, handed out or pending; what was taken stayed as it was, and is all that was ever written
+pub record HasEnded (entries later : List PortEntry) : Type 0 where
+  pub written : written_in later ≡ []
+  pub handed : handed_from (state_of entries) later ≡ []
+  pub pending : pending_items (state_of (entries ++ later)) ≡ []
+  pub taken : taken_items (state_of (entries ++ later)) ≡ taken_items (state_of entries)
+  pub all : written_in (entries ++ later) ≡ taken_items (state_of entries)
+
+-- so it is after the rest was taken
+abbrev pub NothingAfterRest : Type 0
+NothingAfterRest = (taker : ℕ) (entries later : List PortEntry) → (state_of entries).rested ≡ true → IsPort taker (entries ++ later) → HasEnded entries later

@@ -1,0 +1,23 @@
+//! What holds of every taker of a port.
+
+ghost use Rattle.ak_port.specs.TakerLaws as law;
+
+/// A take adds what it hands out to what was taken before it, and no other thread takes; so what was written is what
+/// the taker's seat knows as taken, and then what is pending.
+pub fn takes_go_on()
+    ensures more { law.TakesGoOn }
+    ensures others { law.OthersTakeNothing }
+    ensures pending { law.TakenThenPending }
+{}
+
+/// A seat that was just split for a port's taker can take, and the taker's own still can that one was split from.
+pub fn new_seats_can_take()
+    ensures new { law.NewSeatsTake }
+    ensures old { law.SplitSeatsTake }
+{}
+
+/// After the rest was taken nothing more is written, taken or pending: what was taken is all that the port ever
+/// accepted.
+pub fn nothing_comes_after_the_rest()
+    ensures { law.NothingAfterRest }
+{}
