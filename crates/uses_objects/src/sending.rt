@@ -156,7 +156,10 @@ fn take_one<R: Wait>(
 {
     let mut out = VecDeque::with_capacity(alloc, 1)?;
     take(port, rt, taker, &mut clock_of(LOOPER), &mut out, 1);
-    Ok(out.pop_front().map(|taken| taken.item))
+    match out.pop_front() {
+        Some(taken) => Ok(Some(taken.item)),
+        None => Ok(None),
+    }
 }
 
 /// What posts answer, what the item of the first tells, and how many entries there are then.

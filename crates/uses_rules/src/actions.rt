@@ -4,8 +4,8 @@
 ghost use Rattle.std.specs.Prelude.{◌≤◌, length, IfOk};
 ghost use Rattle.ak_action.specs.Interp.{MayGoOn};
 
-use crate::parts::{NONE, Told, actions_of, deep, row_of, text};
 use crate::compare::same;
+use crate::parts::{NONE, Told, actions_of, deep, row_of, text};
 use ak_action::{
     Acted, Answer, AnswerWord, DeskRow, DeskState, ElementsList, Interp, Number, Reaction,
     ReactionList, Want,
@@ -44,23 +44,39 @@ fn names(alloc: Global) -> Result<Items<Text>, Fail>
     Ok(Items::from_vec(names))
 }
 
-// The looper `alpha` of an application with another one, `beta`. It holds that row, and its only reaction is that action
-// and `quit`.
-pub fn state_with(alloc: Global, mut row: DeskRow, action: &Told<'_>) -> Result<DeskState, Fail> {
+// One, of that action and `quit`.
+fn reactions(alloc: Global, action: &Told<'_>) -> Result<ReactionList, Fail> {
     let quit = (b'q', 0, "", NONE, (b'-', ""), "");
     let actions = actions_of(alloc, &[*action, quit])?;
-    row.reactions = ReactionList::new(alloc);
-    row.reactions.push(Reaction {
+    let mut reactions = ReactionList::new(alloc);
+    reactions.push(Reaction {
         what: Code(7),
         actions,
     })?;
+    Ok(reactions)
+}
+
+fn handlers(
+    alloc: Global,
+    row: DeskRow,
+    reactions: ReactionList,
+) -> Result<HandlerSet<DeskRow>, Fail> {
+    let row = DeskRow { reactions, ..row };
+    Ok(HandlerSet::new(alloc, text(alloc, b"alpha")?, row)?)
+}
+
+/// The looper `alpha` of an application with another one, `beta`. It holds that row, but its only reaction is that action
+/// and `quit`.
+pub fn state_with(alloc: Global, row: DeskRow, action: &Told<'_>) -> Result<DeskState, Fail> {
+    let reactions = reactions(alloc, action)?;
+    let handlers = handlers(alloc, row, reactions)?;
     Ok(DeskState {
         looper: 3,
         team: 2,
         first: 3,
         names: names(alloc)?,
         quit_refused: false,
-        handlers: HandlerSet::new(alloc, text(alloc, b"alpha")?, row)?,
+        handlers,
         common: FilterList::new(alloc),
     })
 }
@@ -85,10 +101,17 @@ fn carried_out(alloc: Global, state: &mut DeskState) -> Result<Acted, Fail> {
     )
 }
 
-fn error_of(word: &AnswerWord) -> Option<KitError> {
-    match word {
-        AnswerWord::Error(error) => Some(*error),
+fn error_of(words: &[AnswerWord]) -> Option<KitError> {
+    match words.first() {
+        Some(AnswerWord::Error(error)) => Some(*error),
         _ => None,
+    }
+}
+
+fn count_of(reply: &Option<Message>) -> Option<u32> {
+    match reply {
+        Some(reply) => Some(reply.count_names()),
+        None => None,
     }
 }
 
@@ -104,8 +127,8 @@ fn left_by(alloc: Global, row: DeskRow, action: &Told<'_>, name: &[u8]) -> Resul
     let mut state = state_with(alloc, row, action)?;
     let acted = carried_out(alloc, &mut state)?;
     Ok((
-        acted.answers.as_slice().first().and_then(error_of),
-        acted.reply.as_ref().map(Message::count_names),
+        error_of(acted.answers.as_slice()),
+        count_of(&acted.reply),
         number_of(&state, name),
         acted.quit,
     ))
@@ -245,8 +268,11 @@ const REPLIES: Told<'static> = (b'r', 21, "count", NONE, (b'-', ""), "");
 
 // How many fields a reply has where the property to be copied is a message so deep.
 fn names_copied(alloc: Global, depth: u32) -> Result<Option<u32>, Fail> {
-    let mut row = row_of(alloc, LINES)?;
-    row.elements = alone(alloc, deep(alloc, depth)?)?;
+    let elements = alone(alloc, deep(alloc, depth)?)?;
+    let row = DeskRow {
+        elements,
+        ..row_of(alloc, LINES)?
+    };
     Ok(left_by(alloc, row, &REPLIES, b"count")?.1)
 }
 

@@ -1,8 +1,8 @@
 //! What the parts of a looper's description hold, their copies, and which fault is answered at their limits.
 
 use crate::actions::state_with;
-use crate::parts::{Gives, NONE, Told, actions_of, deep, gives, row_of, template, text, told};
 use crate::compare::same;
+use crate::parts::{Gives, NONE, Told, actions_of, deep, gives, row_of, template, text, told};
 use ak_action::Number::{Int8, Int16, Int32, Int64, UInt8, UInt16, UInt32, UInt64};
 use ak_action::{
     ActionList, DeskRow, ElementsList, Given, Number, Reaction, ReactionList, TemplateFault,
@@ -30,16 +30,16 @@ static EACH: [Told<'static>; 9] = [
 ];
 
 fn are_each(list: &ActionList) -> bool {
+    for (action, each) in list.as_slice().iter().zip(&EACH) {
+        if told(action) != *each {
+            return false;
+        }
+    }
     list.as_slice().len() == EACH.len()
-        && list
-            .as_slice()
-            .iter()
-            .zip(&EACH)
-            .all(|(action, each)| told(action) == *each)
 }
 
-// Of the actions, and of those of the copy of a list of reactions on one code.
-fn copies(alloc: Global) -> Result<([bool; 2], usize, Option<Code>), Fail> {
+// Whether they are those actions, and those of the copy of a list of reactions on one code, and that code.
+fn copies(alloc: Global) -> Result<([bool; 2], Code), Fail> {
     let actions = actions_of(alloc, &EACH)?;
     let first = are_each(&actions);
     let mut reactions = ReactionList::new(alloc);
@@ -48,12 +48,10 @@ fn copies(alloc: Global) -> Result<([bool; 2], usize, Option<Code>), Fail> {
         actions,
     })?;
     let copy = reactions.try_clone()?;
-    let reaction = copy.as_slice().first();
-    Ok((
-        [first, reaction.is_some_and(|r| are_each(&r.actions))],
-        copy.as_slice().len(),
-        reaction.map(|r| r.what),
-    ))
+    match copy.as_slice() {
+        [only] => Ok(([first, are_each(&only.actions)], only.what)),
+        _ => Err(Fail::new("there is not one reaction")),
+    }
 }
 
 // ---- the values of a field
@@ -152,14 +150,19 @@ static FIELDS: [(&str, Gives<'static>); 3] = [
     ("c", (b'p', "of", 0)),
 ];
 
+fn are_these(fields: &[TemplateField]) -> bool {
+    for (field, told) in fields.iter().zip(&FIELDS) {
+        if (field.name.as_str(), gives(&field.given)) != *told {
+            return false;
+        }
+    }
+    fields.len() == FIELDS.len()
+}
+
 // The code of a copy, and whether it has these fields.
 fn copied_template(alloc: Global) -> Result<(Code, bool), Fail> {
     let copy = template(alloc, 7, &FIELDS)?.try_clone()?;
-    let fields = copy.fields.as_slice();
-    let are_these = fields.len() == 3
-        && fields.iter().zip(&FIELDS).all(|(field, told)| (field.name.as_str(), gives(&field.given))
-            == *told);
-    Ok((copy.what, are_these))
+    Ok((copy.what, are_these(copy.fields.as_slice())))
 }
 
 // ---- what a handler holds
@@ -328,6 +331,13 @@ fn answered(
     }
 }
 
+fn form_of(index: Option<i32>) -> AtRef<'static> {
+    match index {
+        Some(index) => AtRef::Index(index),
+        None => AtRef::Direct,
+    }
+}
+
 // The place of a property, a command, the index that it names if any, and the answer.
 static COMMANDS: [(usize, Code, Option<i32>, Answered); 6] = [
     (0, Code::COUNT, None, Ok((Some(2), 1))),
@@ -344,8 +354,7 @@ fn first_command(alloc: Global) -> Result<Option<(usize, Answered, Answered)>, F
     let mut m = Message::new(alloc, Code::SET);
     m.add(b"data", Value::Int32(7))?;
     for (row, &(place, what, index, wanted)) in COMMANDS.iter().enumerate() {
-        let at = index.map_or(AtRef::Direct, AtRef::Index);
-        let came = answered(&mut list, place, what, at, &m);
+        let came = answered(&mut list, place, what, form_of(index), &m);
         if came != wanted {
             return Ok(Some((row, came, wanted)));
         }
@@ -430,7 +439,7 @@ fn lists_are_limited_and_copied(rt: HostRuntime) -> Result<(), Fail> {
         &rt,
         "copies have each part",
         copies(alloc)?,
-        ([true; 2], 1, Some(Code::GET)),
+        ([true; 2], Code::GET),
     );
     let deep = Some(ValuesFault::TooDeep);
     let kind = Some(ValuesFault::BadType);

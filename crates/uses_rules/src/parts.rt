@@ -23,6 +23,14 @@ pub fn text_or_none(alloc: Global, bytes: &[u8]) -> Result<Option<Text>, Fail> {
     }
 }
 
+/// The empty text for none.
+pub fn str_of(text: &Option<Text>) -> &str {
+    match text {
+        Some(text) => text.as_str(),
+        None => "",
+    }
+}
+
 // ---- what lines describe
 /// The first looper of the first application.
 pub fn plan_of(alloc: Global, lines: &[u8]) -> Result<LooperPlan, Fail> {
@@ -143,26 +151,41 @@ fn form_of(dest: &Dest) -> (u8, &str) {
     }
 }
 
+fn post_of(alloc: Global, told: &Told<'_>) -> Result<Action, Fail> {
+    let &(_, what, copied, _, (form, other), back) = told;
+    Ok(Action::Post {
+        to: dest_of(alloc, form, other)?,
+        message: copying(alloc, what, copied)?,
+        back: back == "back",
+    })
+}
+
+fn ask_of(alloc: Global, told: &Told<'_>) -> Result<Action, Fail> {
+    let &(_, what, copied, _, (form, other), into) = told;
+    Ok(Action::Ask {
+        to: dest_of(alloc, form, other)?,
+        message: copying(alloc, what, copied)?,
+        into: text_or_none(alloc, into.as_bytes())?,
+    })
+}
+
+fn set_of(alloc: Global, told: &Told<'_>) -> Result<Action, Fail> {
+    let &(_, _, _, _, (form, other), property) = told;
+    Ok(Action::Set {
+        property: text(alloc, property.as_bytes())?,
+        value: given_of(alloc, (form, other, 0))?,
+    })
+}
+
 fn action_of(alloc: Global, told: &Told<'_>) -> Result<Action, Fail> {
-    let &(letter, what, copied, amount, (form, other), name) = told;
+    let &(letter, what, copied, amount, _, name) = told;
     match letter {
         b'r' => Ok(Action::Reply {
             message: copying(alloc, what, copied)?,
         }),
-        b'p' => Ok(Action::Post {
-            to: dest_of(alloc, form, other)?,
-            message: copying(alloc, what, copied)?,
-            back: name == "back",
-        }),
-        b'a' => Ok(Action::Ask {
-            to: dest_of(alloc, form, other)?,
-            message: copying(alloc, what, copied)?,
-            into: text_or_none(alloc, name.as_bytes())?,
-        }),
-        b's' => Ok(Action::Set {
-            property: text(alloc, name.as_bytes())?,
-            value: given_of(alloc, (form, other, 0))?,
-        }),
+        b'p' => post_of(alloc, told),
+        b'a' => ask_of(alloc, told),
+        b's' => set_of(alloc, told),
         b'+' => Ok(Action::Add {
             property: text(alloc, name.as_bytes())?,
             amount,
@@ -195,7 +218,7 @@ pub fn told(action: &Action) -> Told<'_> {
             copied_by(message),
             NONE,
             form_of(to),
-            into.as_ref().map_or("", |name| name.as_str()),
+            str_of(into),
         ),
         Action::Set { property, value } => {
             let (form, name, _) = gives(value);

@@ -3,8 +3,8 @@
 
 ghost use Rattle.std.specs.Prelude.{◌≡◌, IfOk};
 
-use crate::parts::{NONE, Told, actions_of, text, text_or_none};
 use crate::compare::same;
+use crate::parts::{NONE, Told, actions_of, str_of, text, text_or_none};
 use ak_action::{
     ElementsList, LooperPlan, Number, PlanFault, PlanParts, PlanRow, Reaction, ReactionList,
     plans_are_whole,
@@ -69,21 +69,15 @@ fn fault(
 }
 
 // ---- a plan and its parts
-fn names_of(row: &PlanRow) -> (&str, Option<&str>) {
-    (
-        row.name.as_str(),
-        row.next.as_ref().map(|name| name.as_str()),
-    )
-}
-
 // The name, the capacity, the refusal, how many handlers, and the last one's name and next one.
-type Parts<'a> = (
-    &'a str,
-    u32,
-    bool,
-    usize,
-    Option<(&'a str, Option<&'a str>)>,
-);
+type Parts<'a> = (&'a str, u32, bool, usize, (&'a str, &'a str));
+
+fn names_of_last(rows: &[PlanRow]) -> (&str, &str) {
+    match rows.last() {
+        Some(row) => (row.name.as_str(), str_of(&row.next)),
+        None => ("", ""),
+    }
+}
 
 fn told(parts: &PlanParts) -> Parts<'_> {
     let rows = parts.rows.as_slice();
@@ -92,11 +86,11 @@ fn told(parts: &PlanParts) -> Parts<'_> {
         parts.capacity,
         parts.quit_refused,
         rows.len(),
-        rows.last().map(names_of),
+        names_of_last(rows),
     )
 }
 
-const CHAIN: Parts<'static> = ("desk", 100, true, 3, Some(("b", Some("a"))));
+const CHAIN: Parts<'static> = ("desk", 100, true, 3, ("b", "a"));
 
 // Whether it, its copy, and the parts that it is made into are that chain.
 fn are_chains(alloc: Global) -> Result<[bool; 3], Fail> {
@@ -320,12 +314,15 @@ static HANDLERS: [Handler; 15] = [
 
 fn row_of(alloc: Global, handler: &Handler) -> Result<PlanRow, Fail> {
     let &(_, count, properties, kinds, actions, _) = handler;
-    let mut row = bare_row(alloc, b"a", b"")?;
-    row.suites = suites(alloc, count)?;
-    row.table = table(alloc, properties)?;
-    row.elements = elements(alloc, kinds)?;
-    row.reactions = reactions(alloc, actions)?;
-    Ok(row)
+    Ok(PlanRow {
+        name: text(alloc, b"a")?,
+        next: None,
+        suites: suites(alloc, count)?,
+        table: table(alloc, properties)?,
+        elements: elements(alloc, kinds)?,
+        filters: FilterList::new(alloc),
+        reactions: reactions(alloc, actions)?,
+    })
 }
 
 fn fault_of_handler(alloc: Global, handler: &Handler) -> Result<Option<PlanFault>, Fail> {

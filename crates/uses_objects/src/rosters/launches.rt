@@ -222,7 +222,10 @@ fn told_by(entry: &RosterEntry) -> Told {
 }
 
 fn told_at(entries: &[RosterEntry], place: usize) -> Option<Told> {
-    entries.get(place).map(told_by)
+    match entries.get(place) {
+        Some(entry) => Some(told_by(entry)),
+        None => None,
+    }
 }
 
 // How many entries there are, and the first four.
