@@ -153,12 +153,12 @@ pub fn filters_of(alloc: Global, rows: &[FilterRow]) -> Result<FilterList, Fail>
 }
 
 fn held_of(alloc: Global, own: &Own, filters: &[FilterRow]) -> Result<Held, Fail> {
-    let (properties, [reaction, other_reaction]) = own;
+    let (properties, [reaction, other_reaction]) = *own;
     Ok(Held {
         table: table_of(alloc, properties)?,
         filters: filters_of(alloc, filters)?,
-        reaction: *reaction,
-        other_reaction: *other_reaction,
+        reaction,
+        other_reaction,
     })
 }
 
