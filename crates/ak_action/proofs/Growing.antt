@@ -1,10 +1,12 @@
 -- The message that a template makes, as it grows value by value and field by field.
-use Rattle.std.proofs.Common.{◌≡◌, ◌≢◌, ℕ, suc, ◌+◌, ◌<◌, ◌≤◌, Bool, true, false, cond, ltb, List, [], ◌∷◌, ◌++◌, length, take, get_or, map, Option, Some, None, Result, Ok, Err, OnOk, refl, sym, ap, subst, ◌∙◌, append_assoc, arith}
-use Rattle.std.specs.List.{All, AllPairs}
+use Rattle.std.proofs.Common.{◌≡◌, ◌≢◌, ℕ, suc, ◌+◌, ◌<◌, ◌≤◌, Bool, true, false, not, cond, ltb, List, [], ◌∷◌, ◌++◌, length, take, get_or, map, Option, Some, None, Result, Ok, Err, OnOk, refl, sym, ap, subst, ◌∙◌, append_assoc, arith}
+use Rattle.std.specs.List.{All, AllPairs, filter}
+use borrow.Author.Tests.{ltb-true}
 use Rattle.std.proofs.lemmas.Bool.{lt-ltb, eq-eqb, false_from_ne_true}
 use Rattle.std.proofs.Math.ListN.{get_or-map}
 use Rattle.std.proofs.lemmas.List.{append-nil, length-map, length-append, length-take, take_more, get_or-take, get_or_default}
-use Rattle.std.proofs.lemmas.List.Elements.{All-head, All-tail, All-take, All-nil}
+use Rattle.std.proofs.lemmas.List.Elements.{All-head, All-tail, All-take, All-nil, All-filter, filter_more}
+use Rattle.std.proofs.lemmas.List.Filters.{length-filter_both}
 use Rattle.std.proofs.lemmas.Slice.Eq.{bytes_eq-Decides}
 use Rattle.ak_base.specs.Word.{is_word}
 use Rattle.ak_message.specs.declared.kind.Kind.{Kind}
@@ -15,9 +17,9 @@ use Rattle.ak_message.specs.Fields.{is_named, field_named, added, new_field, wit
 use Rattle.ak_message.specs.Seen.{value_of}
 use Rattle.ak_action.specs.declared.row.DeskRow.{DeskRow}
 use Rattle.ak_action.specs.declared.template.TemplateField.{TemplateField}
-use Rattle.ak_action.specs.Building.{HasRoomFor, built_fields, field_of_values, given_values, held, with_new}
+use Rattle.ak_action.specs.Building.{Fits, HasRoomFor, built_fields, field_of_values, given_values, held, with_held, with_new}
 use Rattle.ak_action.specs.Template.{AreTemplateFields}
-use Rattle.ak_action.specs.Values.{ValuesData, AreValues}
+use Rattle.ak_action.specs.Values.{ValuesData, AreValues, is_shallow}
 
 -- ---- behind fields that have other names
 skipped : (b : Bool) (f : FieldData) (rest : Option FieldData) → cond b (Some f) rest ≡ None → (b ≡ false) × (rest ≡ None)
@@ -71,16 +73,25 @@ module _ (fs : List FieldData) (name : List ℕ) (room : HasRoomFor fs name) (v 
       takes_by (fs ++ own ∷ []) shallow (rw (found, same_kind, few) refl)
 
 module _ (fs : List FieldData) (name : List ℕ) (room : HasRoomFor fs name) (v : ValuesData) (h : AreValues v) where
-  pub fits-next : (i : ℕ) (x : ValueData) → i < length v.list → x ≡ get_or v.list i x → add_fault (fs ++ field_of_values name (take i v.list)) name x ≡ None
-  fits-next i x lt e =
-      let same : kind_of x ≡ v.kind = subst (λ (y : ValueData). kind_of y ≡ v.kind) (sym e) (h.same_kind i x lt) in
-      let shallow : depth_of_value x < 16 = subst (λ (y : ValueData). depth_of_value y < 16) (sym e) (h.shallow i x lt) in
-      fits-with fs name room x v.kind (take i v.list) (All-take (λ (x : ValueData). kind_of x ≡ v.kind) i v.list h.same_kind) same (omega (arith, h.limit, length-take i v.list)) shallow
+  few : (i : ℕ) → i < length v.list → length (filter is_shallow (take i v.list)) < 255
+  few i lt = omega (arith, h.limit, length-take i v.list, length-filter_both is_shallow (λ x. not (is_shallow x)) (λ x. refl) (take i v.list))
 
-  pub grown-next : (i : ℕ) (x : ValueData) → i < length v.list → x ≡ get_or v.list i x → added (fs ++ field_of_values name (take i v.list)) name x ≡ fs ++ field_of_values name (take (i + 1) v.list)
+  pub fits-next : (i : ℕ) (x : ValueData) → i < length v.list → x ≡ get_or v.list i x → is_shallow x ≡ true → add_fault (fs ++ field_of_values name (filter is_shallow (take i v.list))) name x ≡ None
+  fits-next i x lt e shallow =
+      let same : kind_of x ≡ v.kind = subst (λ (y : ValueData). kind_of y ≡ v.kind) (sym e) (h.same_kind i x lt) in
+      fits-with fs name room x v.kind (filter is_shallow (take i v.list))
+      (All-filter is_shallow (λ (x : ValueData). kind_of x ≡ v.kind) (take i v.list) (All-take (λ (x : ValueData). kind_of x ≡ v.kind) i v.list h.same_kind)) same (few i lt) (ltb-true _ _ shallow)
+
+  grown-by : (i : ℕ) (x : ValueData) (shallow : Bool) → filter is_shallow (take (i + 1) v.list) ≡ filter is_shallow (take i v.list) ++ cond shallow (x ∷ []) []
+      → cond shallow (added (fs ++ field_of_values name (filter is_shallow (take i v.list))) name x) (fs ++ field_of_values name (filter is_shallow (take i v.list))) ≡ fs ++ field_of_values name (filter is_shallow (take (i + 1) v.list))
+  grown-by i x true more = grown-with fs name room x (filter is_shallow (take i v.list)) ∙ ap (λ (t : List ValueData). fs ++ field_of_values name t) (sym more)
+  grown-by i x false more = ap (λ (t : List ValueData). fs ++ field_of_values name t) (sym (more ∙ append-nil (filter is_shallow (take i v.list))))
+
+  pub grown-next : (i : ℕ) (x : ValueData) → i < length v.list → x ≡ get_or v.list i x
+      → cond (is_shallow x) (added (fs ++ field_of_values name (filter is_shallow (take i v.list))) name x) (fs ++ field_of_values name (filter is_shallow (take i v.list))) ≡ fs ++ field_of_values name (filter is_shallow (take (i + 1) v.list))
   grown-next i x lt e =
-      let more : take (i + 1) v.list ≡ take i v.list ++ x ∷ [] = take_more v.list i x lt ∙ ap (λ (y : ValueData). take i v.list ++ y ∷ []) (sym e) in
-      grown-with fs name room x (take i v.list) ∙ ap (λ (t : List ValueData). fs ++ field_of_values name t) (sym more)
+      grown-by i x (is_shallow x)
+      (filter_more is_shallow v.list i x lt ∙ ap (λ (y : ValueData). filter is_shallow (take i v.list) ++ cond (is_shallow y) (y ∷ []) []) (sym e))
 
 -- a value alone
 module _ (fs : List FieldData) (name : List ℕ) (room : HasRoomFor fs name) (v : ValueData) where
@@ -106,23 +117,31 @@ OnOk-then (Err e) f h = tt
 
 -- the values as the code holds them
 module _ (m : MessageData) (name : List ℕ) (room : HasRoomFor m.fields name) (v : ValuesData) (h : AreValues v) (xs : List Value) (is : map value_of xs ≡ v.list) where
-  at-place : (i : ℕ) (x y : Value) → x ≡ get_or xs i x → value_of y ≡ value_of x → value_of y ≡ get_or v.list i (value_of y)
-  at-place i x y e same =
-      same ∙ ap value_of e ∙ sym (get_or-map value_of xs i x) ∙ ap (λ (l : List ValueData). get_or l i (value_of x)) is ∙ ap (λ (d : ValueData). get_or v.list i d) (sym same)
+  at-place : (i : ℕ) (x : Value) → x ≡ get_or xs i x → value_of x ≡ get_or v.list i (value_of x)
+  at-place i x e = ap value_of e ∙ sym (get_or-map value_of xs i x) ∙ ap (λ (l : List ValueData). get_or l i (value_of x)) is
 
   within : (i : ℕ) → i < length xs → i < length v.list
   within i lt = omega (arith, ap length is, length-map xs value_of)
 
-  pub fits-copy : (now : MessageData) (i : ℕ) (x y : Value) → now ≡ with_new m name (take i (map value_of xs)) → i < length xs → x ≡ get_or xs i x → value_of y ≡ value_of x → add_fault now.fields name (value_of y) ≡ None
-  fits-copy now i x y made lt e same =
-      let fields : now.fields ≡ m.fields ++ field_of_values name (take i v.list) = ap (λ (n : MessageData). n.fields) made ∙ ap (λ (l : List ValueData). m.fields ++ field_of_values name (take i l)) is in
-      subst (λ (t : List FieldData). add_fault t name (value_of y) ≡ None) (sym fields) (fits-next m.fields name room v h i (value_of y) (within i lt) (at-place i x y e same))
+  fields-are : (now : MessageData) (i : ℕ) → now ≡ with_new m name (filter is_shallow (take i (map value_of xs))) → now.fields ≡ m.fields ++ field_of_values name (filter is_shallow (take i v.list))
+  fields-are now i made = ap (λ (n : MessageData). n.fields) made ∙ ap (λ (l : List ValueData). m.fields ++ field_of_values name (filter is_shallow (take i l))) is
 
-  pub grown-copy : (now after : MessageData) (i : ℕ) (x y : Value) → now ≡ with_new m name (take i (map value_of xs)) → i < length xs → x ≡ get_or xs i x → value_of y ≡ value_of x → after ≡ record now { fields = added now.fields name (value_of y) } → after ≡ with_new m name (take (i + 1) (map value_of xs))
-  grown-copy now after i x y made lt e same put =
-      let z : ValueData = value_of y in
-      let next = grown-next m.fields name room v h i z (within i lt) (at-place i x y e same) in
-      put ∙ ap (λ (n : MessageData). record n { fields = added n.fields name z }) made ∙ ap (λ (l : List ValueData). record m { fields = added (m.fields ++ field_of_values name (take i l)) name z }) is ∙ ap (λ (t : List FieldData). record m { fields = t }) next ∙ ap (λ (l : List ValueData). with_new m name (take (i + 1) l)) (sym is)
+  pub fits-item : (now : MessageData) (i : ℕ) (x : Value) → now ≡ with_new m name (filter is_shallow (take i (map value_of xs))) → i < length xs → x ≡ get_or xs i x → Fits now name (value_of x)
+  fits-item now i x made lt e shallow =
+      subst (λ (t : List FieldData). add_fault t name (value_of x) ≡ None) (sym (fields-are now i made)) (fits-next m.fields name room v h i (value_of x) (within i lt) (at-place i x e) shallow)
+
+  -- the same by its fields alone
+  by_fields : (now : MessageData) (z : ValueData) (shallow : Bool) → cond shallow (record now { fields = added now.fields name z }) now ≡ record now { fields = cond shallow (added now.fields name z) now.fields }
+  by_fields now z true = refl
+  by_fields now z false = refl
+
+  pub grown-item : (now after : MessageData) (i : ℕ) (x : Value) → now ≡ with_new m name (filter is_shallow (take i (map value_of xs))) → i < length xs → x ≡ get_or xs i x → after ≡ with_held now name (value_of x) → after ≡ with_new m name (filter is_shallow (take (i + 1) (map value_of xs)))
+  grown-item now after i x made lt e put =
+      let z : ValueData = value_of x in
+      let next = grown-next m.fields name room v h i z (within i lt) (at-place i x e) in
+      put ∙ by_fields now z (is_shallow z) ∙ ap (λ (n : MessageData). record n { fields = cond (is_shallow z) (added n.fields name z) n.fields }) made
+      ∙ ap (λ (l : List ValueData). record m { fields = cond (is_shallow z) (added (m.fields ++ field_of_values name (filter is_shallow (take i l))) name z) (m.fields ++ field_of_values name (filter is_shallow (take i l))) }) is
+      ∙ ap (λ (t : List FieldData). record m { fields = t }) next ∙ ap (λ (l : List ValueData). with_new m name (filter is_shallow (take (i + 1) l))) (sym is)
 
 -- ---- one field more
 module _ (row : DeskRow) (m : MessageData) where

@@ -1,5 +1,6 @@
 -- Values of one kind stay so when one of that kind is added.
-use Rattle.std.proofs.Common.{◌≡◌, ◌<◌, List, [], ◌∷◌, ◌++◌, length, map, ap, sym, subst, ◌∙◌, arith}
+use Rattle.std.proofs.Common.{◌≡◌, ◌<◌, ◌≤◌, List, [], ◌∷◌, ◌++◌, length, drop, map, ap, sym, subst, ◌∙◌, arith}
+use Rattle.std.specs.List.{All}
 use Rattle.std.proofs.lemmas.List.{length-map, length_push, map-append}
 use Rattle.std.proofs.lemmas.List.Elements.{All-push}
 use Rattle.ak_message.specs.declared.kind.Kind.{Kind}
@@ -8,13 +9,18 @@ use Rattle.ak_message.specs.Message.{ValueData, kind_of, depth_of_value}
 use Rattle.ak_message.specs.Seen.{value_of}
 use Rattle.ak_action.specs.Values.{ValuesData, AreValues, with_last}
 
+-- behind the first one there is one more
+behind_more : (P : ValueData → Type 0) (xs : List ValueData) (x : ValueData) → 1 ≤ length xs → All P (drop 1 xs) → P x → All P (drop 1 (xs ++ x ∷ []))
+behind_more P [] x some all here = absurd (omega arith)
+behind_more P (y ∷ ys) x some all here = All-push P ys x all here
+
 kept_by_push : (v : ValuesData) (x : ValueData) → kind_of x ≡ v.kind → depth_of_value x < 16 → length v.list < 255 → AreValues v → AreValues (with_last v x)
 kept_by_push v x same shallow room h =
     record {
       filled = omega (arith, length_push v.list x);
       limit = omega (arith, length_push v.list x);
       same_kind = All-push (λ y. kind_of y ≡ v.kind) v.list x h.same_kind same;
-      shallow = All-push (λ y. depth_of_value y < 16) v.list x h.shallow shallow;
+      shallow = behind_more (λ y. depth_of_value y < 16) v.list x h.filled h.shallow shallow;
     }
 
 abbrev seen : Kind → List Value → ValuesData

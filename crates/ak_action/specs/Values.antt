@@ -1,5 +1,5 @@
--- What a field of a message can hold: values of one kind.
-use Rattle.std.specs.Prelude.{◌≡◌, ℕ, ◌<◌, ◌≤◌, ◌++◌, nat_lt, if◌then◌else◌, List, [], ◌∷◌, length, map, All, Option, None, Some, refl}
+-- What a field of a message is given, or a property is set to: values of one kind.
+use Rattle.std.specs.Prelude.{◌≡◌, ℕ, ◌<◌, ◌≤◌, ◌++◌, Bool, nat_lt, if◌then◌else◌, List, [], ◌∷◌, length, map, drop, All, Option, None, Some, refl}
 use Rattle.std.specs.Coded.{Coded, code_by, coded×, coded_list}
 use Rattle.ak_message.specs.declared.kind.Kind.{Kind}
 use Rattle.ak_message.specs.Kind.{is_same_kind, coded_kind}
@@ -15,18 +15,23 @@ pub record ValuesData : Type 0 where
   pub kind : Kind
   pub list : List ValueData
 
--- one or more, at most 255, all of the kind, and each may stand in a message
+-- one or more, at most 255, all of the kind; each behind the first may stand in a message, and so may the first unless it was taken
+-- as one that is set
 pub record AreValues (v : ValuesData) : Type 0 where
   pub filled : 1 ≤ length v.list
   pub limit : length v.list ≤ 255
   pub same_kind : All (λ x. kind_of x ≡ v.kind) v.list
-  pub shallow : All (λ x. depth_of_value x < 16) v.list
+  pub shallow : All (λ x. depth_of_value x < 16) (drop 1 v.list)
 
 abbrev pub one_value : ValueData → ValuesData
 one_value x = record { kind = kind_of x; list = x ∷ [] }
 
 abbrev pub with_last : ValuesData → ValueData → ValuesData
 with_last v x = record { kind = v.kind; list = v.list ++ x ∷ [] }
+
+-- a message can hold it
+abbrev pub is_shallow : ValueData → Bool
+is_shallow x = nat_lt (depth_of_value x) 16
 
 -- why a value is not taken
 abbrev pub depth_fault : ValueData → Option ValuesFault

@@ -1,6 +1,7 @@
-ghost use Rattle.std.specs.Prelude.{◌≡◌, IfOk, OnOk, option_map};
+ghost use Rattle.std.specs.Prelude.{◌≡◌, IfOk, OnOk, filter, option_map};
 ghost use Rattle.ak_message.specs.Seen.{value_of};
-ghost use Rattle.ak_action.specs.Building.{HasRoomFor, built, given_values, held, with_new};
+ghost use Rattle.ak_action.specs.Building.{Fits, HasRoomFor, built, given_values, held, with_held, with_new};
+ghost use Rattle.ak_action.specs.Values.{is_shallow};
 
 use crate::row::DeskRow;
 use crate::template::{Given, Template, TemplateField};
@@ -69,7 +70,7 @@ fn add_held(
     }
 }
 
-// Adds a copy of each value.
+// Adds a copy of each value that a message can hold.
 fn add_values(
     alloc: Global,
     message: &mut Message,
@@ -77,12 +78,28 @@ fn add_values(
     values: &Values,
 ) -> Result<(), NoMemory>
     requires { HasRoomFor message.old.fields name.now }
-    ensures { OnOk result (message.new ≡ with_new message.old name.now values.now.list) }
+    ensures { OnOk result (message.new ≡ with_new message.old name.now (filter is_shallow values.now.list)) }
 {
     let list = values.as_slice();
     for value in list {
-        let copy = value.try_clone(alloc)?;
-        message.add_fitting(name, copy)?;
+        add_value(alloc, message, name, value)?;
     }
     Ok(())
+}
+
+// Adds a copy of the value, where a message can hold it.
+fn add_value(
+    alloc: Global,
+    message: &mut Message,
+    name: &[u8],
+    value: &Value,
+) -> Result<(), NoMemory>
+    requires { Fits message.old name.now (value_of value.now) }
+    ensures { OnOk result (message.new ≡ with_held message.old name.now (value_of value.now)) }
+{
+    if value.depth() >= DEPTH_LIMIT {
+        return Ok(());
+    }
+    let copy = value.try_clone(alloc)?;
+    message.add_fitting(name, copy)
 }

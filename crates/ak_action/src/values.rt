@@ -4,7 +4,7 @@ ghost use Rattle.ak_action.specs.Values.{AreValues, one_value, with_last, depth_
 
 use ak_base::NoMemory;
 use ak_message::{DEPTH_LIMIT, Kind, VALUE_LIMIT, Value};
-use std::alloc::{AllocError, AllocFailed, Global};
+use std::alloc::{AllocFailed, Global};
 use std::marker::Model;
 
 /// Why a value is not taken among values of one field. They are tested in this order.
@@ -20,13 +20,13 @@ pub enum ValuesFault {
     NoMemory,
 }
 
-impl From<AllocError> for ValuesFault {
+impl From<NoMemory> for ValuesFault {
     ghost use Rattle.std.specs.Prelude.{◌≡◌};
     ghost use Rattle.ak_action.specs.declared.values.ValuesFault.TheVariants as fault;
 
     ghost from_gives = { λ _ e. e ≡ fault.NoMemory };
 
-    fn from(_error: AllocError) -> ValuesFault {
+    fn from(_error: NoMemory) -> ValuesFault {
         ValuesFault::NoMemory
     }
 }
@@ -42,8 +42,9 @@ impl<T: Drop> From<AllocFailed<T>> for ValuesFault {
     }
 }
 
-/// What a field of a message can hold: one value or more, at most 255, all of one kind. Messages among them
-/// have a depth below 16. Contracts see the kind and the list.
+/// What a field of a message is given, or a property is set to: one value or more, at most 255, all of one
+/// kind. Where they are messages, each has a depth below 16, so that a message can hold it; the first may be
+/// 16 deep where it was taken by `alone`. Contracts see the kind and the list.
 #[derive(Drop)]
 pub struct Values {
     kind: Kind,
@@ -63,7 +64,8 @@ impl Model for Values {
 }
 
 impl Values {
-    /// This value alone. It is refused with `TooDeep`, and else only with `NoMemory`; then it is dropped.
+    /// This value alone, which a message can hold. It is refused with `TooDeep`, and else only with
+    /// `NoMemory`; then it is dropped.
     pub fn one(alloc: Global, value: Value) -> Result<Values, ValuesFault>
         ensures refused { IfSome (depth_fault (value_of value)) (λ f. result ≡ Err f) }
         ensures only { IfNone (depth_fault (value_of value)) (IsOkUnless result ValuesFault.NoMemory) }
@@ -72,6 +74,14 @@ impl Values {
         if is_too_deep(&value) {
             return Err(ValuesFault::TooDeep);
         }
+        Ok(Values::alone(alloc, value)?)
+    }
+
+    /// This value alone, whatever it is: what a property is set to. A message that is made of it leaves out
+    /// what it cannot hold.
+    pub fn alone(alloc: Global, value: Value) -> Result<Values, NoMemory>
+        ensures { IfOk result (λ v. v ≡ one_value (value_of value)) }
+    {
         let kind = value.kind();
         let mut list = Vec::with_capacity(alloc, 1)?;
         list.push(value)?;

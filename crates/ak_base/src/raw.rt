@@ -51,6 +51,7 @@ impl Raw {
     /// The raw value of these bytes. The faults are tested in the order of `RawFault`. The bytes are copied.
     pub fn from_bytes(alloc: Global, b: &[u8]) -> Result<Raw, RawFault>
         ensures ok { IfOk result (λ r. r ≡ b.now) }
+        ensures limit { RAW_LIMIT ≡ 1024 }
         ensures too_long { IsErrOf result RawFault.TooLong ↔ (RAW_LIMIT < length b.now) }
     {
         if b.len() > RAW_LIMIT {

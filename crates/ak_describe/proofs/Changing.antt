@@ -18,7 +18,7 @@ last_there xs n x len has_one is =
     slice_get_read xs (length xs) (length xs - 1) x refl (omega arith) (subst (λ (m : ℕ). x ≡ get_or xs (m - 1) x) len is)
 
 -- written where it stands, it leaves the list as it is
-kept_own : {A : Type 0} (xs : List A) (x : A) → last_item xs ≡ Some x → slice_set xs (length xs - 1) x ≡ xs
+pub kept_own : {A : Type 0} (xs : List A) (x : A) → last_item xs ≡ Some x → slice_set xs (length xs - 1) x ≡ xs
 kept_own xs x is = ap (slice_set xs (length xs - 1)) (sym (get_or_from_slice_get xs (length xs - 1) x x is)) ∙ set-get_or xs (length xs - 1) x
 
 -- ---- a list as it is seen by a view

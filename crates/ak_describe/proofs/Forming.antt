@@ -172,7 +172,7 @@ module _ (ps : List PropertyParts) where
   one_is word vs e =
       let t = mapped (value_from word) (λ (v : Option ValueData). v >>= one_kept) (Some vs) e in
       let u = bound t.value one_kept vs t.then_is in
-      let w = where_is (is_short u.value && is_none (depth_fault u.value)) (one_value u.value) vs u.then_is in
+      let w = where_is (is_short u.value) (one_value u.value) vs u.then_is in
       subst (λ (x : ValuesData). eqb (length x.list) 1 ≡ true) w.1 refl
 
   set_fits : (word : List ℕ) (g : Given) → set_given ps word ≡ Some (Some g) → Fitting g × (is_one g ≡ true)

@@ -10,6 +10,7 @@ pub mod Following
 pub mod FollowingMore
 pub mod Forming
 pub mod grammar
+pub mod Heading
 pub mod Judging
 pub mod Keeping
 pub mod Lasts
@@ -21,6 +22,7 @@ pub mod Lists
 pub mod LooperLines
 pub mod Naming
 pub mod NextLine
+pub mod Noting
 pub mod Ordering
 pub mod Outcomes
 pub mod PartsKept
@@ -38,4 +40,5 @@ pub mod Texts
 pub mod Told
 pub mod Walks
 pub mod Whole
+pub mod WholeApps
 pub mod Writing

@@ -54,13 +54,6 @@ kept (Err read.BadValue) = Err form.BadValue
 kept (Err read.Limit) = Ok None
 kept (Err read.NoMemory) = Err form.NoMemory
 
--- a value that no message can hold passes a limit
-abbrev pub not_kept : {T : Type 0} → ValuesFault → Result (Option T) FormFault
-not_kept values.NoMemory = Err form.NoMemory
-not_kept values.BadType = Ok None
-not_kept values.ValueLimit = Ok None
-not_kept values.TooDeep = Ok None
-
 -- a value that a field can't hold is a bad value
 abbrev pub held_fault : ValuesFault → FormFault
 held_fault values.NoMemory = form.NoMemory

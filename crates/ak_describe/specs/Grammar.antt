@@ -308,9 +308,9 @@ pub record SaysAsk (properties : List PropertyParts) (words : List (List ℕ)) (
   pub into_is : IsInto properties into into_part
   pub kept : a ≡ option_map (λ (m : Template). action.Ask to m into) message
 
--- one value alone, where it is no message of over 4,096 bytes and none that no message can hold
+-- one value alone, where it is no message of over 4,096 bytes; it may be a message that no field can hold
 abbrev pub small_value : ValueData → Option Given
-small_value v = if is_short v && nat_lt (depth_of_value v) 16 then Some (gets.Values (one_value v)) else None
+small_value v = if is_short v then Some (gets.Values (one_value v)) else None
 
 abbrev pub set_value : Option ValueData → Option Given
 set_value None = None

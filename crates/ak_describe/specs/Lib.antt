@@ -16,4 +16,5 @@ pub mod Pass
 pub mod Says
 pub mod Second
 pub mod Seen
+pub mod Whole
 pub mod Words

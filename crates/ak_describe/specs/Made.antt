@@ -102,9 +102,9 @@ is_short (text_value _) = true
 is_short (messenger_value _) = true
 is_short (raw_value _) = true
 
--- a message that is too long, or that no message can hold, passes a limit
+-- a message that is too long passes a limit
 abbrev pub one_kept : ValueData → Option ValuesData
-one_kept v = where_true (is_short v && is_none (depth_fault v)) (one_value v)
+one_kept v = where_true (is_short v) (one_value v)
 
 unfoldable pub one_from : List ℕ → Option (Option ValuesData)
 one_from word = option_map (λ (v : Option ValueData). v >>= one_kept) (value_from word)

@@ -1,6 +1,7 @@
 //! What holds of all lines that describe applications.
 
 ghost use Rattle.ak_describe.specs.Laws as law;
+ghost use Rattle.ak_describe.specs.Whole.{DescriptionsAreWhole};
 
 /// Exactly what lines describe is read of them, and exactly their first fault is told.
 pub fn descriptions_are_read()
@@ -20,4 +21,11 @@ pub fn described_or_faulty()
 /// Each name that lines give to be found by others stands in a handler that they give.
 pub fn names_have_places()
     ensures { law.NamesHavePlaces }
+{}
+
+/// What lines describe is whole: at most 16 applications, whose paths differ, with 1 to 8 loopers each, whose
+/// names differ; the first of them keeps 2 messages or more; each looper that an action names is there. So a
+/// roster and the loopers' desks take it as it is.
+pub fn descriptions_are_whole()
+    ensures { DescriptionsAreWhole }
 {}

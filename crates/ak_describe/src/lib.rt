@@ -27,7 +27,9 @@ use ak_message::Line;
 pub use described::AppText;
 pub use fault::DescribeFault;
 pub use first::{APP_LIMIT, APP_LOOPER_LIMIT};
-pub use laws::{described_or_faulty, descriptions_are_read, names_have_places};
+pub use laws::{
+    described_or_faulty, descriptions_are_read, descriptions_are_whole, names_have_places,
+};
 use std::alloc::Global;
 
 /// The applications that these lines describe, in order, each with the plans of its loopers. The lines are

@@ -1,12 +1,15 @@
--- However the calls for one message go, they come to its dispatch with all answers at once.
-use Rattle.std.proofs.Common.{◌≡◌, ℕ, ◌+◌, Bool, true, false, List, [], ◌∷◌, ◌++◌, drop, Option, None, Some, Result, Ok, Err, IfOk, OnErr, is_some, unwrap_or, cond, refl, sym, ap, subst, ◌∙◌, append_assoc}
-use Rattle.std.proofs.lemmas.List.{append-nil}
+-- However the calls for one message go, they come to what its dispatch comes to with the answers so far.
+use Rattle.std.proofs.Common.{◌≡◌, ℕ, ◌+◌, ◌-◌, Bool, true, false, List, [], ◌∷◌, ◌++◌, drop, length, Option, None, Some, option_map, slice_get, Result, Ok, Err, IfOk, OnErr, is_some, unwrap_or, cond, refl, sym, ap, subst, ◌∙◌, append_assoc, arith}
+use Rattle.std.proofs.lemmas.List.{append-nil, length_push}
 use Rattle.ak_base.specs.declared.error.KitError.TheVariants as error
 use Rattle.ak_base.specs.declared.no_memory.NoMemory.{NoMemory}
 use Rattle.ak_message.specs.Message.{MessageData}
+use Rattle.ak_flatten.specs.Item.{ItemData}
 use Rattle.ak_action.specs.declared.action.Action.{Action}
 use Rattle.ak_action.specs.declared.answer.Answer.{Answer}
 use Rattle.ak_action.specs.declared.answer.Answer.TheVariants as answer
+use Rattle.ak_action.specs.declared.answer.AnswerWord.{AnswerWord}
+use Rattle.ak_action.specs.declared.answer.AnswerWord.TheVariants as word
 use Rattle.ak_action.specs.declared.answer.Want.{Want}
 use Rattle.ak_action.specs.declared.answer.Want.TheVariants as want
 use Rattle.ak_action.specs.declared.doing.Sending.{Sending}
@@ -17,7 +20,7 @@ use Rattle.ak_action.specs.declared.state.DeskState.{DeskState}
 use Rattle.ak_action.specs.Acts.{acts, is_at, put, want_of}
 use Rattle.ak_action.specs.Doing.{Doing, says, replies, puts, sends, finds, stops, quits, doing_of, preferred_of}
 use Rattle.ak_action.specs.Interp.{InterpData, Nexted, nexted, failed, Given, Answers, AnswersFind, AnswersSend, AnswersStage, MayGoOn, MayGoOnFrom, actions_of, carried, give_at, give_of, go_on, hear_of_send, hear_of_team, next_at, next_of, out_of_memory, past, started, then_go_on, with_stage}
-use Rattle.ak_action.specs.Laws.{Calls, CallsAct, Ran, finished, found_none, got_one, is_done, ran_of, wanting}
+use Rattle.ak_action.specs.Laws.{Calls, CallsAct, Ran, RunsAct, answered_so, by_want, finished, found_none, got_one, run, unanswered, wanting}
 use Rattle.ak_action.specs.Laws as law
 use Rattle.ak_desk.specs.declared.task.Task.{Task}
 use Rattle.ak_desk.specs.declared.task.Task.TheVariants as task
@@ -26,13 +29,12 @@ use Rattle.ak_route.specs.declared.outcome.Route.TheVariants as route
 use Rattle.ak_route.specs.declared.outcome.Taker.{Taker}
 use Rattle.ak_route.specs.declared.outcome.Taker.TheVariants as taker
 use Rattle.ak_desk.specs.Answering.{AnswersAsk, AnswersPost}
-use Rattle.ak_desk.specs.Dispatch.{Dispatch, by_reaction, by_route, ran_out, taken}
-use Rattle.ak_desk.specs.Laws.{ComesToDispatch}
+use Rattle.ak_desk.specs.Dispatch.{Dispatch, by_reaction, by_route, came_to, dispatch_of, is_no_memory, ran_out, taken}
 use Rattle.ak_desk.specs.Place.{routed_of}
 use Rattle.ak_desk.specs.Replies.{none_reply, not_understood}
-use Rattle.ak_desk.specs.Task.{Awaits, Comes, Wanted, wants, wants_none, IsDone, MayWant, TakesAnswer, came_to, heard_of, next_wanted, place_in, taken_as, task_by}
+use Rattle.ak_desk.specs.Task.{Awaits, Comes, Wanted, wants, wants_none, IsDone, MayWant, TakesAnswer, came_of, heard_of, next_wanted, place_in, taken_as, task_by, task_of}
 use Rattle.ak_desk.specs.Task as the
-use Rattle.ak_desk.proofs.AtOnce.{ComesTo, built_in_comes, forward_comes, property_comes, ready_comes}
+use Rattle.ak_desk.proofs.AtOnce.{FailsSo, Outcomes, built_in_comes, ends_so, fails_so, forward_comes, property_comes, ready_comes}
 
 -- ---- where a reaction stands behind a want
 abbrev pub IsWaiting : Stage → Type 0
@@ -216,86 +218,68 @@ failed_is (failed i s) u v e =
     record { interp = i; is = ap (failed i) state_same; task_is = task_same }
 
 -- where more was wanted before
-abbrev adding : List Want → Ran → Ran
+abbrev pub adding : List Want → Ran → Ran
 adding asked r = record r { wants = asked ++ r.wants }
+
+adding-wanting : (asked : List Want) (w : Want) (r : Ran) → adding asked (wanting w r) ≡ adding (asked ++ w ∷ []) r
+adding-wanting asked w r = ap (λ (ws : List Want). record r { wants = ws }) (sym (append_assoc asked (w ∷ []) r.wants))
+
+asks_by : (on : Want → InterpData → DeskState → Ran) (answers : List Answer) (w : Want) (j : InterpData) (v : DeskState) → law.IsAsking w → by_want on answers (nexted w j v) ≡ on w j v
+asks_by on answers want.Done j v asking = absurd asking
+asks_by on answers (want.Find word) j v asking = refl
+asks_by on answers (want.Post to m back) j v asking = refl
+asks_by on answers (want.Ask to m) j v asking = refl
+asks_by on answers (want.Forward looper popped) j v asking = refl
+
+-- ---- one step of a run in which no memory runs out
+run_asks : (a : Answer) (rest : List Answer) (i : InterpData) (s : DeskState) (w : Want) (j : InterpData) (v : DeskState) → law.IsAsking w → next_of None i s ≡ nexted w j v → run None (a ∷ rest) i s ≡ wanting w (run None rest (give_of j v a).interp (give_of j v a).state)
+run_asks a rest i s w j v asking e =
+    let on : Want → InterpData → DeskState → Ran = λ x k t. answered_so (run None rest) x (give_of k t a) in
+    ap (by_want on (a ∷ rest)) e ∙ asks_by on (a ∷ rest) w j v asking
+
+run_waits : (i : InterpData) (s : DeskState) (w : Want) (j : InterpData) (v : DeskState) → law.IsAsking w → next_of None i s ≡ nexted w j v → run None [] i s ≡ unanswered w j v
+run_waits i s w j v asking e = ap (by_want unanswered []) e ∙ asks_by unanswered [] w j v asking
+
+run_ends : (i : InterpData) (s : DeskState) (j : InterpData) (v : DeskState) → next_of None i s ≡ nexted want.Done j v → run None [] i s ≡ finished j v []
+run_ends i s j v e = ap (by_want unanswered []) e
 
 -- ---- a reaction, from its beginning
 module _ (i0 : InterpData) (s0 : DeskState) where
-  -- what is still to come makes calls of the whole
+  -- what is still to come makes calls of the whole, and a run of it
   record Goes (asked : List Want) (heard : List Answer) (i : InterpData) (s : DeskState) : Type 0 where
     may : MayGoOn i
     calls : (rest : List Answer) (r : Ran) → Calls rest i s r → Calls (heard ++ rest) i0 s0 (adding asked r)
+    runs : (rest : List Answer) → run None (heard ++ rest) i0 s0 ≡ adding asked (run None rest i s)
 
   -- so does an answer, and what comes behind it
   record Waits (asked : List Want) (heard : List Answer) (i : InterpData) (s : DeskState) : Type 0 where
     awaits : IsWaiting i.stage
     calls : (a : Answer) (rest : List Answer) (r : Ran) → Calls rest (give_of i s a).interp (give_of i s a).state r → Calls (heard ++ a ∷ rest) i0 s0 (adding asked r)
-
-  record Over (asked : List Want) (heard : List Answer) (i : InterpData) (s : DeskState) : Type 0 where
-    ended : i.stage ≡ stage.Ended
-    calls : Calls heard i0 s0 (adding asked (finished i s []))
+    runs : (a : Answer) (rest : List Answer) → run None (heard ++ a ∷ rest) i0 s0 ≡ adding asked (run None rest (give_of i s a).interp (give_of i s a).state)
 
   data Reacts (asked : List Want) (heard : List Answer) (i : InterpData) (s : DeskState) : Type 0 where
     goes : Goes asked heard i s → Reacts asked heard i s
     waits : Waits asked heard i s → Reacts asked heard i s
-    over : Over asked heard i s → Reacts asked heard i s
 
   abbrev Stands : List Want → List Answer → Task → DeskState → Type 0
   Stands asked heard (task.Reaction i) s = Reacts asked heard i s
   Stands asked heard _ s = ⊥
 
   begins : MayGoOn i0 → Reacts [] [] i0 s0
-  begins may = goes (record { may = may; calls = λ rest r c. c })
+  begins may = goes (record { may = may; calls = λ rest r c. c; runs = λ rest. refl })
 
   -- ---- a want
   asks_on : (asked : List Want) (heard : List Answer) (i : InterpData) (s : DeskState) (w : Want) (j : InterpData) (v : DeskState) → Goes asked heard i s → law.IsAsking w → next_of None i s ≡ nexted w j v → Waits (asked ++ w ∷ []) heard j v
   asks_on asked heard i s w j v g asking e =
       record {
         awaits = asking_awaits w j.stage asking (subst NextStands e (next_stands None i s));
-        calls = λ a rest r c.
-            subst (λ (x : Ran). Calls (heard ++ a ∷ rest) i0 s0 x)
-            (ap (λ (ws : List Want). record r { wants = ws }) (sym (append_assoc asked (w ∷ []) r.wants)))
-            (g.calls (a ∷ rest) (wanting w r) (got_one a rest i s w j v r asking e c));
+        calls = λ a rest r c. subst (λ (x : Ran). Calls (heard ++ a ∷ rest) i0 s0 x) (adding-wanting asked w r) (g.calls (a ∷ rest) (wanting w r) (got_one a rest i s w j v r asking e c));
+        runs = λ a rest. g.runs (a ∷ rest) ∙ ap (adding asked) (run_asks a rest i s w j v asking e) ∙ adding-wanting asked w (run None rest (give_of j v a).interp (give_of j v a).state);
       }
 
   wants_on : (asked : List Want) (heard : List Answer) (i : InterpData) (s : DeskState) (w : Want) (j : InterpData) (v : DeskState) → Reacts asked heard i s → MayGoOn i → law.IsAsking w → next_of None i s ≡ nexted w j v → Reacts (asked ++ w ∷ []) heard j v
   wants_on asked heard i s w j v (goes g) may asking e = waits (asks_on asked heard i s w j v g asking e)
   wants_on asked heard i s w j v (waits h) may asking e = may_not i.stage h.awaits may
-  wants_on asked heard i s w j v (over h) may asking e =
-      let is : nexted want.Done (with_stage stage.Ended i) s ≡ nexted w j v = sym (ap (λ (at : Stage). next_at at None i s) h.ended) ∙ e in
-      let same : want.Done ≡ w = cc in
-      absurd (subst law.IsAsking (sym same) asking)
-
-  -- ---- the end
-  last : (asked : List Want) (heard : List Answer) (i : InterpData) (s : DeskState) (j : InterpData) (v : DeskState) → Goes asked heard i s → j.stage ≡ stage.Ended → Calls [] i s (finished j v []) → Over asked heard j v
-  last asked heard i s j v g e c =
-      record {
-        ended = e;
-        calls = subst (λ (l : List Answer). Calls l i0 s0 (adding asked (finished j v []))) (append-nil heard) (g.calls [] (finished j v []) c);
-      }
-
-  stays : (i : InterpData) (s : DeskState) (j : InterpData) (v : DeskState) → i.stage ≡ stage.Ended → next_of None i s ≡ nexted want.Done j v → (i ≡ j) × (s ≡ v)
-  stays i s j v ended e =
-      let is : nexted want.Done (with_stage stage.Ended i) s ≡ nexted want.Done j v = sym (ap (λ (at : Stage). next_at at None i s) ended) ∙ e in
-      let same : with_stage stage.Ended i ≡ j = cc in
-      let state_same : s ≡ v = cc in
-      (ap (λ (at : Stage). with_stage at i) ended ∙ same, state_same)
-
-  ends_on : (asked : List Want) (heard : List Answer) (i : InterpData) (s : DeskState) (j : InterpData) (v : DeskState) → Reacts asked heard i s → MayGoOn i → next_of None i s ≡ nexted want.Done j v → Reacts asked heard j v
-  ends_on asked heard i s j v (goes g) may e =
-      over (last asked heard i s j v g (subst NextStands e (next_stands None i s)) (is_done [] i s j v e))
-  ends_on asked heard i s j v (waits h) may e = may_not i.stage h.awaits may
-  ends_on asked heard i s j v (over h) may e =
-      let same = stays i s j v h.ended e in
-      subst (Reacts asked heard j) same.1 (subst (λ (x : InterpData). Reacts asked heard x s) same.0 (over h))
-
-  fails_on : (asked : List Want) (heard : List Answer) (i : InterpData) (s : DeskState) (j : InterpData) (v : DeskState) → Reacts asked heard i s → MayGoOn i → next_of (Some j.place) i s ≡ failed j v → Reacts asked heard j v
-  fails_on asked heard i s j v (goes g) may e =
-      over (last asked heard i s j v g (subst NextStands e (next_stands (Some j.place) i s)) (found_none [] i s j v e))
-  fails_on asked heard i s j v (waits h) may e = may_not i.stage h.awaits may
-  fails_on asked heard i s j v (over h) may e =
-      let is : nexted want.Done (with_stage stage.Ended i) s ≡ failed j v = sym (ap (λ (at : Stage). next_at at (Some j.place) i s) h.ended) ∙ e in
-      absurd cc
 
   -- ---- an answer
   hears_on : (asked : List Want) (heard : List Answer) (i : InterpData) (s : DeskState) (a : Answer) → Reacts asked heard i s → Answers i a → Reacts asked (heard ++ a ∷ []) (give_of i s a).interp (give_of i s a).state
@@ -304,8 +288,8 @@ module _ (i0 : InterpData) (s0 : DeskState) where
       goes (record {
         may = give_may i.stage i s a h;
         calls = λ rest r c. subst (λ (l : List Answer). Calls l i0 s0 (adding asked r)) (sym (append_assoc heard (a ∷ []) rest)) (g.calls a rest r c);
+        runs = λ rest. ap (λ (l : List Answer). run None l i0 s0) (append_assoc heard (a ∷ []) rest) ∙ g.runs a rest;
       })
-  hears_on asked heard i s a (over g) h = absurd (subst (λ (at : Stage). AnswersStage at a) g.ended h)
 
   -- ---- all of it
   stands : (asked : List Want) (heard : List Answer) (t : Task) (s : DeskState) → MayGoOn i0 → Comes s0 (task.Reaction i0) asked heard t s → Stands asked heard t s
@@ -314,15 +298,6 @@ module _ (i0 : InterpData) (s0 : DeskState) where
       let n = next_is (next_of None i s) w u v e in
       subst (λ (x : Task). Stands (asked ++ w ∷ []) heard x v) (sym n.task_is)
       (wants_on asked heard i s w n.interp v (stands asked heard (task.Reaction i) s may0 c) may asking n.is)
-  stands _ _ _ _ may0 (the.done asked heard (task.Reaction i) s u v c may e) =
-      let n = next_is (next_of None i s) want.Done u v e in
-      subst (λ (x : Task). Stands asked heard x v) (sym n.task_is)
-      (ends_on asked heard i s n.interp v (stands asked heard (task.Reaction i) s may0 c) may n.is)
-  stands _ _ _ _ may0 (the.found_none asked heard (task.Reaction i) s u v c may e) =
-      let n = failed_is (next_of (Some (place_in u)) i s) u v e in
-      subst (λ (x : Task). Stands asked heard x v) (sym n.task_is)
-      (fails_on asked heard i s n.interp v (stands asked heard (task.Reaction i) s may0 c) may
-      (ap (λ (x : Task). next_of (Some (place_in x)) i s) (sym n.task_is) ∙ n.is))
   stands _ _ _ _ may0 (the.given asked heard (task.Reaction i) s a c h) =
       hears_on asked heard i s a (stands asked heard (task.Reaction i) s may0 c) h
   stands _ _ _ _ may0 (the.wanted asked heard (task.Property token place m) s w u v c may asking e) = absurd (stands asked heard (task.Property token place m) s may0 c)
@@ -330,28 +305,55 @@ module _ (i0 : InterpData) (s0 : DeskState) where
   stands _ _ _ _ may0 (the.wanted asked heard (task.Forward looper popped spare) s w u v c may asking e) = absurd (stands asked heard (task.Forward looper popped spare) s may0 c)
   stands _ _ _ _ may0 (the.wanted asked heard (task.Forwarding spare) s w u v c may asking e) = absurd (stands asked heard (task.Forwarding spare) s may0 c)
   stands _ _ _ _ may0 (the.wanted asked heard (task.Done word reply quit) s w u v c may asking e) = absurd (stands asked heard (task.Done word reply quit) s may0 c)
-  stands _ _ _ _ may0 (the.done asked heard (task.Property token place m) s u v c may e) = absurd (stands asked heard (task.Property token place m) s may0 c)
-  stands _ _ _ _ may0 (the.done asked heard (task.BuiltIn token m) s u v c may e) = absurd (stands asked heard (task.BuiltIn token m) s may0 c)
-  stands _ _ _ _ may0 (the.done asked heard (task.Forward looper popped spare) s u v c may e) = absurd (stands asked heard (task.Forward looper popped spare) s may0 c)
-  stands _ _ _ _ may0 (the.done asked heard (task.Forwarding spare) s u v c may e) = absurd (stands asked heard (task.Forwarding spare) s may0 c)
-  stands _ _ _ _ may0 (the.done asked heard (task.Done word reply quit) s u v c may e) = absurd (stands asked heard (task.Done word reply quit) s may0 c)
-  stands _ _ _ _ may0 (the.found_none asked heard (task.Property token place m) s u v c may e) = absurd (stands asked heard (task.Property token place m) s may0 c)
-  stands _ _ _ _ may0 (the.found_none asked heard (task.BuiltIn token m) s u v c may e) = absurd (stands asked heard (task.BuiltIn token m) s may0 c)
-  stands _ _ _ _ may0 (the.found_none asked heard (task.Forward looper popped spare) s u v c may e) = absurd (stands asked heard (task.Forward looper popped spare) s may0 c)
-  stands _ _ _ _ may0 (the.found_none asked heard (task.Forwarding spare) s u v c may e) = absurd (stands asked heard (task.Forwarding spare) s may0 c)
-  stands _ _ _ _ may0 (the.found_none asked heard (task.Done word reply quit) s u v c may e) = absurd (stands asked heard (task.Done word reply quit) s may0 c)
   stands _ _ _ _ may0 (the.given asked heard (task.Property token place m) s a c h) = absurd h
   stands _ _ _ _ may0 (the.given asked heard (task.BuiltIn token m) s a c h) = absurd h
   stands _ _ _ _ may0 (the.given asked heard (task.Forward looper popped spare) s a c h) = absurd h
   stands _ _ _ _ may0 (the.given asked heard (task.Forwarding spare) s a c h) = absurd (stands asked heard (task.Forwarding spare) s may0 c)
   stands _ _ _ _ may0 (the.given asked heard (task.Done word reply quit) s a c h) = absurd h
 
-  over_at_end : (asked : List Want) (heard : List Answer) (i : InterpData) (s : DeskState) → Reacts asked heard i s → i.stage ≡ stage.Ended → Over asked heard i s
-  over_at_end asked heard i s (goes g) e =
-      last asked heard i s i s g e
-      (is_done [] i s i s (ap (λ (at : Stage). next_at at None i s) e ∙ ap (λ (at : Stage). nexted want.Done (with_stage at i) s) (sym e)))
-  over_at_end asked heard i s (waits h) e = ended_awaits_none i.stage h.awaits e
-  over_at_end asked heard i s (over h) e = h
+-- ---- where an action finds no memory, the last word tells it
+word_at_end : (words : List AnswerWord) (w : AnswerWord) → slice_get (words ++ w ∷ []) (length words) ≡ Some w
+word_at_end [] w = refl
+word_at_end (x ∷ words) w = word_at_end words w
+
+ran_out-push : (words : List AnswerWord) (w : AnswerWord) → ran_out (words ++ w ∷ []) ≡ is_no_memory w
+ran_out-push words w =
+    let last : length (words ++ w ∷ []) - 1 ≡ length words = omega (arith, length_push words w) in
+    ap (λ (n : ℕ). unwrap_or (option_map is_no_memory (slice_get (words ++ w ∷ []) n)) false) last
+    ∙ ap (λ (o : Option AnswerWord). unwrap_or (option_map is_no_memory o) false) (word_at_end words w)
+
+abbrev LastTells : Nexted → Type 0
+LastTells (nexted w i s) = Unit {0}
+LastTells (failed i s) = ran_out i.words ≡ true
+
+module _ (memory : Option ℕ) where
+  carried_tells : (rest : List Action) → ((i : InterpData) (s : DeskState) → LastTells (go_on memory rest i s)) → (d : Doing) (i : InterpData) (s : DeskState) → LastTells (then_go_on (go_on memory rest) (carried d i s))
+  carried_tells rest on (says e) i s = on (past e i) s
+  carried_tells rest on (replies m) i s = on (past error.Ok (record i { reply = Some m })) s
+  carried_tells rest on (puts place value) i s = on (past error.Ok i) (put s i.token place value)
+  carried_tells rest on (sends to how m) i s = tt
+  carried_tells rest on (finds w how m) i s = tt
+  carried_tells rest on stops i s = tt
+  carried_tells rest on quits i s = on (past error.Ok (record i { quit = true })) s
+
+  step_tells : (b : Bool) (x y : Nexted) → LastTells x → LastTells y → LastTells (cond b x y)
+  step_tells true x y h g = h
+  step_tells false x y h g = g
+
+  go_on_tells : (list : List Action) (i : InterpData) (s : DeskState) → LastTells (go_on memory list i s)
+  go_on_tells [] i s = tt
+  go_on_tells (a ∷ rest) i s =
+      step_tells (is_at memory i.place) (failed (out_of_memory i) s)
+      (then_go_on (go_on memory rest) (carried (doing_of s i.token i.message (is_some i.reply) a) i s))
+      (ran_out-push i.words (word.Error error.NoMemory))
+      (carried_tells rest (go_on_tells rest) (doing_of s i.token i.message (is_some i.reply) a) i s)
+
+  next_tells : (at : Stage) (i : InterpData) (s : DeskState) → LastTells (next_at at memory i s)
+  next_tells stage.Ready i s = go_on_tells (drop i.place (actions_of s i.token i.reaction)) i s
+  next_tells (stage.Finding how m) i s = tt
+  next_tells (stage.Found looper how m) i s = tt
+  next_tells (stage.Sent how) i s = tt
+  next_tells stage.Ended i s = tt
 
 -- ---- what it comes to
 abbrev by_ran : Ran → Dispatch
@@ -367,50 +369,83 @@ by_ran r =
       answers = r.answers;
     }
 
-module _ (s0 : DeskState) (m : MessageData) (token place : ℕ) where
+module _ (act : CallsAct) (runs_act : RunsAct) (s0 : DeskState) (m : MessageData) (token place : ℕ) where
   abbrev first : InterpData
   first = started m token place
 
   abbrev reacted : List Answer → Option ℕ → Dispatch
   reacted answers memory = by_reaction (acts s0 token m (actions_of s0 token place) answers memory)
 
-  over_comes : (asked : List Want) (heard : List Answer) (i : InterpData) (s : DeskState) → CallsAct → Over first s0 asked heard i s → ComesTo reacted asked heard (task.Reaction i) s
-  over_comes asked heard i s act h =
-      let whole = act s0 m token place heard (adding asked (finished i s [])) h.calls in
-      record {
-        memory = whole.0;
-        is = ap by_ran (sym whole.1) ∙ ap (λ (ws : List Want). record (came_to asked (task.Reaction i) s) { wants = ws }) (append-nil asked);
-      }
+  -- with what has gone so far, and what its run comes to from here
+  ran_so : (asked : List Want) (heard : List Answer) (i : InterpData) (s : DeskState) (r : Ran) → Goes first s0 asked heard i s → run None [] i s ≡ r → reacted heard None ≡ by_ran (adding asked r)
+  ran_so asked heard i s r g e =
+      ap by_ran (sym (runs_act s0 m token place heard None) ∙ ap (λ (l : List Answer). run None l first s0) (sym (append-nil heard)) ∙ g.runs [] ∙ ap (adding asked) e)
 
-  ends : (asked : List Want) (heard : List Answer) (t : Task) (s : DeskState) → CallsAct → Stands first s0 asked heard t s → IsDone t → ComesTo reacted asked heard t s
-  ends asked heard (task.Reaction i) s act h end = over_comes asked heard i s act (over_at_end first s0 asked heard i s h end)
-  ends asked heard (task.Property at place m) s act h end = absurd h
-  ends asked heard (task.BuiltIn at m) s act h end = absurd h
-  ends asked heard (task.Forward looper popped spare) s act h end = absurd h
-  ends asked heard (task.Forwarding spare) s act h end = absurd h
-  ends asked heard (task.Done word reply quit) s act h end = absurd h
+  came_so : (asked : List Want) (j : InterpData) (v : DeskState) → by_ran (adding asked (finished j v [])) ≡ came_to asked (came_of (task.Reaction j)) v
+  came_so asked j v = ap (λ (ws : List Want). came_to ws (came_of (task.Reaction j)) v) (append-nil asked)
 
-  reaction_comes : (asked : List Want) (heard : List Answer) (t : Task) (s : DeskState) → CallsAct → Comes s0 (task.Reaction first) asked heard t s → IsDone t → ComesTo reacted asked heard t s
-  reaction_comes asked heard t s act c end = ends asked heard t s act (stands first s0 asked heard t s tt c) end
+  fails_there : (asked : List Want) (heard : List Answer) (i : InterpData) (s : DeskState) (u : Task) (v : DeskState) → Goes first s0 asked heard i s → the.want_of (Some (place_in u)) (task.Reaction i) s ≡ wants_none u v → FailsSo reacted asked heard u v
+  fails_there asked heard i s u v g e =
+      let n = failed_is (next_of (Some (place_in u)) i s) u v e in
+      let there : next_of (Some n.interp.place) i s ≡ failed n.interp v = ap (λ (x : Task). next_of (Some (place_in x)) i s) (sym n.task_is) ∙ n.is in
+      let c : Calls heard first s0 (adding asked (finished n.interp v [])) =
+      subst (λ (l : List Answer). Calls l first s0 (adding asked (finished n.interp v []))) (append-nil heard)
+      (g.calls [] (finished n.interp v []) (found_none [] i s n.interp v there)) in
+      let whole = act s0 m token place heard (adding asked (finished n.interp v [])) c in
+      let is : reacted heard whole.0 ≡ came_to asked (came_of (task.Reaction n.interp)) v = ap by_ran (sym whole.1) ∙ came_so asked n.interp v in
+      fails_so reacted whole.0 asked heard (task.Reaction n.interp) u v v is (sym n.task_is) refl (subst LastTells there (next_tells (Some n.interp.place) i.stage i s))
+
+  outcomes_of : (asked : List Want) (heard : List Answer) (i : InterpData) (s : DeskState) → Reacts first s0 asked heard i s → Outcomes reacted asked heard (task.Reaction i) s
+  outcomes_of asked heard i s (goes g) = record {
+    waits = λ w u v may asking e.
+        let n = next_is (next_of None i s) w u v e in
+        let whole = ran_so asked heard i s (unanswered w n.interp v) g (run_waits i s w n.interp v asking n.is) in
+        record {
+          wants = ap (λ (p : Dispatch). p.wants) whole;
+          state = ap (λ (p : Dispatch). p.state) whole;
+          used = ap (λ (p : Dispatch). p.answers) whole;
+          waits = ap (λ (p : Dispatch). p.waits) whole;
+        };
+    ends = λ u v may e.
+        let n = next_is (next_of None i s) want.Done u v e in
+        let whole = ran_so asked heard i s (finished n.interp v []) g (run_ends i s n.interp v n.is) in
+        ends_so reacted None asked heard (task.Reaction n.interp) u v v (whole ∙ came_so asked n.interp v) (sym n.task_is) refl;
+    fails = λ u v may e. fails_there asked heard i s u v g e;
+  }
+  outcomes_of asked heard i s (waits h) = record {
+    waits = λ w u v may asking e. may_not i.stage h.awaits may;
+    ends = λ u v may e. may_not i.stage h.awaits may;
+    fails = λ u v may e. may_not i.stage h.awaits may;
+  }
+
+  outcomes_at : (asked : List Want) (heard : List Answer) (t : Task) (s : DeskState) → Stands first s0 asked heard t s → Outcomes reacted asked heard t s
+  outcomes_at asked heard (task.Reaction i) s h = outcomes_of asked heard i s h
+  outcomes_at asked heard (task.Property at place m) s h = absurd h
+  outcomes_at asked heard (task.BuiltIn at m) s h = absurd h
+  outcomes_at asked heard (task.Forward looper popped spare) s h = absurd h
+  outcomes_at asked heard (task.Forwarding spare) s h = absurd h
+  outcomes_at asked heard (task.Done word reply quit) s h = absurd h
+
+  reaction_comes : (asked : List Want) (heard : List Answer) (t : Task) (s : DeskState) → Comes s0 (task.Reaction first) asked heard t s → Outcomes reacted asked heard t s
+  reaction_comes asked heard t s c = outcomes_at asked heard t s (stands first s0 asked heard t s tt c)
 
 -- ---- each route
-module _ (act : CallsAct) (s0 : DeskState) (m : MessageData) where
-  taken_comes : (token : ℕ) (t0 : Taker) (asked : List Want) (heard : List Answer) (t : Task) (s : DeskState) → Comes s0 (taken_as token m t0) asked heard t s → IsDone t → ComesTo (λ answers memory. taken s0 token m t0 answers memory) asked heard t s
-  taken_comes token (taker.Property place) asked heard t s c end = property_comes s0 token place m asked heard t s c end
-  taken_comes token (taker.Reaction place) asked heard t s c end = reaction_comes s0 m token place asked heard t s act c end
-  taken_comes token taker.BuiltIn asked heard t s c end = built_in_comes s0 token m asked heard t s c end
+module _ (act : CallsAct) (runs_act : RunsAct) (s0 : DeskState) (m : MessageData) where
+  taken_comes : (token : ℕ) (t0 : Taker) (asked : List Want) (heard : List Answer) (t : Task) (s : DeskState) → Comes s0 (taken_as token m t0) asked heard t s → Outcomes (λ answers memory. taken s0 token m t0 answers memory) asked heard t s
+  taken_comes token (taker.Property place) asked heard t s c = property_comes s0 token place m asked heard t s c
+  taken_comes token (taker.Reaction place) asked heard t s c = reaction_comes act runs_act s0 m token place asked heard t s c
+  taken_comes token taker.BuiltIn asked heard t s c = built_in_comes s0 token m asked heard t s c
 
-  routed_comes : (r : Route) (asked : List Want) (heard : List Answer) (t : Task) (s : DeskState) → Comes s0 (task_by s0.first m r) asked heard t s → IsDone t → ComesTo (λ answers memory. by_route s0 m r answers memory) asked heard t s
-  routed_comes (route.Deliver token t0) asked heard t s c end = taken_comes token t0 asked heard t s c end
-  routed_comes route.Skipped asked heard t s c end = ready_comes s0 none_reply asked heard t s c
-  routed_comes route.Dropped asked heard t s c end = ready_comes s0 none_reply asked heard t s c
-  routed_comes route.NotUnderstood asked heard t s c end = ready_comes s0 not_understood asked heard t s c
-  routed_comes (route.Forward looper) asked heard t s c end = forward_comes s0 (s0.first + looper) m.popped asked heard t s c end
+  routed_comes : (r : Route) (asked : List Want) (heard : List Answer) (t : Task) (s : DeskState) → Comes s0 (task_by s0.first m r) asked heard t s → Outcomes (λ answers memory. by_route s0 m r answers memory) asked heard t s
+  routed_comes (route.Deliver token t0) asked heard t s c = taken_comes token t0 asked heard t s c
+  routed_comes route.Skipped asked heard t s c = ready_comes s0 none_reply asked heard t s c
+  routed_comes route.Dropped asked heard t s c = ready_comes s0 none_reply asked heard t s c
+  routed_comes route.NotUnderstood asked heard t s c = ready_comes s0 not_understood asked heard t s c
+  routed_comes (route.Forward looper) asked heard t s c = forward_comes s0 (s0.first + looper) m.popped asked heard t s c
 
-pub comes_to_dispatch : CallsAct → ComesToDispatch
-comes_to_dispatch act s item asked heard t v c end =
-    let r = routed_comes act s (routed_of s item).message (routed_of s item).route asked heard t v c end in
-    (r.memory, r.is)
+pub dispatch_comes : CallsAct → RunsAct → (s0 : DeskState) (item : ItemData) (asked : List Want) (heard : List Answer) (t : Task) (s : DeskState) → Comes s0 (task_of s0.first (routed_of s0 item)) asked heard t s → Outcomes (dispatch_of s0 item) asked heard t s
+dispatch_comes act runs_act s0 item asked heard t s c =
+    routed_comes act runs_act s0 (routed_of s0 item).message (routed_of s0 item).route asked heard t s c
 
 -- ---- what may come behind a want
 taken_by_stage : (w : Want) (i : InterpData) → StandsBehind w i.stage → Awaits w (task.Reaction i)

@@ -4,9 +4,7 @@ use Rattle.std.proofs.lemmas.List.Elements.{All-nil, All-push}
 use Rattle.ak_flatten.specs.Item.{ItemData}
 use Rattle.ak_message.specs.Message.{MessageData}
 use Rattle.ak_action.specs.declared.answer.Answer.{Answer}
-use Rattle.ak_action.specs.declared.answer.AnswerWord.{AnswerWord}
 use Rattle.ak_action.specs.declared.answer.Want.{Want}
-use Rattle.ak_action.specs.declared.answer.Want.TheVariants as want
 use Rattle.ak_action.specs.declared.state.DeskState.{DeskState}
 use Rattle.ak_action.specs.declared.answer.Answer.TheVariants as answer
 use Rattle.ak_action.specs.declared.doing.Sending.{Sending}
@@ -18,20 +16,19 @@ use Rattle.ak_action.specs.Laws.{IsSpelled}
 use Rattle.ak_route.specs.declared.outcome.Route.{Route}
 use Rattle.ak_route.specs.declared.outcome.Route.TheVariants as route
 use Rattle.ak_desk.specs.declared.entry.DeskEvent.{DeskEvent}
+use Rattle.ak_desk.specs.declared.entry.DeskEvent.TheVariants as event
 use Rattle.ak_desk.specs.declared.entry.EntryRoute.{EntryRoute}
 use Rattle.ak_desk.specs.declared.task.Task.{Task}
 use Rattle.ak_desk.specs.declared.task.Task.TheVariants as task
 use Rattle.ak_desk.specs.Answering.{AnswersForward, AreAnswered}
-use Rattle.ak_desk.specs.Desk.{BegunData, ended_event, stamp_in, with_task}
-use Rattle.ak_desk.specs.DeskInside.{IsBegun}
-use Rattle.ak_desk.specs.Dispatch.{Dispatch, dispatch_of, entry_route}
-use Rattle.ak_desk.specs.Laws.{ComesToDispatch}
+use Rattle.ak_desk.specs.Desk.{BegunData, stamp_in}
+use Rattle.ak_desk.specs.DeskInside.{IsBegun, IsOver}
+use Rattle.ak_desk.specs.Dispatch.{Came, Dispatch, dispatch_of, entry_route}
 use Rattle.ak_desk.specs.Line.{LineData}
 use Rattle.ak_desk.specs.Machine.{DeskStep, DispatchStep, Dispatches, EventStep, IsBy, IsHistory, Replays, Replies, StampsRise, counted, counted_all, dispatches, gave_up, gives_up}
 use Rattle.ak_desk.specs.Place.{routed_of}
-use Rattle.ak_desk.specs.Task.{Comes, IsDone, MayWant, TakesAnswer, came_to, heard_of, place_in, quits, reply_of, task_of, wants, wants_none, want_of, words_of}
+use Rattle.ak_desk.specs.Task.{Comes, TakesAnswer}
 use Rattle.ak_desk.specs.Task as the
-use Rattle.ak_desk.proofs.InStep.{all_answered, first_may}
 
 -- ---- one line more
 pub counted_push : (n : ℕ) (lines : List LineData) (line : LineData) → counted_all n (lines ++ line ∷ []) ≡ counted (counted_all n lines) line.entry.event
@@ -150,80 +147,63 @@ spelled_taken (task.Forwarding spare) a h = spelled_by_forward a h
 spelled_taken (task.Done word reply quit) a h = absurd h
 
 module _ {before : DeskState} {first : Task} where
-  all_spelled : (asked : List Want) (heard : List Answer) (t : Task) (s : DeskState) → Comes before first asked heard t s → All IsSpelled heard
+  pub all_spelled : (asked : List Want) (heard : List Answer) (t : Task) (s : DeskState) → Comes before first asked heard t s → All IsSpelled heard
   all_spelled _ _ _ _ the.begun = All-nil IsSpelled
   all_spelled _ _ _ _ (the.wanted asked heard t s w u v c may asking e) = all_spelled asked heard t s c
-  all_spelled _ _ _ _ (the.done asked heard t s u v c may e) = all_spelled asked heard t s c
-  all_spelled _ _ _ _ (the.found_none asked heard t s u v c may e) = all_spelled asked heard t s c
   all_spelled _ _ _ _ (the.given asked heard t s a c takes) = All-push IsSpelled heard a (all_spelled asked heard t s c) (spelled_taken t a takes)
 
--- a dispatch, and its reply
-pub record Dispatched (s : DeskState) (item : ItemData) (words : List AnswerWord) (quit : Bool) (t : DeskState) (reply : Option MessageData) : Type 0 where
-  pub dispatch : Dispatches s item words quit t
-  pub replies : Replies s item words reply
+-- ---- what is begun ends
+-- the dispatch that it was, with what was asked and heard, and its reply
+pub record Dispatched (b : BegunData) (c : Came) (t : DeskState) : Type 0 where
+  pub dispatch : Dispatches b.before b.item c.words c.quit t
+  pub heard_are : dispatch.answers ≡ b.heard
+  pub asked_are : (dispatch_of b.before b.item dispatch.answers dispatch.memory).wants ≡ b.asked
+  pub told : (dispatch_of b.before b.item dispatch.answers dispatch.memory).reply ≡ c.reply
+  pub replies : Replies b.before b.item c.words c.reply
 
--- ---- what is begun goes on
-module _ (opening : DeskState) (lines : List LineData) (b : BegunData) (s : DeskState) (h : IsBegun opening lines b s) where
-  pub wants_on : (w : Want) (u : Task) (v : DeskState) → MayWant b.task → want_of None b.task s ≡ wants w u v → IsBegun opening lines (with_task b u) v
-  wants_on want.Done u v may e =
-      record { history = h.history; position = h.position; route = h.route; asked = h.asked; heard = h.heard; comes = the.done h.asked h.heard b.task s u v h.comes may e }
-  wants_on (want.Find word) u v may e =
-      record { history = h.history; position = h.position; route = h.route; asked = h.asked ++ want.Find word ∷ []; heard = h.heard; comes = the.wanted h.asked h.heard b.task s (want.Find word) u v h.comes may tt e }
-  wants_on (want.Post to m back) u v may e =
-      record { history = h.history; position = h.position; route = h.route; asked = h.asked ++ want.Post to m back ∷ []; heard = h.heard; comes = the.wanted h.asked h.heard b.task s (want.Post to m back) u v h.comes may tt e }
-  wants_on (want.Ask to m) u v may e =
-      record { history = h.history; position = h.position; route = h.route; asked = h.asked ++ want.Ask to m ∷ []; heard = h.heard; comes = the.wanted h.asked h.heard b.task s (want.Ask to m) u v h.comes may tt e }
-  wants_on (want.Forward looper popped) u v may e =
-      record { history = h.history; position = h.position; route = h.route; asked = h.asked ++ want.Forward looper popped ∷ []; heard = h.heard; comes = the.wanted h.asked h.heard b.task s (want.Forward looper popped) u v h.comes may tt e }
+-- as its event tells it
+abbrev pub came_event : BegunData → Came → DeskEvent
+came_event b c = event.Dispatched b.position b.route c.words c.quit
 
-  pub fails_on : (u : Task) (v : DeskState) → MayWant b.task → want_of (Some (place_in u)) b.task s ≡ wants_none u v → IsBegun opening lines (with_task b u) v
-  fails_on u v may e =
-      record { history = h.history; position = h.position; route = h.route; asked = h.asked; heard = h.heard; comes = the.found_none h.asked h.heard b.task s u v h.comes may e }
+module _ (opening : DeskState) (lines : List LineData) (b : BegunData) (t : Task) (s : DeskState) (c : Came) (h : IsBegun opening lines b t s) (o : IsOver b t s c) where
+  abbrev dispatches_so : Dispatches b.before b.item c.words c.quit s
+  dispatches_so = record {
+    answers = b.heard;
+    memory = o.memory;
+    spelled = o.spelled;
+    answered = subst (λ (ws : List Want). AreAnswered ws b.heard) (sym (ap (λ (d : Dispatch). d.wants) o.is)) o.answered;
+    waits = ap (λ (d : Dispatch). d.waits) o.is;
+    used = ap (λ (d : Dispatch). d.answers) o.is;
+    words_are = ap (λ (d : Dispatch). d.words) o.is;
+    quit_is = ap (λ (d : Dispatch). d.quit) o.is;
+    state_is = ap (λ (d : Dispatch). d.state) o.is;
+  }
 
-  pub hears_on : (a : Answer) → TakesAnswer b.task a → IsBegun opening lines (with_task b (heard_of b.task s a).task) (heard_of b.task s a).state
-  hears_on a takes =
-      record { history = h.history; position = h.position; route = h.route; asked = h.asked; heard = h.heard ++ a ∷ []; comes = the.given h.asked h.heard b.task s a h.comes takes }
+  pub dispatched_so : Dispatched b c s
+  dispatched_so = record {
+    dispatch = dispatches_so;
+    heard_are = refl;
+    asked_are = ap (λ (d : Dispatch). d.wants) o.is;
+    told = ap (λ (d : Dispatch). d.reply) o.is;
+    replies = record { quit = c.quit; leaves = s; dispatch = dispatches_so; is = ap (λ (d : Dispatch). d.reply) o.is };
+  }
 
-  -- ---- and ends
-  dispatches_so : (memory : Option ℕ) → IsDone b.task → dispatch_of b.before b.item h.heard memory ≡ came_to h.asked b.task s → Dispatches b.before b.item (words_of b.task) (quits b.task) s
-  dispatches_so memory done e =
-      record {
-        answers = h.heard;
-        memory = memory;
-        spelled = all_spelled h.asked h.heard b.task s h.comes;
-        answered = subst (λ (ws : List Want). AreAnswered ws h.heard) (sym (ap (λ (d : Dispatch). d.wants) e)) (all_answered b.before (task_of b.before.first (routed_of b.before b.item)) (first_may b.before.first (routed_of b.before b.item).message (routed_of b.before b.item).route) h.asked h.heard b.task s h.comes done);
-        waits = ap (λ (d : Dispatch). d.waits) e;
-        used = ap (λ (d : Dispatch). d.answers) e;
-        words_are = ap (λ (d : Dispatch). d.words) e;
-        quit_is = ap (λ (d : Dispatch). d.quit) e;
-        state_is = ap (λ (d : Dispatch). d.state) e;
-      }
-
-  -- with the reply that goes with it
-  pub replies_so : ComesToDispatch → IsDone b.task → Dispatched b.before b.item (words_of b.task) (quits b.task) s (reply_of b.task)
-  unfolding dispatches_so
-  replies_so comes done =
-      let whole = comes b.before b.item h.asked h.heard b.task s h.comes done in
-      let d = dispatches_so whole.0 done whole.1 in
-      record { dispatch = d; replies = record { quit = quits b.task; leaves = s; dispatch = d; is = ap (λ (x : Dispatch). x.reply) whole.1 } }
-
-  by_route : (r : Route) (er : EntryRoute) → er ≡ entry_route b.before r → r ≡ (routed_of b.before b.item).route → Dispatches b.before b.item (words_of b.task) (quits b.task) s → DispatchStep b.before er (Some b.item) (words_of b.task) (quits b.task) s
-  by_route r er e is d = subst (λ (x : EntryRoute). DispatchStep b.before x (Some b.item) (words_of b.task) (quits b.task) s) (sym e) (step r is)
+  by_route : (r : Route) (er : EntryRoute) → er ≡ entry_route b.before r → r ≡ (routed_of b.before b.item).route → Dispatches b.before b.item c.words c.quit s → DispatchStep b.before er (Some b.item) c.words c.quit s
+  by_route r er e is d = subst (λ (x : EntryRoute). DispatchStep b.before x (Some b.item) c.words c.quit s) (sym e) (step r is)
     where
-      step : (r : Route) → r ≡ (routed_of b.before b.item).route → DispatchStep b.before (entry_route b.before r) (Some b.item) (words_of b.task) (quits b.task) s
+      step : (r : Route) → r ≡ (routed_of b.before b.item).route → DispatchStep b.before (entry_route b.before r) (Some b.item) c.words c.quit s
       step (route.Deliver token t) is = (ap (entry_route b.before) is, d)
       step route.Skipped is = (ap (entry_route b.before) is, d)
       step route.Dropped is = (ap (entry_route b.before) is, d)
       step route.NotUnderstood is = (ap (entry_route b.before) is, d)
       step (route.Forward looper) is = (ap (entry_route b.before) is, d)
 
-  pub ends_on : ComesToDispatch → IsDone b.task → (line : LineData) → line.entry.event ≡ ended_event b → line.item ≡ Some b.item → line.entry.by.0 ≡ 10000 + opening.looper → stamp_in lines < line.entry.stamp → IsHistory opening (lines ++ line ∷ []) s
-  ends_on comes done line is item by lt =
-      let whole = comes b.before b.item h.asked h.heard b.task s h.comes done in
-      let step = by_route (routed_of b.before b.item).route b.route h.route refl (dispatches_so whole.0 done whole.1) in
+  pub ends_on : (line : LineData) → line.entry.event ≡ came_event b c → line.item ≡ Some b.item → line.entry.by.0 ≡ 10000 + opening.looper → stamp_in lines < line.entry.stamp → IsHistory opening (lines ++ line ∷ []) s
+  ends_on line is item by lt =
+      let step = by_route (routed_of b.before b.item).route b.route h.route refl dispatches_so in
       history_push opening lines b.before line s h.history
       (record {
         by = subst (IsBy opening.looper line.entry.by.0) (sym is) by;
-        event = subst (λ (e : DeskEvent). EventStep (dispatches lines) b.before e line.item s) (sym is) (subst (λ (o : Option ItemData). EventStep (dispatches lines) b.before (ended_event b) o s) (sym item) (h.position, step));
+        event = subst (λ (e : DeskEvent). EventStep (dispatches lines) b.before e line.item s) (sym is) (subst (λ (o : Option ItemData). EventStep (dispatches lines) b.before (came_event b c) o s) (sym item) (h.position, step));
       })
       lt

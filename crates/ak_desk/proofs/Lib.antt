@@ -2,10 +2,13 @@ pub mod Accessing
 pub mod AtOnce
 pub mod Coming
 pub mod Editing
+pub mod Fitting
+pub mod Going
 pub mod History
 pub mod InStep
 pub mod MachineLaws
 pub mod Placing
+pub mod Sending
 pub mod Sharing
 pub mod Standing
 pub mod Suites

@@ -32,7 +32,7 @@ module _ (old given new : DeskSeat) (b b' : DeskData) (clock clock' : Clock) (op
 
 -- ---- a dispatch
 pub a_turn_dispatches : ATurnDispatches
-a_turn_dispatches clock clock' position item made opening before after lines lines' seat given seat' h idle thread begins seen list entered =
+a_turn_dispatches clock clock' position item asked heard made opening before after lines lines' seat given seat' h idle thread begins seen list entered =
     let line : LineData = dispatched_line lines clock position item before h.words h.quit in
     let grown : lines' ≡ given.front ++ line ∷ [] = h.grown ∙ ap (λ (l : List LineData). l ++ line ∷ []) list in
     let left = entered line grown in
@@ -51,7 +51,10 @@ a_turn_dispatches clock clock' position item made opening before after lines lin
           words = h.words;
           quit = h.quit;
           dispatch = h.dispatch;
+          heard_are = h.heard_are;
+          asked_are = h.asked_are;
           reply = h.reply;
+          told = h.told;
           replies = h.replies;
           grown = front ∙ h.grown;
           goes_on = subst (λ (l : List LineData). IsHistory opening l after) (sym front) h.goes_on;

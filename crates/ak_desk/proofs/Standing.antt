@@ -1,16 +1,13 @@
--- How a desk stands as its messages are begun, go on and end.
-use Rattle.std.proofs.Common.{◌≡◌, ℕ, ◌+◌, ◌<◌, ◌≤◌, max, true, false, List, [], ◌∷◌, ◌++◌, Option, None, Some, Result, Ok, Err, IfOk, IfSome, OnErr, length, refl, ap, subst, sym, ◌∙◌, arith}
-use Rattle.ak_flatten.specs.declared.item.Taken.{Taken}
+-- How a desk stands as its messages end, and as its handlers are edited.
+use Rattle.std.proofs.Common.{◌≡◌, ℕ, ◌+◌, ◌<◌, ◌≤◌, max, Bool, true, false, List, [], ◌∷◌, ◌++◌, Option, None, Some, IfSome, IsSome, option_map, length, refl, ap, subst, sym, ◌∙◌, arith}
 use Rattle.ak_action.specs.declared.state.DeskState.{DeskState}
-use Rattle.ak_desk.specs.Desk.{BegunData, DeskData, DeskIsDone, Edits, EndsDispatch, OfBegun, begun_at, clock_after, ended, ended_by, ended_event, made_by, made_of, line_after, stamp_in, with_line, with_task, HasAdded, edit_entry, edited_to}
-use Rattle.ak_desk.specs.DeskInside.{IsBegun, Stands}
+use Rattle.ak_desk.specs.declared.desk.Begun.{Begun}
+use Rattle.ak_desk.specs.Desk.{BegunData, DeskData, DeskIsDone, Edits, EndsDispatch, clock_after, ended, ended_event, made_by, made_in, made_of, line_after, quit_in, stamp_in, with_line, words_in, HasAdded, edit_entry, edited_to}
+use Rattle.ak_desk.specs.DeskInside.{ComesFar, IsBegun, IsOver, Stands, begun_seen, came_seen}
+use Rattle.ak_desk.specs.Dispatch.{Came}
 use Rattle.ak_desk.specs.Line.{LineData}
-use Rattle.ak_desk.specs.Laws.{ComesToDispatch}
-use Rattle.ak_desk.specs.Machine.{Dispatches, Edited, EditsHandlers, IsHistory, dispatches, edit_of, gave_up, is_no_memory}
-use Rattle.ak_base.specs.declared.no_memory.NoMemory.{NoMemory}
+use Rattle.ak_desk.specs.Machine.{Edited, EditsHandlers, IsHistory, dispatches, edit_of, gave_up, is_no_memory}
 use Rattle.ak_handler.specs.Handlers.{HandlersData}
-use Rattle.ak_action.specs.declared.answer.Answer.{Answer}
-use Rattle.ak_action.specs.declared.answer.Want.{Want}
 use Rattle.ak_action.specs.declared.row.DeskRow.{DeskRow}
 use Rattle.ak_turn.specs.declared.clock.Clock.{Clock}
 use Rattle.ak_desk.specs.declared.entry.DeskEvent.{DeskEvent}
@@ -22,39 +19,19 @@ use Rattle.ak_desk.specs.declared.entry.EntryRoute.{EntryRoute}
 use Rattle.ak_desk.specs.declared.entry.EntryRoute.TheVariants as entry
 use Rattle.ak_desk.specs.declared.made.Made.{Made}
 use Rattle.ak_desk.specs.declared.task.Task.{Task}
-use Rattle.ak_desk.specs.Task.{Heard, IsDone, MayWant, TakesAnswer, heard_of, place_in, quits, reply_of, wants, wants_none, want_of, words_of}
-use Rattle.ak_desk.specs.Task as the
+use Rattle.ak_desk.specs.Task.{IsDone, came_of}
 use Rattle.ak_desk.proofs.Accessing.{facts_same}
-use Rattle.ak_desk.proofs.History.{ends_on, fails_on, gave_up_then, hears_on, history_push, replies_so, wants_on}
-
-fresh : (opening : DeskState) (lines : List LineData) (s : DeskState) (taken : Taken) → IsHistory opening lines s → taken.position ≡ dispatches lines → IsBegun opening lines (begun_at s taken) s
-fresh opening lines s taken h e =
-    record { history = h; position = e; route = refl; asked = []; heard = []; comes = the.begun }
-
-pub begins : (opening : DeskState) (old lines : List LineData) (was : Option BegunData) (b : BegunData) (s : DeskState) (taken : Taken) → b ≡ begun_at s taken → was ≡ None → lines ≡ old → Stands opening old was s → taken.position ≡ dispatches old → IsBegun opening lines b s
-begins opening old lines was b s taken seen none same h e =
-    let rest : IsHistory opening old s = subst (λ (o : Option BegunData). Stands opening old o s) none h in
-    subst (λ (x : BegunData). IsBegun opening lines x s) (sym seen)
-    (subst (λ (l : List LineData). IsBegun opening l (begun_at s taken) s) (sym same) (fresh opening old s taken rest e))
-
--- ---- going on
-module _ (opening : DeskState) (lines : List LineData) (b : BegunData) (s : DeskState) (h : IsBegun opening lines b s) where
-  pub given_stands : (a : Answer) (t : Task) (v : DeskState) → TakesAnswer b.task a → heard_of b.task s a ≡ record { task = t; state = v } → IsBegun opening lines (with_task b t) v
-  given_stands a t v takes e = subst (λ (x : Heard). IsBegun opening lines (with_task b x.task) x.state) e (hears_on opening lines b s h a takes)
-
-  pub wanted_stands : (r : Result Want NoMemory) (u : Task) (v : DeskState) → MayWant b.task → IfOk r (λ w. want_of None b.task s ≡ wants w u v) → OnErr r (want_of (Some (place_in u)) b.task s ≡ wants_none u v) → IsBegun opening lines (with_task b u) v
-  wanted_stands (Ok w) u v may ok err = wants_on opening lines b s h w u v may ok
-  wanted_stands (Err n) u v may ok err = fails_on opening lines b s h u v may err
+use Rattle.ak_desk.proofs.History.{came_event, dispatched_so, ends_on, gave_up_then, history_push}
 
 -- ---- one line more
 later : (a b : ℕ) → b < 1 + max a b
 later a b = omega arith
 
 module _ (opening : DeskState) (lines : List LineData) (clock : Clock) where
-  pub ended_stands : (b : BegunData) (s : DeskState) (e : DeskEvent) (new : List LineData) → ComesToDispatch → IsBegun opening lines b s → IsDone b.task → clock.thread.0 ≡ 10000 + opening.looper → e ≡ ended_event b → new ≡ lines ++ line_after lines clock e (Some b.item) ∷ [] → IsHistory opening new s
-  ended_stands b s e new comes h done by is grown =
+  pub ended_stands : (b : BegunData) (t : Task) (s : DeskState) (c : Came) (e : DeskEvent) (new : List LineData) → IsBegun opening lines b t s → IsOver b t s c → clock.thread.0 ≡ 10000 + opening.looper → e ≡ came_event b c → new ≡ lines ++ line_after lines clock e (Some b.item) ∷ [] → IsHistory opening new s
+  ended_stands b t s c e new h over by is grown =
       subst (λ (l : List LineData). IsHistory opening l s) (sym grown)
-      (ends_on opening lines b s h comes done (line_after lines clock e (Some b.item)) is refl by (later clock.time (stamp_in lines)))
+      (ends_on opening lines b t s c h over (line_after lines clock e (Some b.item)) is refl by (later clock.time (stamp_in lines)))
 
   pub given_up_stands : (s : DeskState) (position : ℕ) (new : List LineData) → IsHistory opening lines s → clock.thread.0 ≡ 10000 + opening.looper → position ≡ dispatches lines → new ≡ lines ++ line_after lines clock (event.Dispatched position entry.NoMemory [] false) None ∷ [] → IsHistory opening new s
   given_up_stands s position new h by at grown =
@@ -67,40 +44,87 @@ module _ (opening : DeskState) (lines : List LineData) (clock : Clock) where
   gave_up_now position new grown = ap gave_up grown ∙ gave_up_then lines (line_after lines clock (event.Dispatched position entry.NoMemory [] false) None) refl
 
 -- ---- what the end of a message says of it
-module _ (clock : Clock) (d : DeskData) (b : BegunData) (seen : d.begun ≡ Some b) where
-  ended_as : ended d clock ≡ with_line (record d { begun = None }) clock (ended_event b) (Some b.item)
-  ended_as = ap (λ (o : Option BegunData). ended_by d clock o) seen
+-- what came of it, as the task tells it
+pub over_so : (done : Bool) (b : BegunData) (t : Task) (s : DeskState) → ComesFar b t s (came_seen done t) → done ≡ true → IsOver b t s (came_of t)
+over_so true b t s far e = far
+over_so false b t s far e = absurd cc
 
-  pub has_dispatched : (clock' : Clock) (d' : DeskData) (made : Made) → ComesToDispatch → IsBegun d.opening d.lines b d.state → IsDone b.task → clock.thread.0 ≡ 10000 + d.opening.looper → d' ≡ ended d clock → made ≡ made_by d.begun → clock' ≡ clock_after d clock → EndsDispatch clock clock' d d' made b
-  has_dispatched clock' d' made comes h done by is told clocked =
-      let so = is ∙ ended_as in
-      let said : made ≡ made_of b.task = told ∙ ap made_by seen in
-      let after : d'.state ≡ d.state = ap (λ (x : DeskData). x.state) so in
-      let lines : d'.lines ≡ d.lines ++ line_after d.lines clock (ended_event b) (Some b.item) ∷ [] = ap (λ (x : DeskData). x.lines) so in
-      let came = replies_so d.opening d.lines b d.state h comes done in
-      record {
-        history = h.history;
-        position_is = h.position;
-        words = words_of b.task;
-        quit = quits b.task;
-        dispatch = subst (λ (t : DeskState). Dispatches b.before b.item (words_of b.task) (quits b.task) t) (sym after) came.dispatch;
-        reply = reply_of b.task;
-        replies = came.replies;
-        grown = lines ∙ ap (λ (r : EntryRoute). d.lines ++ line_after d.lines clock (event.Dispatched b.position r (words_of b.task) (quits b.task)) (Some b.item) ∷ []) h.route;
-        goes_on = subst (λ (t : DeskState). IsHistory d.opening d'.lines t) (sym after) (ended_stands d.opening d.lines clock b d.state (ended_event b) d'.lines comes h done by refl lines);
-        clocked = clocked;
-        reply_is = ap (λ (m : Made). m.reply) said;
-        quit_is = ap (λ (m : Made). m.quit) said;
-      }
+pub done_is : (done : Bool) (t : Task) → IsSome (came_seen done t) → done ≡ true
+done_is true t h = refl
+done_is false t h = absurd cc
 
--- of the desk as it is seen, whatever is begun
-pub dispatched_of : (clock clock' : Clock) (d seen d' : DeskData) (made : Made) → seen ≡ d → ComesToDispatch → Stands seen.opening seen.lines seen.begun seen.state → DeskIsDone d → clock.thread.0 ≡ 10000 + d.opening.looper → d' ≡ ended d clock → made ≡ made_by d.begun → clock' ≡ clock_after d clock → IfSome d.begun (EndsDispatch clock clock' d d' made)
-dispatched_of clock clock' d seen d' made same comes stands done by is told clocked =
-    by_begun d.begun refl (subst (λ (x : DeskData). Stands x.opening x.lines x.begun x.state) same stands) done
-  where
-    by_begun : (o : Option BegunData) → d.begun ≡ o → Stands d.opening d.lines o d.state → OfBegun IsDone o → IfSome o (EndsDispatch clock clock' d d' made)
-    by_begun None e h end = tt
-    by_begun (Some b) e h end = has_dispatched clock d b e clock' d' made comes h end by is told clocked
+came_as : (done : Bool) (t : Task) → done ≡ true → came_seen done t ≡ Some (came_of t)
+came_as true t e = refl
+came_as false t e = absurd cc
+
+module _ (opening : DeskState) (lines : List LineData) (o : Option Begun) (x : Begun) (s : DeskState) (d : DeskData) (inside : o ≡ Some x) (view : record { opening = opening; state = s; lines = lines; begun = option_map begun_seen o } ≡ d) (h : Stands opening lines o s) (done : DeskIsDone d) where
+  abbrev here : DeskData
+  here = record { opening = opening; state = s; lines = lines; begun = Some (begun_seen x) }
+
+  seen : here ≡ d
+  seen = ap (λ (p : Option Begun). record { opening = opening; state = s; lines = lines; begun = option_map begun_seen p }) (sym inside) ∙ view
+
+  stands : IsBegun opening lines (begun_seen x) x.task s
+  stands = subst (λ (p : Option Begun). Stands opening lines p s) inside h
+
+  is_done : x.done ≡ true
+  is_done = done_is x.done x.task (subst DeskIsDone (sym seen) done)
+
+  abbrev c : Came
+  c = came_of x.task
+
+  over : IsOver (begun_seen x) x.task s c
+  over = over_so x.done (begun_seen x) x.task s stands.far is_done
+
+  pub task_done : IsDone x.task
+  task_done = over.done
+
+  came_is : (begun_seen x).came ≡ Some c
+  came_is = came_as x.done x.task is_done
+
+  event_is : ended_event (begun_seen x) ≡ came_event (begun_seen x) c
+  event_is = ap (λ (p : Option Came). event.Dispatched x.position x.route (words_in p) (quit_in p)) came_is
+
+  module _ (clock : Clock) (by : clock.thread.0 ≡ 10000 + opening.looper) (e : DeskEvent) (told : e ≡ came_event (begun_seen x) c) (new : List LineData) (grown : new ≡ lines ++ line_after lines clock e (Some x.item.value) ∷ []) where
+    pub now_stands : IsHistory opening new s
+    now_stands = ended_stands opening lines clock (begun_seen x) x.task s c e new stands over by told grown
+
+    abbrev left : DeskData
+    left = record { opening = opening; state = s; lines = new; begun = None }
+
+    pub now_ended : left ≡ ended d clock
+    now_ended =
+        ap (λ (l : List LineData). record { opening = opening; state = s; lines = l; begun = None })
+        (grown ∙ ap (λ (k : DeskEvent). lines ++ line_after lines clock k (Some x.item.value) ∷ []) (told ∙ sym event_is))
+        ∙ ap (λ (z : DeskData). ended z clock) seen
+
+    pub now_made : (m : Made) → m ≡ made_of c → m ≡ made_by d.begun
+    now_made m is = is ∙ sym (ap made_in came_is) ∙ ap (λ (z : DeskData). made_by z.begun) seen
+
+    pub now_dispatched : (clock' : Clock) (m : Made) → m ≡ made_of c → clock' ≡ clock_after here clock → IfSome d.begun (EndsDispatch clock clock' d left m)
+    now_dispatched clock' m is clocked =
+        let came = dispatched_so opening lines (begun_seen x) x.task s c stands over in
+        let all : EndsDispatch clock clock' here left m (begun_seen x) =
+        record {
+          history = stands.history;
+          position_is = stands.position;
+          words = c.words;
+          quit = c.quit;
+          dispatch = came.dispatch;
+          heard_are = came.heard_are;
+          asked_are = came.asked_are;
+          reply = c.reply;
+          told = came.told;
+          replies = came.replies;
+          grown =
+              grown ∙ ap (λ (k : DeskEvent). lines ++ line_after lines clock k (Some x.item.value) ∷ []) told
+              ∙ ap (λ (r : EntryRoute). lines ++ line_after lines clock (event.Dispatched x.position r c.words c.quit) (Some x.item.value) ∷ []) stands.route;
+          goes_on = now_stands;
+          clocked = clocked;
+          reply_is = ap (λ (k : Made). k.reply) is;
+          quit_is = ap (λ (k : Made). k.quit) is;
+        } in
+        subst (λ (z : DeskData). IfSome z.begun (EndsDispatch clock clock' z left m)) seen all
 
 -- ---- edits
 edits_so : (h : HandlersData DeskRow) (e : Edit) (answer : EditAnswer) (new : HandlersData DeskRow) → EditsHandlers h e answer new → is_no_memory answer ≡ false → edit_of h e ≡ record { answer = answer; handlers = new }
@@ -136,21 +160,21 @@ edits_told d clock e answer h d' clock' edits other is c =
     (is ∙ ap (λ (x : Edited). with_line (record d { state = record d.state { handlers = x.handlers } }) clock (event.Edited e x.answer) None) (sym so)) c
 
 -- ---- an edit, with the facts of the state shown anew
-module _ (opening : DeskState) (lines new : List LineData) (was : Option BegunData) (s : DeskState) (none : was ≡ None) (h : Stands opening lines was s) where
+module _ (opening : DeskState) (lines new : List LineData) (was : Option Begun) (s : DeskState) (none : was ≡ None) (h : Stands opening lines was s) where
   rests : IsHistory opening lines s
-  rests = subst (λ (o : Option BegunData). Stands opening lines o s) none h
+  rests = subst (λ (o : Option Begun). Stands opening lines o s) none h
 
   pub kept_stands : (e : Edit) (answer : EditAnswer) (hs : HandlersData DeskRow) (numbers : s.first + length s.names ≤ 32) (loopers : length s.names ≤ 8) → EditsHandlers s.handlers e answer hs → is_no_memory answer ≡ true → new ≡ lines → Stands opening new was (record s { handlers = hs; numbers = numbers; some_loopers = loopers })
   kept_stands e answer hs numbers loopers edits without same =
       let state : record s { handlers = hs; numbers = numbers; some_loopers = loopers } ≡ s =
       facts_same s hs numbers loopers ∙ ap (λ (k : HandlersData DeskRow). record s { handlers = k }) (no_memory_so s.handlers e answer hs edits without).1 in
-      subst (λ (o : Option BegunData). Stands opening new o (record s { handlers = hs; numbers = numbers; some_loopers = loopers })) (sym none)
+      subst (λ (o : Option Begun). Stands opening new o (record s { handlers = hs; numbers = numbers; some_loopers = loopers })) (sym none)
       (subst (λ (l : List LineData). IsHistory opening l (record s { handlers = hs; numbers = numbers; some_loopers = loopers })) (sym same)
       (subst (IsHistory opening lines) (sym state) rests))
 
   pub edit_stands : (clock : Clock) (e : Edit) (answer : EditAnswer) (hs : HandlersData DeskRow) (numbers : s.first + length s.names ≤ 32) (loopers : length s.names ≤ 8) → EditsHandlers s.handlers e answer hs → is_no_memory answer ≡ false → new ≡ lines ++ line_after lines clock (event.Edited e answer) None ∷ [] → Stands opening new was (record s { handlers = hs; numbers = numbers; some_loopers = loopers })
   edit_stands clock e answer hs numbers loopers edits other grown =
-      subst (λ (o : Option BegunData). Stands opening new o (record s { handlers = hs; numbers = numbers; some_loopers = loopers })) (sym none)
+      subst (λ (o : Option Begun). Stands opening new o (record s { handlers = hs; numbers = numbers; some_loopers = loopers })) (sym none)
       (edited_stands opening lines clock s e answer hs (record s { handlers = hs; numbers = numbers; some_loopers = loopers }) new rests edits other (facts_same s hs numbers loopers) grown)
 
 none_as : (d : DeskData) (clock : Clock) (e : Edit) (answer : EditAnswer) (d' : DeskData) → answer ≡ answered.NoMemory → d' ≡ d → Edits d clock e answer d' clock
@@ -184,10 +208,16 @@ module _ (d seen : DeskData) (same : seen ≡ d) (clock : Clock) (e : Edit) (ans
       (edit_told seen clock e answer hs numbers loopers lines edits clock' other grown is)
 
 -- ---- at rest
-pub history_at_rest : (d seen : DeskData) → seen ≡ d → Stands seen.opening seen.lines seen.begun seen.state → d.begun ≡ None → IsHistory d.opening d.lines d.state
-history_at_rest d seen same h none =
-    subst (λ (o : Option BegunData). Stands d.opening d.lines o d.state) none
-    (subst (λ (x : DeskData). Stands x.opening x.lines x.begun x.state) same h)
+-- nothing is begun inside
+pub none_inside : (o : Option Begun) → option_map begun_seen o ≡ None → o ≡ None
+none_inside None e = refl
+none_inside (Some x) e = absurd cc
+
+pub history_at_rest : (opening : DeskState) (lines : List LineData) (o : Option Begun) (s : DeskState) (d : DeskData) → record { opening = opening; state = s; lines = lines; begun = option_map begun_seen o } ≡ d → Stands opening lines o s → d.begun ≡ None → IsHistory d.opening d.lines d.state
+history_at_rest opening lines o s d same h none =
+    let inside : o ≡ None = none_inside o (ap (λ (x : DeskData). x.begun) same ∙ none) in
+    let rests : IsHistory opening lines s = subst (λ (p : Option Begun). Stands opening lines p s) inside h in
+    subst (λ (x : DeskData). IsHistory x.opening x.lines x.state) same rests
 
 -- ---- what an edit adds
 added_by : (d : DeskData) (clock : Clock) (e : Edit) (answer : EditAnswer) (d' : DeskData) (clock' : Clock) → answer ≡ (edit_of d.state.handlers e).answer → d' ≡ edited_to d clock e (edit_of d.state.handlers e) → clock' ≡ clock_after d clock → HasAdded (Some (event.Edited e answer)) clock clock' d d'

@@ -1,14 +1,19 @@
 -- What contracts see of a desk, and what each call makes of it.
-use Rattle.std.specs.Prelude.{◌≡◌, ℕ, ◌+◌, Bool, true, false, is_some, if◌then◌else◌, max, List, [], ◌∷◌, ◌++◌, Option, None, Some, option_map}
-use Rattle.ak_flatten.specs.Item.{ItemData}
+use Rattle.std.specs.Prelude.{◌≡◌, ℕ, ◌+◌, ◌≤◌, Bool, true, false, is_some, if◌then◌else◌, max, List, [], ◌∷◌, ◌++◌, Option, None, Some, IsSome, option_map}
+use Rattle.ak_flatten.specs.Item.{ItemData, message_of}
 use Rattle.ak_flatten.specs.declared.item.Taken.{Taken}
 use Rattle.ak_turn.specs.declared.clock.Clock.{Clock}
 use Rattle.ak_turn.specs.Lines.{last_stamp_of}
+use Rattle.ak_message.specs.Fields.{specifier_count}
 use Rattle.ak_message.specs.Message.{MessageData}
 use Rattle.ak_action.specs.declared.answer.Answer.{Answer}
 use Rattle.ak_action.specs.declared.answer.AnswerWord.{AnswerWord}
+use Rattle.ak_action.specs.declared.answer.Answer.TheVariants as answer
 use Rattle.ak_action.specs.declared.answer.Want.{Want}
+use Rattle.ak_action.specs.declared.answer.Want.TheVariants as want
 use Rattle.ak_action.specs.declared.state.DeskState.{DeskState}
+use Rattle.ak_action.specs.Acts.{taken_in}
+use Rattle.ak_action.specs.Interp.{AnswersFind}
 use Rattle.ak_desk.specs.declared.entry.DeskEvent.{DeskEvent}
 use Rattle.ak_desk.specs.declared.entry.DeskEvent.TheVariants as event
 use Rattle.ak_desk.specs.declared.entry.Edit.{Edit}
@@ -17,12 +22,11 @@ use Rattle.ak_desk.specs.declared.entry.EditAnswer.TheVariants as answered
 use Rattle.ak_desk.specs.declared.entry.EntryRoute.{EntryRoute}
 use Rattle.ak_desk.specs.declared.entry.EntryRoute.TheVariants as entry
 use Rattle.ak_desk.specs.declared.made.Made.{Made}
-use Rattle.ak_desk.specs.declared.task.Task.{Task}
-use Rattle.ak_desk.specs.Dispatch.{entry_route, fitting, ran_out}
+use Rattle.ak_desk.specs.Answering.{AnswersAsk, AnswersForward, AnswersPost, AreAnswered}
+use Rattle.ak_desk.specs.Dispatch.{Came, Dispatch, came_to, dispatch_of, entry_route, fitting, ran_out}
 use Rattle.ak_desk.specs.Line.{LineData}
 use Rattle.ak_desk.specs.Machine.{Dispatches, Edited, IsHistory, Replies, dispatches, edit_of}
 use Rattle.ak_desk.specs.Place.{routed_of}
-use Rattle.ak_desk.specs.Task.{Awaits, IsDone, MayWant, TakesAnswer, Wanted, wants, wants_none, want_of, heard_of, place_in, task_of, words_of, reply_of, quits}
 
 -- a message that is being carried out
 pub record BegunData : Type 0 where
@@ -31,7 +35,11 @@ pub record BegunData : Type 0 where
   -- the state in which it began
   pub before : DeskState
   pub route : EntryRoute
-  pub task : Task
+  -- what was asked for outside, and what was answered, in order
+  pub asked : List Want
+  pub heard : List Answer
+  -- what it came to, once nothing is left to do
+  pub came : Option Came
 
 pub record DeskData : Type 0 where
   pub opening : DeskState
@@ -50,70 +58,117 @@ begun_at s taken =
       item = taken.item;
       before = s;
       route = entry_route s (routed_of s taken.item).route;
-      task = task_of s.first (routed_of s taken.item);
+      asked = [];
+      heard = [];
+      came = None;
     }
 
 abbrev pub begun_with : DeskData → Taken → DeskData
 begun_with d taken = record d { begun = Some (begun_at d.state taken) }
 
+-- ---- what a message that is begun has come to
+-- it waits for an answer, having asked for these, and no answer is left
+pub record IsWaiting (p : Dispatch) (asked : List Want) (s : DeskState) : Type 0 where
+  pub wants : p.wants ≡ asked
+  pub state : p.state ≡ s
+  pub used : p.answers ≡ []
+  pub waits : p.waits ≡ true
+
+abbrev pub StandsAt : Dispatch → List Want → DeskState → Option Came → Type 0
+StandsAt p asked s None = IsWaiting p asked s
+StandsAt p asked s (Some c) = p ≡ came_to asked c s
+
+-- it and the handlers are what its dispatch makes of them with the answers so far, where memory ran out at that place or nowhere
+abbrev pub IsCarried : Option ℕ → BegunData → DeskState → Type 0
+IsCarried memory b s = StandsAt (dispatch_of b.before b.item b.heard memory) b.asked s b.came
+
 -- ---- going on
-abbrev pub with_task : BegunData → Task → BegunData
-with_task b t = record b { task = t }
+abbrev pub OfBegun : (BegunData → Type 0) → Option BegunData → Type 0
+OfBegun p None = ⊥
+OfBegun p (Some b) = p b
 
--- the message stands so, and the handlers are these
-abbrev pub gone_on : DeskData → BegunData → Task → DeskState → DeskData
-gone_on d b t s = record d { state = s; begun = Some (with_task b t) }
+-- from the message and the handlers before to those after
+abbrev pub Turns : (BegunData → DeskState → BegunData → DeskState → Type 0) → DeskData → DeskData → Type 0
+Turns p d d' = OfBegun (λ (b : BegunData). OfBegun (λ (b' : BegunData). p b d.state b' d'.state) d'.begun) d.begun
 
-pub data DeskWanted : Type 0 where
-  -- nothing is begun
-  is_idle : DeskWanted
-  desk_wants : Want → DeskData → DeskWanted
-  -- there was no memory
-  desk_wants_none : DeskData → DeskWanted
+-- nothing was left to do, and all stays
+pub record StaysDone (w : Want) (b : BegunData) (s : DeskState) (b' : BegunData) (s' : DeskState) : Type 0 where
+  pub done : w ≡ want.Done
+  pub message : b' ≡ b
+  pub state : s' ≡ s
 
-abbrev pub desk_wanted : DeskData → BegunData → Wanted → DeskWanted
-desk_wanted d b (wants w t s) = desk_wants w (gone_on d b t s)
-desk_wanted d b (wants_none t s) = desk_wants_none (gone_on d b t s)
+-- it came to an end
+pub record Ends (memory : Option ℕ) (b b' : BegunData) (s' : DeskState) : Type 0 where
+  pub came : Came
+  pub message : b' ≡ record b { came = Some came }
+  pub carried : IsCarried memory b' s'
 
-abbrev pub wanted_by : Option ℕ → DeskData → Option BegunData → DeskWanted
-wanted_by memory d None = is_idle
-wanted_by memory d (Some b) = desk_wanted d b (want_of memory b.task d.state)
+-- that is what it asks for next
+pub record Asks (w : Want) (b b' : BegunData) (s' : DeskState) : Type 0 where
+  pub message : b' ≡ record b { asked = b.asked ++ w ∷ [] }
+  pub carried : IsCarried None b' s'
 
--- what the message that is begun wants next; where `memory` is a place, memory runs out there
-abbrev pub wanted_next : Option ℕ → DeskData → DeskWanted
-wanted_next memory d = wanted_by memory d d.begun
+abbrev pub GoesOn : Option Came → Want → BegunData → DeskState → BegunData → DeskState → Type 0
+GoesOn (Some c) w b s b' s' = StaysDone w b s b' s'
+GoesOn None want.Done b s b' s' = Ends None b b' s'
+GoesOn None (want.Find word) b s b' s' = Asks (want.Find word) b b' s'
+GoesOn None (want.Post to m back) b s b' s' = Asks (want.Post to m back) b b' s'
+GoesOn None (want.Ask to m) b s b' s' = Asks (want.Ask to m) b b' s'
+GoesOn None (want.Forward looper popped) b s b' s' = Asks (want.Forward looper popped) b b' s'
 
-abbrev pub given_by : DeskData → Answer → Option BegunData → DeskData
-given_by d a None = d
-given_by d a (Some b) = gone_on d b (heard_of b.task d.state a).task (heard_of b.task d.state a).state
+-- the answer to `want`: what is wanted next, or that nothing is left to do; what was asked so far, and the handlers, are what the
+-- dispatch has with the answers so far
+abbrev pub Wants : Want → BegunData → DeskState → BegunData → DeskState → Type 0
+Wants w b s b' s' = GoesOn b.came w b s b' s'
 
--- what the answer makes of it
-abbrev pub given_to : DeskData → Answer → DeskData
-given_to d a = given_by d a d.begun
+-- it came to an end, and its last word tells that memory ran out
+pub record RunsOut (b b' : BegunData) (s' : DeskState) : Type 0 where
+  pub memory : Option ℕ
+  pub ends : Ends memory b b' s'
+  pub word : ran_out ends.came.words ≡ true
+
+abbrev pub FailsFrom : Option Came → BegunData → DeskState → BegunData → DeskState → Type 0
+FailsFrom (Some c) b s b' s' = ⊥
+FailsFrom None b s b' s' = RunsOut b b' s'
+
+abbrev pub Fails : BegunData → DeskState → BegunData → DeskState → Type 0
+Fails b s b' s' = FailsFrom b.came b s b' s'
+
+-- the result of a reply goes into a property, or nowhere; another answer leaves the handlers as they are
+abbrev pub IsTakenIn : Answer → DeskState → DeskState → Type 0
+IsTakenIn (answer.Reply flat m) s s' = (token : ℕ) × (into : Option ℕ) × (s' ≡ taken_in s token into m)
+IsTakenIn _ s s' = s' ≡ s
+
+-- the answer is one more that was heard
+pub record Hears (a : Answer) (b : BegunData) (s : DeskState) (b' : BegunData) (s' : DeskState) : Type 0 where
+  pub message : b' ≡ record b { heard = b.heard ++ a ∷ [] }
+  pub state : IsTakenIn a s s'
+
+-- what is sent on has as many specifiers popped as the item or more, and no more than its message has
+abbrev pub Forwards : Want → BegunData → Type 0
+Forwards (want.Forward looper popped) b = (b.item.popped ≤ popped) × (popped ≤ specifier_count (message_of b.item).fields)
+Forwards _ b = Unit {0}
 
 -- ---- what is asked of a caller
-abbrev pub OfBegun : (Task → Type 0) → Option BegunData → Type 0
-OfBegun p None = ⊥
-OfBegun p (Some b) = p b.task
-
--- a message is begun, and no want of it is without its answer
+-- a message is begun, and each want has its answer
 abbrev pub DeskMayWant : DeskData → Type 0
-DeskMayWant d = OfBegun MayWant d.begun
+DeskMayWant d = OfBegun (λ (b : BegunData). AreAnswered b.asked b.heard) d.begun
 
+-- with this answer each want has its answer
 abbrev pub DeskTakes : DeskData → Answer → Type 0
-DeskTakes d a = OfBegun (λ t. TakesAnswer t a) d.begun
+DeskTakes d a = OfBegun (λ (b : BegunData). AreAnswered b.asked (b.heard ++ a ∷ [])) d.begun
 
+-- nothing is left to do
 abbrev pub DeskIsDone : DeskData → Type 0
-DeskIsDone d = OfBegun IsDone d.begun
+DeskIsDone d = OfBegun (λ (b : BegunData). IsSome b.came) d.begun
 
--- what is begun stands behind that want
+-- each answer to that want may come, and where nothing is wanted, nothing is left to do
 abbrev pub DeskAwaits : Want → DeskData → Type 0
-DeskAwaits w d = OfBegun (Awaits w) d.begun
-
--- where memory ran out
-abbrev pub place_at : Option BegunData → ℕ
-place_at None = 0
-place_at (Some b) = place_in b.task
+DeskAwaits want.Done d = DeskIsDone d
+DeskAwaits (want.Find _) d = (a : Answer) → AnswersFind a → DeskTakes d a
+DeskAwaits (want.Post _ _ _) d = (a : Answer) → AnswersPost a → DeskTakes d a
+DeskAwaits (want.Ask _ _) d = (a : Answer) → AnswersAsk a → DeskTakes d a
+DeskAwaits (want.Forward _ _) d = (a : Answer) → AnswersForward a → DeskTakes d a
 
 -- ---- a new line
 abbrev pub stamp_in : List LineData → ℕ
@@ -134,8 +189,16 @@ abbrev pub clock_after : DeskData → Clock → Clock
 clock_after d clock = record clock { time = stamp_after d.lines clock }
 
 -- ---- ending
+abbrev pub words_in : Option Came → List AnswerWord
+words_in None = []
+words_in (Some c) = c.words
+
+abbrev pub quit_in : Option Came → Bool
+quit_in None = false
+quit_in (Some c) = c.quit
+
 abbrev pub ended_event : BegunData → DeskEvent
-ended_event b = event.Dispatched b.position b.route (words_of b.task) (quits b.task)
+ended_event b = event.Dispatched b.position b.route (words_in b.came) (quit_in b.came)
 
 abbrev pub ended_by : DeskData → Clock → Option BegunData → DeskData
 ended_by d clock None = d
@@ -145,36 +208,44 @@ ended_by d clock (Some b) = with_line (record d { begun = None }) clock (ended_e
 abbrev pub ended : DeskData → Clock → DeskData
 ended d clock = ended_by d clock d.begun
 
-abbrev pub made_of : Task → Made
-made_of t =
+abbrev pub made_of : Came → Made
+made_of c =
     record {
-      reply = option_map fitting (reply_of t);
-      forwarded = if is_some (reply_of t) then false else true;
-      quit = quits t;
-      no_memory = ran_out (words_of t);
+      reply = option_map fitting c.reply;
+      forwarded = if is_some c.reply then false else true;
+      quit = c.quit;
+      no_memory = ran_out c.words;
     }
 
--- nothing was begun
+-- nothing came of it
 abbrev pub made_nothing : Made
 made_nothing = record { reply = None; forwarded = false; quit = false; no_memory = false }
 
+abbrev pub made_in : Option Came → Made
+made_in None = made_nothing
+made_in (Some c) = made_of c
+
 abbrev pub made_by : Option BegunData → Made
 made_by None = made_nothing
-made_by (Some b) = made_of b.task
+made_by (Some b) = made_in b.came
 
 abbrev pub dispatched_line : List LineData → Clock → ℕ → ItemData → DeskState → List AnswerWord → Bool → LineData
 dispatched_line lines clock position item before words quit =
     line_after lines clock (event.Dispatched position (entry_route before (routed_of before item).route) words quit) (Some item)
 
 -- The message at that position was dispatched: the list leads from the opening to the state before it, and goes on by its one entry,
--- with the route of that state, the words and the quit mark, to the state after it; the reply is the one that goes with these, as it fits
-pub record HasDispatched (clock clock' : Clock) (position : ℕ) (item : ItemData) (opening before after : DeskState) (lines lines' : List LineData) (made : Made) : Type 0 where
+-- with the route of that state, the words and the quit mark, to the state after it; the reply is the one that goes with these, as it
+-- fits. It asked for these, and heard these answers
+pub record HasDispatched (clock clock' : Clock) (position : ℕ) (item : ItemData) (asked : List Want) (heard : List Answer) (opening before after : DeskState) (lines lines' : List LineData) (made : Made) : Type 0 where
   pub history : IsHistory opening lines before
   pub position_is : position ≡ dispatches lines
   pub words : List AnswerWord
   pub quit : Bool
   pub dispatch : Dispatches before item words quit after
+  pub heard_are : dispatch.answers ≡ heard
+  pub asked_are : (dispatch_of before item dispatch.answers dispatch.memory).wants ≡ asked
   pub reply : Option MessageData
+  pub told : (dispatch_of before item dispatch.answers dispatch.memory).reply ≡ reply
   pub replies : Replies before item words reply
   pub grown : lines' ≡ lines ++ dispatched_line lines clock position item before words quit ∷ []
   pub goes_on : IsHistory opening lines' after
@@ -184,7 +255,7 @@ pub record HasDispatched (clock clock' : Clock) (position : ℕ) (item : ItemDat
 
 -- of what was begun
 abbrev pub EndsDispatch : Clock → Clock → DeskData → DeskData → Made → BegunData → Type 0
-EndsDispatch clock clock' d d' made b = HasDispatched clock clock' b.position b.item d.opening b.before d'.state d.lines d'.lines made
+EndsDispatch clock clock' d d' made b = HasDispatched clock clock' b.position b.item b.asked b.heard d.opening b.before d'.state d.lines d'.lines made
 
 -- ---- giving up
 abbrev pub given_up : DeskData → Clock → Taken → DeskData

@@ -46,15 +46,15 @@ abbrev pub replied : DeskState → MessageData → Bool → List Answer → Disp
 replied s reply quit answers =
     record { state = s; wants = []; words = []; reply = Some reply; quit = quit; no_memory = false; waits = false; answers = answers }
 
--- the reply found no memory, and nothing changed
-abbrev pub starved : DeskState → List Answer → Dispatch
-starved s answers =
+-- the reply found no memory, and nothing changed; whether the looper is to end does not hang on that
+abbrev pub starved : DeskState → Bool → List Answer → Dispatch
+starved s quit answers =
     record {
       state = s;
       wants = [];
       words = word.Error error.NoMemory ∷ [];
       reply = Some none_reply;
-      quit = false;
+      quit = quit;
       no_memory = true;
       waits = false;
       answers = answers;
@@ -62,11 +62,11 @@ starved s answers =
 
 -- ---- a message that is taken
 abbrev pub by_property : DeskState → Replied → Bool → List Answer → Dispatch
-by_property s r memory answers = if memory then starved s answers else replied r.state r.reply false answers
+by_property s r memory answers = if memory then starved s false answers else replied r.state r.reply false answers
 
 abbrev pub by_built_in : DeskState → ℕ → MessageData → Bool → List Answer → Dispatch
 by_built_in s token m memory answers =
-    if memory then starved s answers else replied s (built_in_reply s token m) (built_in_quits s m) answers
+    if memory then starved s (built_in_quits s m) answers else replied s (built_in_reply s token m) (built_in_quits s m) answers
 
 abbrev pub is_no_memory : AnswerWord → Bool
 is_no_memory (word.Error error.NoMemory) = true
@@ -143,3 +143,24 @@ entry_route s route.Skipped = entry.Skipped
 entry_route s route.Dropped = entry.Dropped
 entry_route s route.NotUnderstood = entry.NotUnderstood
 entry_route s (route.Forward looper) = entry.Forward (s.first + looper)
+
+-- ---- what a message came to, once nothing is left to do
+pub record Came : Type 0 where
+  pub words : List AnswerWord
+  -- none where the message was sent on
+  pub reply : Option MessageData
+  pub quit : Bool
+
+-- as one dispatch that asked for these
+abbrev pub came_to : List Want → Came → DeskState → Dispatch
+came_to asked c s =
+    record {
+      state = s;
+      wants = asked;
+      words = c.words;
+      reply = c.reply;
+      quit = c.quit;
+      no_memory = ran_out c.words;
+      waits = false;
+      answers = [];
+    }

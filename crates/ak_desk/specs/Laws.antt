@@ -1,15 +1,18 @@
 -- What holds of all desks.
-use Rattle.std.specs.Prelude.{◌≡◌, ℕ, ◌+◌, Bool, false, List, [], ◌∷◌, ◌++◌, Option, None, Some}
+use Rattle.std.specs.Prelude.{◌≡◌, ℕ, ◌+◌, ◌<◌, ◌≤◌, Bool, false, List, [], ◌∷◌, ◌++◌, length, codes, All, Option, None, Some}
 use Rattle.ak_base.specs.declared.error.KitError.{KitError}
 use Rattle.ak_base.specs.declared.error.KitError.TheVariants as error
 use Rattle.ak_flatten.specs.Item.{ItemData}
-use Rattle.ak_message.specs.Message.{MessageData}
+use Rattle.ak_message.specs.declared.kind.Kind.{Kind}
+use Rattle.ak_message.specs.Message.{FieldData, MessageData, ValueData, depth_of_value, kind_of}
 use Rattle.ak_turn.specs.declared.clock.Clock.{Clock}
 use Rattle.ak_turn.specs.Lines.{made_by}
 use Rattle.ak_turn.specs.Seats.{IsGiven, at_leisure, entered_by}
 use Rattle.ak_action.specs.declared.answer.Answer.{Answer}
 use Rattle.ak_action.specs.declared.answer.Want.{Want}
 use Rattle.ak_action.specs.declared.state.DeskState.{DeskState}
+use Rattle.ak_action.specs.Building.{held}
+use Rattle.ak_action.specs.Doing.{row_of}
 use Rattle.ak_handler.specs.declared.fault.HandlerFault.{HandlerFault}
 use Rattle.ak_action.specs.declared.answer.AnswerWord.{AnswerWord}
 use Rattle.ak_action.specs.declared.answer.AnswerWord.TheVariants as word
@@ -19,24 +22,14 @@ use Rattle.ak_desk.specs.declared.entry.EditAnswer.TheVariants as answered
 use Rattle.ak_desk.specs.declared.entry.EntryRoute.{EntryRoute}
 use Rattle.ak_desk.specs.declared.entry.EntryRoute.TheVariants as entry
 use Rattle.ak_desk.specs.declared.made.Made.{Made}
-use Rattle.ak_desk.specs.declared.task.Task.{Task}
+use Rattle.ak_desk.specs.BuiltIns.{looper_suites, suites_of}
 use Rattle.ak_desk.specs.Desk.{HasDispatched}
-use Rattle.ak_desk.specs.Dispatch.{dispatch_of, entry_route}
+use Rattle.ak_desk.specs.Dispatch.{entry_route}
 use Rattle.ak_desk.specs.Line.{LineData}
 use Rattle.ak_desk.specs.Machine.{DeskStep, DispatchStep, Replays, Replies, StepReplies, counted, dispatches, gave_up}
 use Rattle.ak_desk.specs.Place.{routed_of}
-use Rattle.ak_desk.specs.Replies.{error_reply, none_reply}
+use Rattle.ak_desk.specs.Replies.{error_field, error_reply, none_reply, reply_with, values_reply}
 use Rattle.ak_desk.specs.Shared.{DeskSeat, HasDispatchedThere, IsAtDesk, by_number}
-use Rattle.ak_desk.specs.Task.{Comes, IsDone, came_to, task_of}
-
--- however the calls for one message go, what they come to is the dispatch with all its answers at once, where no memory ran out, or ran
--- out at some place
-abbrev pub ComesToDispatch : Type 0
-ComesToDispatch =
-    (s : DeskState) (item : ItemData) (asked : List Want) (heard : List Answer) (t : Task) (v : DeskState)
-    → Comes s (task_of s.first (routed_of s item)) asked heard t v
-    → IsDone t
-    → (memory : Option ℕ) × (dispatch_of s item heard memory ≡ came_to asked t v)
 
 -- ---- every list that the machine allows
 -- a line stands on the state that those before it leave, and those behind it on the state that it leaves
@@ -144,12 +137,34 @@ DispatchesAreOwn =
 -- a message that is begun and ended between `lock` and `finish` is dispatched there, by what those two say of the seats
 abbrev pub ATurnDispatches : Type 0
 ATurnDispatches =
-    (clock clock' : Clock) (position : ℕ) (item : ItemData) (made : Made) (opening before after : DeskState) (lines lines' : List LineData) (seat given seat' : DeskSeat)
-    → HasDispatched clock clock' position item opening before after lines lines' made
+    (clock clock' : Clock) (position : ℕ) (item : ItemData) (asked : List Want) (heard : List Answer) (made : Made) (opening before after : DeskState) (lines lines' : List LineData) (seat given seat' : DeskSeat)
+    → HasDispatched clock clock' position item asked heard opening before after lines lines' made
     → seat.turn ≡ false
     → seat.thread ≡ clock.thread.0
     → seat.opening ≡ Some opening
     → IsGiven by_number seat given
     → lines ≡ given.front
     → ((line : LineData) → lines' ≡ given.front ++ line ∷ [] → seat' ≡ at_leisure (entered_by given line))
-    → HasDispatchedThere clock clock' position item made seat seat' × IsAtDesk seat'
+    → HasDispatchedThere clock clock' position item asked heard made seat seat' × IsAtDesk seat'
+
+-- ---- nothing that fits is left out
+-- the field of these values, where there are any
+abbrev pub result_of : List ValueData → List FieldData
+result_of [] = []
+result_of (v ∷ vs) = (record { name = codes "result"; kind = kind_of v; values = v ∷ vs }) ∷ []
+
+-- of at most 255 values of one kind, none too deep for a message, a reply has all, in order
+abbrev pub AllValuesAreTold : Type 0
+AllValuesAreTold =
+    (kind : Kind) (vs : List ValueData) → length vs ≤ 255 → All (λ v. kind_of v ≡ kind) vs → All (λ v. depth_of_value v < 16) vs
+    → values_reply (Some vs) ≡ reply_with (result_of vs ++ error_field error.Ok ∷ [])
+
+-- of at most 16 suites all are told, before those of what the handler is
+abbrev pub AllSuitesAreTold : Type 0
+AllSuitesAreTold =
+    (s : DeskState) (token : ℕ) → length (row_of s token).suites ≤ 16
+    → suites_of s token ≡ (row_of s token).suites ++ codes "suite/vnd.Be-handler" ∷ looper_suites s token
+
+-- a value that is not too deep for a message is held
+abbrev pub ShallowIsHeld : Type 0
+ShallowIsHeld = (v : ValueData) → depth_of_value v < 16 → held (Some v) ≡ v ∷ []

@@ -3,6 +3,8 @@ use Rattle.std.specs.Prelude.{◌≡◌, ℕ, List, [], ◌∷◌, ◌++◌, Opt
 use Rattle.ak_flatten.specs.Item.{ItemData}
 use Rattle.ak_turn.specs.declared.clock.Clock.{Clock}
 use Rattle.ak_turn.specs.Seats.{SeatData, HasSeen, HasCalled}
+use Rattle.ak_action.specs.declared.answer.Answer.{Answer}
+use Rattle.ak_action.specs.declared.answer.Want.{Want}
 use Rattle.ak_action.specs.declared.state.DeskState.{DeskState}
 use Rattle.ak_desk.specs.declared.entry.DeskEvent.{DeskEvent}
 use Rattle.ak_desk.specs.declared.made.Made.{Made}
@@ -33,16 +35,16 @@ abbrev pub HasAnswered : Option DeskEvent → Clock → Clock → DeskSeat → D
 HasAnswered (Some e) clock clock' seat seat' = HasEntered clock clock' e seat seat'
 HasAnswered None clock clock' seat seat' = HasLooked clock clock' seat seat'
 
--- the seat's thread dispatched one message in one turn: its entry is the last of the seat's front, and goes on from all that was there
--- before
-pub record HasDispatchedThere (clock clock' : Clock) (position : ℕ) (item : ItemData) (made : Made) (seat seat' : DeskSeat) : Type 0 where
+-- the seat's thread dispatched one message in one turn, having asked for these and heard these answers: its entry is the last of the
+-- seat's front, and goes on from all that was there before
+pub record HasDispatchedThere (clock clock' : Clock) (position : ℕ) (item : ItemData) (asked : List Want) (heard : List Answer) (made : Made) (seat seat' : DeskSeat) : Type 0 where
   pub opening : DeskState
   pub opening_is : seat'.opening ≡ Some opening
   -- the states before it and after it, and the list before it
   pub before : DeskState
   pub after : DeskState
   pub lines : List LineData
-  pub dispatched : HasDispatched clock clock' position item opening before after lines seat'.front made
+  pub dispatched : HasDispatched clock clock' position item asked heard opening before after lines seat'.front made
   pub called : HasCalled by_number (dispatched_line lines clock position item before dispatched.words dispatched.quit) seat seat'
 
 -- the seat's front is a list that the machine allows from its opening on

@@ -21,7 +21,7 @@ use Rattle.ak_desk.specs.declared.task.Task.{Task}
 use Rattle.ak_desk.specs.declared.task.Task.TheVariants as task
 use Rattle.ak_desk.specs.Answering.{AnswersAsk, AnswersForward, AnswersPost}
 use Rattle.ak_desk.specs.BuiltIns.{built_in_reply, built_in_quits}
-use Rattle.ak_desk.specs.Dispatch.{Dispatch, forward_reply, ran_out}
+use Rattle.ak_desk.specs.Dispatch.{Came, forward_reply}
 use Rattle.ak_desk.specs.Properties.{property_replied}
 use Rattle.ak_desk.specs.Replies.{none_reply, not_understood}
 
@@ -83,9 +83,9 @@ abbrev pub place_in : Task → ℕ
 place_in (task.Reaction i) = i.place
 place_in _ = 0
 
--- without memory its word is that, and nothing changes
-abbrev pub starved : Task
-starved = task.Done (Some error.NoMemory) (Some none_reply) false
+-- without memory for its reply its word is that, and nothing changes
+abbrev pub starved : Bool → Task
+starved quit = task.Done (Some error.NoMemory) (Some none_reply) quit
 
 abbrev pub answered_by : DeskState → MessageData → Bool → Wanted
 answered_by s reply quit = wants want.Done (task.Done None (Some reply) quit) s
@@ -94,10 +94,11 @@ answered_by s reply quit = wants want.Done (task.Done None (Some reply) quit) s
 abbrev pub want_of : Option ℕ → Task → DeskState → Wanted
 want_of memory (task.Reaction i) s = next_wanted (next_of memory i s)
 want_of memory (task.Property token place m) s =
-    if is_some memory then wants_none starved s
+    if is_some memory then wants_none (starved false) s
     else answered_by (property_replied s token place m).state (property_replied s token place m).reply false
 want_of memory (task.BuiltIn token m) s =
-    if is_some memory then wants_none starved s else answered_by s (built_in_reply s token m) (built_in_quits s m)
+    if is_some memory then wants_none (starved (built_in_quits s m)) s
+    else answered_by s (built_in_reply s token m) (built_in_quits s m)
 want_of memory (task.Forward looper popped spare) s = wants (want.Forward looper popped) (task.Forwarding spare) s
 want_of memory (task.Forwarding spare) s = wants want.Done (task.Forwarding spare) s
 want_of memory (task.Done w reply quit) s = wants want.Done (task.Done w reply quit) s
@@ -145,25 +146,12 @@ quits (task.Reaction i) = i.quit
 quits (task.Done w reply quit) = quit
 quits _ = false
 
--- as one dispatch that asked for these
-abbrev pub came_to : List Want → Task → DeskState → Dispatch
-came_to asked t s =
-    record {
-      state = s;
-      wants = asked;
-      words = words_of t;
-      reply = reply_of t;
-      quit = quits t;
-      no_memory = ran_out (words_of t);
-      waits = false;
-      answers = [];
-    }
+abbrev pub came_of : Task → Came
+came_of t = record { words = words_of t; reply = reply_of t; quit = quits t }
 
 -- ---- the calls, from the beginning on
--- after these wants, and these answers to them in order; `first` is what there was to do at first
+-- after these wants, and these answers to them in order, while something is left to do; `first` is what there was to do at first
 pub data Comes (before : DeskState) (first : Task) : List Want → List Answer → Task → DeskState → Type 0 where
   begun : Comes before first [] [] first before
   wanted : (asked : List Want) (heard : List Answer) (t : Task) (s : DeskState) (w : Want) (u : Task) (v : DeskState) → Comes before first asked heard t s → MayWant t → IsAsking w → want_of None t s ≡ wants w u v → Comes before first (asked ++ w ∷ []) heard u v
-  done : (asked : List Want) (heard : List Answer) (t : Task) (s : DeskState) (u : Task) (v : DeskState) → Comes before first asked heard t s → MayWant t → want_of None t s ≡ wants want.Done u v → Comes before first asked heard u v
-  found_none : (asked : List Want) (heard : List Answer) (t : Task) (s : DeskState) (u : Task) (v : DeskState) → Comes before first asked heard t s → MayWant t → want_of (Some (place_in u)) t s ≡ wants_none u v → Comes before first asked heard u v
   given : (asked : List Want) (heard : List Answer) (t : Task) (s : DeskState) (a : Answer) → Comes before first asked heard t s → TakesAnswer t a → Comes before first asked (heard ++ a ∷ []) (heard_of t s a).task (heard_of t s a).state

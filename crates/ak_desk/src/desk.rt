@@ -1,16 +1,17 @@
-ghost use Rattle.std.specs.Prelude.{◌≡◌, ◌+◌, ◌<◌, ◌^◌, None, Some, ℕ, IfOk, OnErr, OnOk};
-ghost use Rattle.ak_action.specs.declared.state.DeskState.{DeskState};
-ghost use Rattle.ak_flatten.specs.Item.{ItemData, message_of};
+ghost use Rattle.std.specs.Prelude.{◌≡◌, ◌+◌, ◌++◌, ◌∷◌, ◌<◌, ◌^◌, [], true, None, Some, ℕ, IfOk, OnErr, OnOk};
+ghost use Rattle.ak_flatten.specs.Item.{IsItem, message_of};
 ghost use Rattle.ak_route.specs.declared.outcome.Route.{Route};
 ghost use Rattle.ak_route.specs.declared.outcome.Route.TheVariants as route;
 ghost use Rattle.ak_desk.specs.Desk.{begun_at};
-ghost use Rattle.ak_desk.specs.DeskInside.{begun_seen};
+ghost use Rattle.ak_desk.specs.DeskInside.{asked_more, begun_seen, is_last, noted};
 ghost use Rattle.ak_desk.specs.Dispatch.{entry_route};
 ghost use Rattle.ak_desk.specs.Place.{loopers_of, routed_of};
+ghost use Rattle.ak_desk.specs.Task.{heard_of, place_in, task_of, want_of, wants, wants_none, MayWant, TakesAnswer};
 
 use crate::built_in::is_own;
 use crate::entry::{DeskLine, EntryRoute};
 use crate::reserved::{Spare, WordRoom};
+use crate::said::Said;
 use crate::task::Task;
 use ak_action::{Answer, DeskState, LooperPlan, Want};
 use ak_base::{Items, NoMemory, Text};
@@ -32,6 +33,11 @@ pub(crate) struct Begun {
     pub(crate) item: Snapshot<Item>,
     // The state in which it began.
     pub(crate) before: Snapshot<DeskState>,
+    // What was asked for outside, and what was answered.
+    pub(crate) asked: Said<Want>,
+    pub(crate) heard: Said<Answer>,
+    // Nothing is left to do.
+    pub(crate) done: bool,
 }
 
 /// The handlers of one looper, and the list of all that was done on them, oldest first. While nothing is begun,
@@ -62,7 +68,7 @@ impl Model for Desk {
 }
 
 impl Desk {
-    ghost use Rattle.ak_desk.specs.Desk.{opened, begun_with, given_to, wanted_next, desk_wants, desk_wants_none, place_at, DeskAwaits, DeskIsDone, DeskMayWant, DeskTakes};
+    ghost use Rattle.ak_desk.specs.Desk.{opened, begun_with, DeskAwaits, DeskIsDone, DeskMayWant, DeskTakes, Fails, Forwards, Hears, OfBegun, Turns, Wants};
     ghost use Rattle.ak_action.specs.Opening.{FitsPlace, Opens};
     ghost use Rattle.ak_desk.specs.Machine.{IsHistory, dispatches};
 
@@ -130,14 +136,20 @@ impl Desk {
     /// before stays, and `end` comes next.
     pub fn want(&mut self) -> Result<Want, NoMemory>
         requires { DeskMayWant self.old }
-        ensures ok { IfOk result (λ w. wanted_next None self.old ≡ desk_wants w self.new) }
-        ensures err { OnErr result (wanted_next (Some (place_at self.new.begun)) self.old ≡ desk_wants_none self.new) }
+        ensures opening { self.new.opening ≡ self.old.opening }
+        ensures lines { self.new.lines ≡ self.old.lines }
+        ensures ok { IfOk result (λ w. Turns (Wants w) self.old self.new) }
+        ensures err { OnErr result (Turns Fails self.old self.new) }
         ensures awaits { IfOk result (λ w. DeskAwaits w self.new) }
+        ensures forwards { IfOk result (λ w. OfBegun (Forwards w) self.new.begun) }
         ensures ends { OnErr result (DeskIsDone self.new) }
     {
+        ak_route::routes_pop_within();
+        ak_action::runs_act();
+        ak_action::calls_act();
         let alloc = *self.lines.allocator();
         if let Some(begun) = &mut self.begun {
-            return begun.task.want(alloc, &mut self.state);
+            return begun.want(alloc, &mut self.state);
         }
         Ok(Want::Done)
     }
@@ -146,19 +158,71 @@ impl Desk {
     /// property, as that of an `ask` does. Takes no memory.
     pub fn give(&mut self, a: Answer)
         requires { DeskTakes self.old a }
-        ensures given { self.new ≡ given_to self.old a }
+        ensures opening { self.new.opening ≡ self.old.opening }
+        ensures lines { self.new.lines ≡ self.old.lines }
+        ensures given { Turns (Hears a) self.old self.new }
         ensures goes_on { DeskMayWant self.new }
     {
         let alloc = *self.lines.allocator();
         if let Some(begun) = &mut self.begun {
-            begun.task.give(alloc, &mut self.state, a);
+            begun.give(alloc, &mut self.state, a);
+        }
+    }
+}
+
+impl Begun {
+    // Goes on until something is wanted, and notes it.
+    fn want(&mut self, alloc: Global, state: &mut DeskState) -> Result<Want, NoMemory>
+        requires { MayWant self.old.task }
+        ensures ok { IfOk result (λ w. self.new ≡ noted w (record self.old { task = self.new.task })) }
+        ensures next { IfOk result (λ w. want_of None self.old.task state.old ≡ wants w self.new.task state.new) }
+        ensures err { OnErr result (self.new ≡ record self.old { task = self.new.task; done = true }) }
+        ensures failed { OnErr result (want_of (Some (place_in self.new.task)) self.old.task state.old ≡ wants_none self.new.task state.new) }
+    {
+        match self.task.want(alloc, state) {
+            Ok(want) => {
+                self.done = note(&mut self.asked, &want);
+                Ok(want)
+            }
+            Err(NoMemory) => {
+                self.done = true;
+                Err(NoMemory)
+            }
+        }
+    }
+
+    // Hands it the answer to the last want, and notes it.
+    fn give(&mut self, alloc: Global, state: &mut DeskState, a: Answer)
+        requires { TakesAnswer self.old.task a }
+        ensures message { self.new ≡ record self.old { task = self.new.task; heard = self.old.heard ++ a ∷ [] } }
+        ensures heard { heard_of self.old.task state.old a ≡ record { task = self.new.task; state = state.new } }
+    {
+        self.heard.push(&a);
+        self.task.give(alloc, state, a);
+    }
+}
+
+// Whether nothing is wanted; else the want is one more.
+fn note(asked: &mut Said<Want>, want: &Want) -> bool
+    ensures asked { asked.new ≡ asked_more want.now asked.old }
+    ensures done { result ≡ is_last want.now }
+{
+    match want {
+        Want::Done => true,
+        Want::Find(_) | Want::Post { .. } | Want::Ask { .. } | Want::Forward { .. } => {
+            asked.push(want);
+            false
         }
     }
 }
 
 fn begun_at(alloc: Global, state: &DeskState, taken: &Taken) -> Result<Begun, NoMemory>
-    ensures { IfOk result (λ b. begun_seen b ≡ begun_at state.now taken.now) }
+    ensures seen { IfOk result (λ b. begun_seen b ≡ begun_at state.now taken.now) }
+    ensures item { IfOk result (λ b. IsItem b.item.value) }
+    ensures task { IfOk result (λ b. b.task ≡ task_of state.now.first (routed_of state.now taken.now.item)) }
 {
+    // Reading how many specifiers are popped shows that no more are than there are.
+    let _popped = taken.item.popped();
     let mut message = taken.item.message(alloc)?;
     let route = routed(state, &taken.item, &mut message);
     Ok(Begun {
@@ -169,6 +233,9 @@ fn begun_at(alloc: Global, state: &DeskState, taken: &Taken) -> Result<Begun, No
         spare: Spare::new(alloc)?,
         item: Snapshot::of(&taken.item),
         before: Snapshot::of(state),
+        asked: Said::nothing(),
+        heard: Said::nothing(),
+        done: false,
     })
 }
 

@@ -5,7 +5,6 @@ ghost use Rattle.ak_desk.specs.Replies.{none_reply};
 
 use crate::desk::{Begun, Desk};
 use crate::entry::{DeskEntry, DeskEvent, DeskLine, EntryRoute};
-use crate::laws::a_dispatch_comes_as_told;
 use crate::made::Made;
 use crate::replies::none_reply;
 use crate::reserved::Spare;
@@ -36,7 +35,6 @@ impl Desk {
         ensures clock { clock.new ≡ clock_after self.old clock.old }
         ensures dispatched { IfSome self.old.begun (EndsDispatch clock.old clock.new self.old self.new result) }
     {
-        a_dispatch_comes_as_told();
         let alloc = *self.lines.allocator();
         let Some(begun) = self.begun.take() else {
             return Made {
@@ -54,6 +52,9 @@ impl Desk {
             spare,
             item,
             before: _,
+            asked: _,
+            heard: _,
+            done: _,
         } = begun;
         let Ended {
             answers,

@@ -2,14 +2,6 @@
 
 ghost use Rattle.ak_desk.specs.Laws as law;
 
-/// However the calls of `want` and `give` go for one message, they come to its dispatch with all answers at
-/// once. In that dispatch no memory ran out, or it ran out at some place.
-pub fn a_dispatch_comes_as_told()
-    ensures { law.ComesToDispatch }
-{
-    ak_action::calls_act();
-}
-
 /// What holds of every list that the machine of a desk allows. Each line stands on the state that those before
 /// it leave. A dispatched message has as its position how many were dispatched before it. A refused edit
 /// changes nothing. The opening and the list tell the state.
@@ -38,6 +30,13 @@ pub fn an_entry_tells_its_reply()
 /// told by the entries that the looper's own thread made.
 pub fn the_dispatches_are_its_own()
     ensures { law.DispatchesAreOwn }
+{}
+
+/// Of values, suites and fields that fit nothing is left out.
+pub fn what_fits_is_told()
+    ensures values { law.AllValuesAreTold }
+    ensures suites { law.AllSuitesAreTold }
+    ensures held { law.ShallowIsHeld }
 {}
 
 /// A message that the looper's own thread begins and ends in one turn at a shared desk is dispatched there:

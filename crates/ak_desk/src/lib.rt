@@ -16,14 +16,15 @@ mod made;
 mod properties;
 mod replies;
 mod reserved;
+mod said;
 mod shared;
 mod task;
 
 pub use desk::Desk;
 pub use entry::{DeskEntry, DeskEvent, DeskLine, Edit, EditAnswer, EntryRoute};
 pub use laws::{
-    a_dispatch_comes_as_told, a_turn_dispatches, an_entry_tells_its_reply,
-    the_dispatches_are_its_own, the_list_tells_the_handlers,
+    a_turn_dispatches, an_entry_tells_its_reply, the_dispatches_are_its_own,
+    the_list_tells_the_handlers, what_fits_is_told,
 };
 pub use made::Made;
 pub use shared::edit_shared;

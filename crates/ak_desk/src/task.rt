@@ -110,7 +110,7 @@ impl Task {
         ensures awaits { IfOk result (λ w. Awaits w self.new) }
         ensures ends { OnErr result (IsDone self.new) }
     {
-        match mem::replace(self, starved(alloc)) {
+        match mem::replace(self, starved(alloc, false)) {
             Task::Property {
                 token,
                 place,
@@ -121,8 +121,11 @@ impl Task {
                 Ok(Want::Done)
             }
             Task::BuiltIn { token, message } => {
+                let quit = built_in_quits(state, &message);
+                // Whether the looper is to end does not hang on memory for the reply.
+                *self = starved(alloc, quit);
                 let reply = built_in_reply(alloc, state, token, &message)?;
-                *self = done(None, Some(reply), built_in_quits(state, &message));
+                *self = done(None, Some(reply), quit);
                 Ok(Want::Done)
             }
             Task::Forward {
@@ -159,7 +162,7 @@ impl Task {
         ensures heard { (s : DeskState) → heard_of self.old s a ≡ record { task = self.new; state = s } }
         ensures goes_on { MayWant self.new }
     {
-        if let Task::Forwarding { spare } = mem::replace(self, starved(alloc)) {
+        if let Task::Forwarding { spare } = mem::replace(self, starved(alloc, false)) {
             *self = forwarded(alloc, spare, a);
         }
     }
@@ -215,11 +218,11 @@ fn ready(reply: Message) -> Task
     done(None, Some(reply), false)
 }
 
-// There was no memory for it.
-fn starved(alloc: Global) -> Task
-    ensures { result ≡ starved }
+// There was no memory for its reply.
+fn starved(alloc: Global, quit: bool) -> Task
+    ensures { result ≡ starved quit }
 {
-    done(Some(KitError::NoMemory), Some(none_reply(alloc)), false)
+    done(Some(KitError::NoMemory), Some(none_reply(alloc)), quit)
 }
 
 fn done(word: Option<KitError>, reply: Option<Message>, quit: bool) -> Task
@@ -237,7 +240,7 @@ fn forwarded(alloc: Global, spare: Spare, a: Answer) -> Task
         Answer::Written(_) => done(Some(KitError::Ok), None, false),
         Answer::Closed => refused(spare, KitError::BadPortId),
         Answer::Spent => refused(spare, KitError::Spent),
-        _ => starved(alloc),
+        _ => starved(alloc, false),
     }
 }
 

@@ -13,17 +13,13 @@ use Rattle.ak_action.specs.declared.answer.Want.TheVariants as want
 use Rattle.ak_action.specs.declared.state.DeskState.{DeskState}
 use Rattle.ak_desk.specs.declared.entry.DeskEvent.TheVariants as event
 use Rattle.ak_desk.specs.declared.made.Made.{Made}
-use Rattle.ak_desk.specs.declared.task.Task.{Task}
-use Rattle.ak_desk.specs.declared.task.Task.TheVariants as task
-use Rattle.ak_desk.specs.BuiltIns.{built_in_reply, built_in_quits}
-use Rattle.ak_desk.specs.Desk.{BegunData, DeskData, DeskIsDone, begun_at, begun_with, clock_after, desk_wanted, desk_wants, desk_wants_none, ended, ended_event, gone_on, line_after, made_by, stamp_after, stamp_in, wanted_by, wanted_next, with_task}
-use Rattle.ak_desk.specs.Dispatch.{by_route, entry_route, fitting}
+use Rattle.ak_desk.specs.BuiltIns.{built_in_reply}
+use Rattle.ak_desk.specs.Desk.{Asks, BegunData, DeskData, DeskIsDone, Ends, GoesOn, IsCarried, OfBegun, Turns, Wants, begun_at, begun_with, clock_after, ended, ended_event, line_after, made_by, stamp_after, stamp_in}
+use Rattle.ak_desk.specs.Dispatch.{Came, Dispatch, by_route, came_to, entry_route, fitting}
 use Rattle.ak_desk.specs.Line.{LineData}
 use Rattle.ak_desk.specs.Place.{routed_of}
 use Rattle.ak_desk.specs.Properties.{property_replied}
 use Rattle.ak_desk.specs.Replies.{none_reply, not_understood}
-use Rattle.ak_desk.specs.Task.{IsDone, Wanted, quits, task_by, wants, wants_none, want_of, words_of}
-use Rattle.ak_desk.specs.Task as tasks
 use Rattle.ak_desk.proofs.History.{counted_push}
 use Rattle.ak_kit.specs.Dispatched.{IsAlone, IsQuiet, IsResting}
 use Rattle.ak_kit.specs.Messages.{no_reply}
@@ -41,80 +37,19 @@ stamp_push lines line =
     ∙ ap (λ (o : Option LineData). unwrap_or (option_map (λ (l : LineData). l.entry.stamp) o) 0) (at_end lines line)
 
 -- ---- what it comes to when it is first wanted
+-- nothing is asked for, and this is the reply
 record AtOnce (s : DeskState) (m : MessageData) (r : Route) : Type 0 where
-  task_is : Task
-  state_is : DeskState
   reply_is : MessageData
-  wanted : want_of None (task_by s.first m r) s ≡ wants want.Done task_is state_is
-  done : IsDone task_is
-  words : words_of task_is ≡ (by_route s m r [] None).words
-  quit : quits task_is ≡ (by_route s m r [] None).quit
-  replied : tasks.reply_of task_is ≡ Some reply_is
+  wants : (by_route s m r [] None).wants ≡ []
   told : (by_route s m r [] None).reply ≡ Some reply_is
-  state : state_is ≡ (by_route s m r [] None).state
 
 at_once : (s : DeskState) (m : MessageData) (r : Route) → IsAlone r → AtOnce s m r
-at_once s m (route.Deliver token (taker.Property place)) alone = record {
-  task_is = task.Done None (Some (property_replied s token place m).reply) false;
-  state_is = (property_replied s token place m).state;
-  reply_is = (property_replied s token place m).reply;
-  wanted = refl;
-  done = tt;
-  words = refl;
-  quit = refl;
-  replied = refl;
-  told = refl;
-  state = refl;
-}
+at_once s m (route.Deliver token (taker.Property place)) alone = record { reply_is = (property_replied s token place m).reply; wants = refl; told = refl }
 at_once s m (route.Deliver token (taker.Reaction place)) alone = absurd alone
-at_once s m (route.Deliver token taker.BuiltIn) alone = record {
-  task_is = task.Done None (Some (built_in_reply s token m)) (built_in_quits s m);
-  state_is = s;
-  reply_is = built_in_reply s token m;
-  wanted = refl;
-  done = tt;
-  words = refl;
-  quit = refl;
-  replied = refl;
-  told = refl;
-  state = refl;
-}
-at_once s m route.Skipped alone = record {
-  task_is = task.Done None (Some none_reply) false;
-  state_is = s;
-  reply_is = none_reply;
-  wanted = refl;
-  done = tt;
-  words = refl;
-  quit = refl;
-  replied = refl;
-  told = refl;
-  state = refl;
-}
-at_once s m route.Dropped alone = record {
-  task_is = task.Done None (Some none_reply) false;
-  state_is = s;
-  reply_is = none_reply;
-  wanted = refl;
-  done = tt;
-  words = refl;
-  quit = refl;
-  replied = refl;
-  told = refl;
-  state = refl;
-}
-at_once s m route.NotUnderstood alone = record {
-  task_is = task.Done None (Some not_understood) false;
-  state_is = s;
-  reply_is = not_understood;
-  wanted = refl;
-  done = tt;
-  words = refl;
-  quit = refl;
-  replied = refl;
-  told = refl;
-  state = refl;
-}
+at_once s m (route.Deliver token taker.BuiltIn) alone = record { reply_is = built_in_reply s token m; wants = refl; told = refl }
+at_once s m route.Skipped alone = record { reply_is = none_reply; wants = refl; told = refl }
+at_once s m route.Dropped alone = record { reply_is = none_reply; wants = refl; told = refl }
+at_once s m route.NotUnderstood alone = record { reply_is = not_understood; wants = refl; told = refl }
 at_once s m (route.Forward looper) alone = absurd alone
 
 -- ---- the desk then, and what its end makes of it
@@ -137,12 +72,15 @@ module _ (d : DeskData) (clock : Clock) (item : ItemData) (position : ℕ) (rest
   abbrev a : AtOnce d.state (routed_of d.state item).message r
   a = at_once d.state (routed_of d.state item).message r quiet.alone
 
-  -- the desk after the one want
-  abbrev after : DeskData
-  after = gone_on (begun_with d taken) (begun_at d.state taken) a.task_is a.state_is
+  abbrev first : BegunData
+  first = begun_at d.state taken
 
-  wanted_once : wanted_next None (begun_with d taken) ≡ desk_wants want.Done after
-  wanted_once = ap (λ (w : Wanted). desk_wanted (begun_with d taken) (begun_at d.state taken) w) a.wanted
+  abbrev then : Came → BegunData
+  then c = record first { came = Some c }
+
+  -- the desk after the one want
+  abbrev after : Came → DeskState → DeskData
+  after c v = record { opening = d.opening; state = v; lines = d.lines; begun = Some (then c) }
 
   abbrev new_line : LineData
   new_line = record {
@@ -158,69 +96,72 @@ module _ (d : DeskData) (clock : Clock) (item : ItemData) (position : ℕ) (rest
   unfolding reply_of
   reply_told = ap (λ (o : Option MessageData). unwrap_or (option_map fitting o) no_reply) a.told
 
-  abbrev added : LineData
-  added = line_after d.lines clock (ended_event (with_task (begun_at d.state taken) a.task_is)) (Some item)
+  module _ (c : Came) (v : DeskState) (is : came d.state item ≡ came_to [] c v) where
+    abbrev added : LineData
+    added = line_after d.lines clock (ended_event (then c)) (Some item)
 
-  same_line : added ≡ new_line
-  same_line =
-      let stamp : stamp_after d.lines clock ≡ clock.time + 1 = omega (arith, rests.stamp) in
-      λ i. record {
-        entry = record { stamp = stamp i; by = record { 0 = rests.thread i }; event = event.Dispatched (place i) (entry_route d.state r) (a.words i) (a.quit i) };
-        item = Some item;
-      }
+    same_line : added ≡ new_line
+    same_line =
+        let stamp : stamp_after d.lines clock ≡ clock.time + 1 = omega (arith, rests.stamp) in
+        let words : c.words ≡ (came d.state item).words = ap (λ (p : Dispatch). p.words) (sym is) in
+        let quit : c.quit ≡ (came d.state item).quit = ap (λ (p : Dispatch). p.quit) (sym is) in
+        λ i. record {
+          entry = record { stamp = stamp i; by = record { 0 = rests.thread i }; event = event.Dispatched (place i) (entry_route d.state r) (words i) (quit i) };
+          item = Some item;
+        }
 
-  carried_after : Carried d clock item after
-  carried_after =
-      record {
-        done = a.done;
-        opening = refl;
-        stamp = rests.stamp;
-        reply = ap (λ (o : Option MessageData). option_map fitting o) a.replied ∙ ap (λ (m : MessageData). Some m) (sym reply_told) ∙ ap (λ (s : DeskState). Some (reply_of s item)) rests.state;
-        line = ap (λ (l : LineData). d.lines ++ l ∷ []) (same_line ∙ sym line_told) ∙ ap (λ (s : DeskState). d.lines ++ line_of s clock.time item ∷ []) rests.state;
-        kept = refl;
-        rests = record {
-          rest = refl;
-          state = a.state ∙ quiet.keeps ∙ rests.state;
-          count = omega (arith, length_push d.lines added, rests.count, rests.stamp);
-          position = omega (arith, counted_push 0 d.lines added, rests.position, rests.stamp);
-          stamp = stamp_push d.lines added;
-          thread = rests.thread;
-          looper = rests.looper;
-        };
-      }
+    carried_after : Carried d clock item (after c v)
+    carried_after =
+        let reply : c.reply ≡ Some a.reply_is = ap (λ (p : Dispatch). p.reply) (sym is) ∙ a.told in
+        let state : v ≡ (came d.state item).state = ap (λ (p : Dispatch). p.state) (sym is) in
+        record {
+          done = refl;
+          opening = refl;
+          stamp = rests.stamp;
+          reply = ap (λ (o : Option MessageData). option_map fitting o) reply ∙ ap (λ (m : MessageData). Some m) (sym reply_told) ∙ ap (λ (s : DeskState). Some (reply_of s item)) rests.state;
+          line = ap (λ (l : LineData). d.lines ++ l ∷ []) (same_line ∙ sym line_told) ∙ ap (λ (s : DeskState). d.lines ++ line_of s clock.time item ∷ []) rests.state;
+          kept = refl;
+          rests = record {
+            rest = refl;
+            state = state ∙ quiet.keeps ∙ rests.state;
+            count = omega (arith, length_push d.lines added, rests.count, rests.stamp);
+            position = omega (arith, counted_push 0 d.lines added, rests.position, rests.stamp);
+            stamp = stamp_push d.lines added;
+            thread = rests.thread;
+            looper = rests.looper;
+          };
+        }
 
-same_after : (w v : Want) (x y : DeskData) → desk_wants w x ≡ desk_wants v y → x ≡ y
-same_after w v x y e = cc
+  -- ---- what the want says
+  asks_none : {X : Type 0} (w : Want) (b : BegunData) (v : DeskState) → Asks w first b v → X
+  asks_none w b v h =
+      let carried : IsCarried None (record first { asked = w ∷ [] }) v = subst (λ (x : BegunData). IsCarried None x v) h.message h.carried in
+      let never : [] ≡ w ∷ [] = sym a.wants ∙ carried.wants in
+      absurd cc
 
-none_after : (x y : DeskData) → desk_wants_none x ≡ desk_wants_none y → x ≡ y
-none_after x y e = cc
+  ends_so : (w : Want) (b : BegunData) (v : DeskState) → GoesOn None w first d.state b v → Ends None first b v
+  ends_so want.Done b v h = h
+  ends_so (want.Find word) b v h = asks_none (want.Find word) b v h
+  ends_so (want.Post to m back) b v h = asks_none (want.Post to m back) b v h
+  ends_so (want.Ask to m) b v h = asks_none (want.Ask to m) b v h
+  ends_so (want.Forward looper popped) b v h = asks_none (want.Forward looper popped) b v h
+
+  by_begun : (w : Want) (o : DeskState) (v : DeskState) (lines : List LineData) (begun : Option BegunData) → o ≡ d.opening → lines ≡ d.lines → OfBegun (λ (b : BegunData). Wants w first d.state b v) begun → Carried d clock item (record { opening = o; state = v; lines = lines; begun = begun })
+  by_begun w o v lines None opening same h = absurd h
+  by_begun w o v lines (Some b) opening same h =
+      let ends = ends_so w b v h in
+      let is : came d.state item ≡ came_to [] ends.came v = subst (λ (x : BegunData). IsCarried None x v) ends.message ends.carried in
+      let whole : after ends.came v ≡ record { opening = o; state = v; lines = lines; begun = Some b } =
+      λ i. record { opening = sym opening i; state = v; lines = sym same i; begun = Some (sym ends.message i) } in
+      subst (λ (x : DeskData). Carried d clock item x) whole (carried_after ends.came v is)
 
 pub carried
-    : (d e : DeskData) (clock : Clock) (item : ItemData) (position : ℕ) (w : Want) → IsResting d clock → IsQuiet d.opening item → position ≡ clock.time
-    → wanted_next None (begun_with d (record { position = position; item = item })) ≡ desk_wants w e → Carried d clock item e
-carried d e clock item position w rests quiet place next =
+    : (d b e : DeskData) (clock : Clock) (item : ItemData) (position : ℕ) (w : Want) → IsResting d clock → IsQuiet d.opening item → position ≡ clock.time
+    → b ≡ begun_with d (record { position = position; item = item }) → e.opening ≡ b.opening → e.lines ≡ b.lines → Turns (Wants w) b e → Carried d clock item e
+carried d b e clock item position w rests quiet place begun opening lines turns =
     let here : IsQuiet d.state item = subst (λ (s : DeskState). IsQuiet s item) (sym rests.state) quiet in
-    let once = wanted_once d clock item position rests here place in
-    let same = same_after want.Done w (after d clock item position rests here place) e (sym once ∙ next) in
-    subst (λ (x : DeskData). Carried d clock item x) same (carried_after d clock item position rests here place)
-
--- ---- where there was no memory
-pub record Kept (d e : DeskData) : Type 0 where
-  pub opening : e.opening ≡ d.opening
-  pub lines : e.lines ≡ d.lines
-
-kept_wanted : (d e : DeskData) (b : BegunData) (w : Wanted) → desk_wanted d b w ≡ desk_wants_none e → Kept d e
-kept_wanted d e b (wants w t s) is = absurd cc
-kept_wanted d e b (wants_none t s) is =
-    let same = none_after (gone_on d b t s) e is in
-    subst (λ (x : DeskData). Kept d x) same (record { opening = refl; lines = refl })
-
-kept_by : (memory : Option ℕ) (d e : DeskData) (o : Option BegunData) → wanted_by memory d o ≡ desk_wants_none e → Kept d e
-kept_by memory d e None is = absurd cc
-kept_by memory d e (Some b) is = kept_wanted d e b (want_of memory b.task d.state) is
-
-pub kept : (memory : Option ℕ) (d e : DeskData) → wanted_next memory d ≡ desk_wants_none e → Kept d e
-kept memory d e is = kept_by memory d e d.begun is
+    by_begun d clock item position rests here place w e.opening e.state e.lines e.begun (opening ∙ ap (λ (x : DeskData). x.opening) begun) (lines ∙ ap (λ (x : DeskData). x.lines) begun)
+    (subst (λ (x : DeskData). Turns (Wants w) x e) begun turns)
 
 -- ---- after its end
 pub record Finished (d : DeskData) (clock : Clock) (item : ItemData) (e : DeskData) (later : Clock) (told : MessageData) : Type 0 where

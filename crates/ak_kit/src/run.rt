@@ -55,7 +55,6 @@ fn item(alloc: Global, duty: Duty, message: &Message) -> Result<Item, NoMemory>
 
 // Carries out one message that wants nothing from outside, and answers its reply. Where there is no memory
 // the list stays as it was.
-#[tactic(auto, using(crate::proofs::Dispatching::kept))]
 fn dispatch(desk: &mut Desk, clock: &mut Clock, item: Item) -> Result<Message, NoMemory>
     requires rests { IsResting desk.old clock.old }
     requires quiet { IsQuiet desk.old.opening item }

@@ -214,9 +214,9 @@ words_of body = do
   pieces ← pieces_of by.Blank body
   where_true (not (is_blank_at_an_end pieces)) (filter is_some_bytes pieces)
 
--- a message's text in braces, where messages may stand so many deep; a deeper one passes the limit, and its words are not read
+-- a message's text in braces, where messages may stand so many deep; a deeper one passes the limit whatever stands in its braces
 unfoldable pub message_from : ℕ → List ℕ → Option Got
-message_from zero text = braced text >>= λ body. words_of body >>= λ words. Some (over k.Message)
+message_from zero text = braced text >>= λ body. Some (over k.Message)
 message_from (suc levels) text = braced text >>= λ body. words_of body >>= λ words. option_map got_message (message_of (message_from levels) words)
 
 -- ---- what stands in an input

@@ -44,7 +44,7 @@ struct Building<'a> {
 /// The value that a word writes: the letters of its kind, a colon and its payload. For short a whole number
 /// in decimal is an `Int32`, and `true`, `false` and a text in quotes stand by themselves. A message has its
 /// text in braces, with one space or tab or more between its parts. The faults are tested in the order of
-/// `ParseFault`. Of a message that stands in 16 others, which passes the limit, the parts are not read.
+/// `ParseFault`. A message that stands in 16 others passes the limit, whatever stands in its braces.
 /// `NoMemory` may come in place of any answer.
 pub fn read_value(alloc: Global, word: &[u8]) -> Result<Value, ParseFault>
     ensures { GivesValue result (reads.read_value word.now) }
@@ -299,10 +299,10 @@ fn message(alloc: Global, levels: u32, text: &[u8]) -> Result<ReadValue, ParseFa
     let Some(body) = braced(text) else {
         return Err(ParseFault::BadValue);
     };
-    let words = words_of(alloc, body)?;
     if levels == 0 {
         return Ok(over(Kind::Message));
     }
+    let words = words_of(alloc, body)?;
     match message_of(alloc, levels - 1, &words)? {
         Some(message) => Ok(got(Value::from_message(alloc, message)?)),
         None => Ok(over(Kind::Message)),

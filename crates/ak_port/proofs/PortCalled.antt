@@ -4,7 +4,7 @@ use Rattle.std.specs.Prelude.{IfSome, IsSomeAnd}
 use Rattle.ak_base.specs.declared.thread.ThreadId.{ThreadId}
 use Rattle.ak_flatten.specs.Item.{ItemData}
 use Rattle.ak_turn.specs.declared.clock.Clock.{Clock}
-use Rattle.ak_turn.specs.Seats.{HasCalled, IsGiven, with_own}
+use Rattle.ak_turn.specs.Seats.{HasCalled, IsGiven, at_leisure, entered_by, with_own}
 use Rattle.ak_turn.proofs.Calls.{seen_then_seen, seen_then_called}
 use Rattle.ak_port.specs.declared.port_entry.PortEvent.{PortEvent}
 use Rattle.ak_port.specs.declared.port_entry.PortEntry.{PortEntry}
@@ -21,6 +21,28 @@ use Rattle.ak_port.proofs.PortReplays.{AreSteps-behind, state_of-push}
 use Rattle.ak_port.proofs.PortSound.{refused_stays}
 
 -- ---- a turn
+-- what the book's entry and the end of the turn come to
+pub ends_turn : (e : Option PortEvent) (k l : Clock) (p p' : PortData) (b c : PortSeat) → HasAdded e k l p p' → p.entries ≡ b.front → (p'.entries ≡ b.front → c ≡ at_leisure b)
+    → ((line : PortEntry) → p'.entries ≡ b.front ++ line ∷ [] → c ≡ at_leisure (entered_by b line)) → HasAnsweredAtTurn e k l b c
+ends_turn None k l p p' b c added list same entered = (same (ap (λ (q : PortData). q.entries) added.0 ∙ list), added.1)
+ends_turn (Some event) k l p p' b c added list same entered = (
+  entered (entry_now k b.front event) (ap (λ (q : PortData). q.entries) added.0 ∙ ap (λ xs. xs ++ entry_now k xs event ∷ []) list),
+  added.1 ∙ ap (clock_after k) list,
+)
+
+-- what it keeps of the seat and the clock
+pub turn_keeps : (e : Option PortEvent) (k l : Clock) (b c : PortSeat) → HasAnsweredAtTurn e k l b c → KeepsSeat (at_leisure b) c × (l.thread ≡ k.thread)
+turn_keeps None k l b c answered =
+    let after = answered.0 in (
+      record { lock = ap (λ s. s.lock) after; opening = ap (λ s. s.opening) after; thread = ap (λ s. s.thread) after; joined = ap (λ s. s.joined) after; turn = ap (λ s. s.turn) after; names = ap (λ s. s.names) after },
+      ap (λ t. t.thread) answered.1,
+    )
+turn_keeps (Some event) k l b c answered =
+    let after = answered.0 in (
+      record { lock = ap (λ s. s.lock) after; opening = ap (λ s. s.opening) after; thread = ap (λ s. s.thread) after; joined = ap (λ s. s.joined) after; turn = ap (λ s. s.turn) after; names = ap (λ s. s.names) after },
+      ap (λ t. t.thread) answered.1,
+    )
+
 -- what was answered in the turn, as it was before the turn was given
 pub answered_at_turn : (e : Option PortEvent) (k l : Clock) (a b c : PortSeat) → a.turn ≡ false → a.thread ≡ k.thread.0 → IsGiven by_number a b → HasAnsweredAtTurn e k l b c → HasAnswered e k l a c
 answered_at_turn None k l a b c idle is given answered =

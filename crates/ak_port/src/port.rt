@@ -3,7 +3,7 @@ ghost use Rattle.std.specs.Prelude.{◌≡◌, ℕ, ◌+◌, ◌-◌, ◌∷◌,
 ghost use Rattle.std.specs.Arc.{arc_value};
 ghost use Rattle.std.specs.VecDeque.{deque_len, deque_capacity};
 ghost use Rattle.ak_turn.specs.Lines.{last_stamp_of};
-ghost use Rattle.ak_turn.specs.Seats.{first_seat, KnowsWhole};
+ghost use Rattle.ak_turn.specs.Seats.{at_leisure, first_seat, KnowsWhole};
 ghost use Rattle.ak_port.specs.PortMachine.{last_taken, pending_count, refusal_of, state_of, taken_items, write_event, IsRested, LacksItems, LacksRoom};
 ghost use Rattle.ak_port.specs.PortCalls.{by_number, clock_after, close_entry, making, stamp_number, take_count, take_event, write_entry, CanTake, GivesBack, HasAnswered, HasAnsweredAtTurn, HasEntered, HasLooked, IfRefused, IfRest, IfTook, IsAtPort, IsFull};
 ghost use Rattle.ak_port.specs.SeatKept.{KeepsSeat};
@@ -76,6 +76,8 @@ pub fn write_at_turn(
     ensures answered { HasAnsweredAtTurn (write_entry result item) clock.old clock.new seat.old seat.new }
     ensures machine { IfSome (write_entry result item) (λ event. event ≡ write_event (state_of seat.old.front) item) }
     ensures back { GivesBack result item }
+    ensures seat { KeepsSeat (at_leisure seat.old) seat.new }
+    ensures clock { clock.new.thread ≡ clock.old.thread }
     ensures port { IsAtPort seat.new }
     ensures known { KnowsWhole by_number seat.old → KnowsWhole by_number seat.new }
 {
@@ -123,7 +125,7 @@ fn try_write<R: Wait>(
     ensures looked { OnErr result (HasLooked clock.old clock.new seat.old seat.new) }
     ensures item { IfErr result (λ back. back ≡ item) }
     ensures waits { OnErr result (LacksRoom seat.new.front) }
-    ensures port { IfOk result (λ _. IsAtPort seat.new) }
+    ensures port { IsAtPort seat.new }
     ensures known { KnowsWhole by_number seat.new }
 {
     let mut turn = port.lock(rt, seat);

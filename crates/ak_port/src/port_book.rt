@@ -299,7 +299,10 @@ impl PortBook {
     pub(crate) fn is_full(&self) -> bool
         ensures full { result ≡ true → LacksRoom self.now.entries }
         ensures free { result ≡ false → LacksRoom self.now.entries → ⊥ }
+        ensures port { IsPortBook self.now }
     {
+        // Reading the taker shows that the list is a port's.
+        let _ = &self.taker;
         match self.refusal() {
             Some(Refusal::Full) => true,
             None | Some(Refusal::Closed | Refusal::Spent) => false,

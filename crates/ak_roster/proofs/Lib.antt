@@ -9,3 +9,4 @@ pub mod Fresh
 pub mod Carried
 pub mod Apart
 pub mod Once
+pub mod Holders

@@ -1,5 +1,5 @@
 -- What holds of all histories of the roster.
-use Rattle.std.specs.Prelude.{◌≡◌, ◌≢◌, ◌<◌, ◌≤◌, ◌⊎◌, ℕ, false, IsTrue, List, [], ◌∷◌, ◌++◌, length, All, AllPairs, Contains, MatchOption, Some, slice_get}
+use Rattle.std.specs.Prelude.{◌≡◌, ◌≢◌, ◌<◌, ◌≤◌, ◌⊎◌, ◌↔◌, ◌+◌, ℕ, false, IsTrue, List, [], ◌∷◌, ◌++◌, length, All, AllPairs, Any, Contains, IfSome, MatchOption, Some, slice_get}
 use Rattle.std.specs.List.{flat_map, list_any}
 use Rattle.ak_base.specs.declared.app_word.AppWord.{AppWord}
 use Rattle.ak_roster.specs.declared.head.AppHead.{AppHead}
@@ -13,7 +13,9 @@ use Rattle.ak_roster.specs.declared.entry.LaunchOutcome.{LaunchOutcome}
 use Rattle.ak_roster.specs.declared.entry.LaunchOutcome.TheVariants as launch
 use Rattle.ak_roster.specs.declared.entry.FindOutcome.{FindOutcome}
 use Rattle.ak_roster.specs.Heads.{last_part, team_fits, team_for}
-use Rattle.ak_roster.specs.Machine.{IsHistory, RosterState, runs_team, state_of}
+use Rattle.ak_roster.specs.Machine.{IsHistory, LooperData, RosterState, runs_team, state_of}
+use Rattle.ak_roster.specs.Roster.{IsStranger, holders}
+use Rattle.ak_turn.specs.Lines.{made_by}
 
 -- ---- an answer is a function of what stands before it: where two histories have the same beginning, and then the same question, they have
 -- the same answer
@@ -96,6 +98,32 @@ abbrev pub DoorsAreGivenOnce : Type 0
 DoorsAreGivenOnce =
     (heads : List AppHead) (entries : List RosterEntry) → IsHistory heads entries
     → All (λ looper. AllPairs (λ a b. a ≢ b) looper.given) (state_of heads entries).loopers
+
+-- ---- the threads that have a part of what a looper's door leads to are main, the looper, the first looper of its team, the keeper of the
+-- doors, and just those by which there is an entry of that door
+abbrev pub TookDoor : List RosterEntry → ℕ → ℕ → Type 0
+TookDoor entries number thread = Any (λ (entry : RosterEntry). (entry.by.0 ≡ thread) × (entry.event ≡ event.Door number)) entries
+
+abbrev pub IsHolder : List RosterEntry → ℕ → LooperData → ℕ → Type 0
+IsHolder entries number looper thread =
+    (thread ≡ 0) ⊎ ((thread ≡ 10000 + number) ⊎ ((thread ≡ 10000 + looper.own) ⊎ ((thread ≡ 20000) ⊎ TookDoor entries number thread)))
+
+abbrev pub HoldersAreTold : Type 0
+HoldersAreTold =
+    (heads : List AppHead) (entries : List RosterEntry) (number : ℕ) (looper : LooperData) → IsHistory heads entries → slice_get (state_of heads entries).loopers number ≡ Some looper
+    → (thread : ℕ) → Contains (holders number looper) thread ↔ IsHolder entries number looper thread
+
+-- so a thread that is none of the four, and whose own entries have none of that door, has no part
+pub record IsNoneOfFour (thread number : ℕ) (looper : LooperData) : Type 0 where
+  pub not_main : thread ≢ 0
+  pub not_looper : thread ≢ 10000 + number
+  pub not_own : thread ≢ 10000 + looper.own
+  pub not_keeper : thread ≢ 20000
+
+abbrev pub StrangersAreTold : Type 0
+StrangersAreTold =
+    (heads : List AppHead) (entries : List RosterEntry) (thread number : ℕ) → IsHistory heads entries → IfSome (slice_get (state_of heads entries).loopers number) (IsNoneOfFour thread number)
+    → All (λ entry. entry.event ≢ event.Door number) (made_by (λ entry. entry.by.0) thread entries) → IsStranger thread number (slice_get (state_of heads entries).loopers number)
 
 -- ---- the last part of a path has no slash, and is the whole path or stands after a slash
 pub record IsLastPart (path part : List ℕ) : Type 0 where

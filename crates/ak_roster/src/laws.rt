@@ -31,6 +31,14 @@ pub fn limits_hold()
     ensures doors { law.DoorsAreGivenOnce }
 {}
 
+/// The threads that have a part of a looper's door are main, the looper, the first looper of its team, the
+/// keeper, and just those by which the list has an entry of that door. So a thread that is none of these four
+/// is given a part where its own entries have none of that door, which its seat at the lock tells it.
+pub fn holders_are_told()
+    ensures holders { law.HoldersAreTold }
+    ensures strangers { law.StrangersAreTold }
+{}
+
 /// What a name is compared with is what stands after the last slash of a path.
 pub fn last_parts_are_so()
     ensures { law.LastPartIsSo }

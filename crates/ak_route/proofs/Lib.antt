@@ -5,6 +5,7 @@ pub mod Leading
 pub mod Mapped
 pub mod Marked
 pub mod Passed
+pub mod Popping
 pub mod Steps
 pub mod Takers
 pub mod Targets

@@ -2,6 +2,7 @@
 use Rattle.std.specs.Prelude.{◌≡◌, ◌≢◌, ◌<◌, ◌≤◌, ℕ, zero, suc, if◌then◌else◌, List, [], ◌∷◌, ◌++◌, length, reverse, All, AllPairs, Contains, Option, None, Some, IfSome, option_and_then}
 use Rattle.ak_filter.specs.declared.filter.Filter.{Filter}
 use Rattle.ak_message.specs.declared.address.Target.{Target}
+use Rattle.ak_message.specs.Fields.{specifier_count}
 use Rattle.ak_message.specs.Message.{MessageData}
 use Rattle.ak_specifier.specs.Current.{left_of}
 use Rattle.ak_handler.specs.Handlers.{HandlersData, IsHandlers, tokens_of}
@@ -97,3 +98,16 @@ abbrev pub TakerLiesWithin : Type 0
 TakerLiesWithin =
     (s : HandlersData RowData) (loopers : List (List ℕ)) (o : Origin) (common : List Filter) (m : MessageData) (t : Target) (token : ℕ)
     (as_what : Taker) → (route_of s loopers o common m t).route ≡ route.Deliver token as_what → LiesWithin (row_of s token) as_what
+
+-- ---- what is popped
+-- it is the same message as to its fields, with as many of its specifiers popped or more, and no more than it has
+pub record PopsWithin (m after : MessageData) : Type 0 where
+  pub fields : after.fields ≡ m.fields
+  pub at_least : m.popped ≤ after.popped
+  pub within : after.popped ≤ specifier_count m.fields
+
+-- where no more of a message's specifiers are popped than it has, its route pops some further ones at most
+abbrev pub RoutesPopWithin : Type 0
+RoutesPopWithin =
+    (s : HandlersData RowData) (loopers : List (List ℕ)) (o : Origin) (common : List Filter) (m : MessageData) (t : Target)
+    → m.popped ≤ specifier_count m.fields → PopsWithin m (route_of s loopers o common m t).message

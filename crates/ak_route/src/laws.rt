@@ -35,3 +35,9 @@ pub fn forwards_are_to_later_loopers()
 pub fn takers_lie_within()
     ensures { law.TakerLiesWithin }
 {}
+
+/// Routing changes nothing of a message but its code, and pops some of its specifiers: never more than it
+/// has, and none is put back.
+pub fn routes_pop_within()
+    ensures { law.RoutesPopWithin }
+{}

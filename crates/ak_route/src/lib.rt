@@ -15,7 +15,7 @@ mod routing;
 pub use ak_property::HandlerRow;
 pub use laws::{
     filters_run_at_most_once, forwards_are_to_later_loopers, no_specifiers_no_steps,
-    resolved_handlers_are_there, takers_are_there, takers_lie_within,
+    resolved_handlers_are_there, routes_pop_within, takers_are_there, takers_lie_within,
 };
 pub use outcome::{Place, Route, Taker};
 pub use routing::route;

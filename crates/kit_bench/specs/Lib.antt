@@ -1,4 +1,2 @@
-pub mod Order
 pub mod Ports
-pub mod Sample
 pub mod Turns

@@ -1,8 +1,6 @@
 -- The threads at a port or a reply book that is timed.
-use Rattle.std.specs.Prelude.{◌≡◌, ℕ, ◌≤◌, false, length}
+use Rattle.std.specs.Prelude.{◌≡◌, ℕ, ◌≤◌, false}
 use Rattle.ak_turn.specs.Seats.{LockId, SeatData}
-use Rattle.ak_port.specs.PortCalls.{PortSeat}
-use Rattle.ak_port.specs.PortMachine.{state_of, taken_items}
 use Rattle.kit_bench.specs.declared.ports.PortShape.{PortShape}
 
 -- as many items at a time as a port may hold, and some threads
@@ -18,7 +16,3 @@ module _ {O L : Type 0} where
     pub of : seat.lock ≡ lock
     pub idle : seat.turn ≡ false
     pub is : seat.thread ≡ thread
-
--- the taker has taken so many items, as far as the history that the seat has seen says
-pub record HasCounted (count : ℕ) (seat : PortSeat) : Type 0 where
-  pub taken : count ≡ length (taken_items (state_of seat.front))

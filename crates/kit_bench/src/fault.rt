@@ -5,14 +5,36 @@ use ak_handler::HandlerFault;
 use ak_message::AddFault;
 use ak_property::RowFault;
 use std::alloc::{AllocError, AllocFailed};
+use std::io;
 
-/// Why there is no sum.
-#[derive(Clone, Copy, Debug, PartialEq, Eq)]
+/// Why an order has no line.
+#[derive(Clone, Copy)]
 pub enum BenchFault {
-    NoMemory,
+    /// The words are no order.
+    Usage,
+    /// The line cannot be written.
+    Write,
     /// A message could not be made, flattened or read, or handlers could not be made, which happens to none of
     /// those that are timed.
     Refused,
+    NoMemory,
+}
+
+impl BenchFault {
+    pub fn status(self) -> u8 {
+        match self {
+            BenchFault::Usage => 1,
+            BenchFault::Write => 4,
+            BenchFault::Refused => 5,
+            BenchFault::NoMemory => 6,
+        }
+    }
+}
+
+impl From<io::Error> for BenchFault {
+    fn from(_error: io::Error) -> BenchFault {
+        BenchFault::Write
+    }
 }
 
 impl From<NoMemory> for BenchFault {

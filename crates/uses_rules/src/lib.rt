@@ -8,6 +8,8 @@ mod actions;
 #[cfg(test)]
 mod compare;
 #[cfg(test)]
+mod described;
+#[cfg(test)]
 mod desk;
 #[cfg(test)]
 mod lists;

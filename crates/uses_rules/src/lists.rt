@@ -5,8 +5,8 @@ use crate::compare::same;
 use crate::parts::{Gives, NONE, Told, actions_of, deep, gives, row_of, template, text, told};
 use ak_action::Number::{Int8, Int16, Int32, Int64, UInt8, UInt16, UInt32, UInt64};
 use ak_action::{
-    ActionList, DeskRow, ElementsList, Given, Number, Reaction, ReactionList, TemplateFault,
-    TemplateField, TemplateFields, Values, ValuesFault,
+    Action, ActionList, DeskRow, ElementsList, Given, Number, Reaction, ReactionList,
+    TemplateFault, TemplateField, TemplateFields, Values, ValuesFault,
 };
 use ak_base::Code;
 use ak_message::{AtRef, Kind, Message, Value};
@@ -70,15 +70,19 @@ fn refused(alloc: Global, values: &mut Values, depth: u32) -> Result<Option<Valu
 }
 
 // What a value that is too deep is refused for: alone, beside another one, beside one of another kind; and one
-// that is not, beside another one.
-fn depth_faults(alloc: Global) -> Result<[Option<ValuesFault>; 4], Fail> {
+// that is not, beside another one. Then, beside one that is too deep itself and was taken alone, another such one,
+// and one that is not.
+fn depth_faults(alloc: Global) -> Result<[Option<ValuesFault>; 6], Fail> {
     let mut values = Values::one(alloc, deep(alloc, 15)?)?;
     let mut other = Values::one(alloc, Value::Bool(true))?;
+    let mut alone = Values::alone(alloc, deep(alloc, 16)?)?;
     Ok([
         Values::one(alloc, deep(alloc, 16)?).err(),
         refused(alloc, &mut values, 16)?,
         refused(alloc, &mut other, 16)?,
         refused(alloc, &mut values, 15)?,
+        refused(alloc, &mut alone, 16)?,
+        refused(alloc, &mut alone, 15)?,
     ])
 }
 
@@ -231,7 +235,7 @@ const NOT_FOUND: Found = ([None; 3], [None; 2], [None; 3]);
 
 // ---- loopers by their names
 fn loopers(alloc: Global) -> Result<[Option<u32>; 4], Fail> {
-    let state = state_with(alloc, DeskRow::empty(alloc), &EACH[8])?;
+    let state = state_with(alloc, DeskRow::empty(alloc), Action::Quit)?;
     Ok([
         state.looper_named(b"alpha"),
         state.looper_named(b"beta"),
@@ -448,7 +452,7 @@ fn lists_are_limited_and_copied(rt: HostRuntime) -> Result<(), Fail> {
         &rt,
         "kinds are tested before depth",
         depth_faults(alloc)?,
-        [deep, deep, kind, None],
+        [deep, deep, kind, None, deep, None],
     );
     let many = [(255, Kind::Message); 2];
     let told = limits(alloc)?;

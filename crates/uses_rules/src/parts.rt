@@ -111,7 +111,20 @@ pub fn template(alloc: Global, what: u32, fields: &[(&str, Gives<'_>)]) -> Resul
     Ok(template)
 }
 
-// One whose only field `copy` copies that property, and one without fields for none.
+/// One whose only field `copy` is given this.
+pub fn giving(alloc: Global, what: u32, given: Given) -> Result<Template, Fail> {
+    let mut fields = TemplateFields::new(alloc);
+    fields.add(TemplateField {
+        name: text(alloc, b"copy")?,
+        given,
+    })?;
+    Ok(Template {
+        what: Code(what),
+        fields,
+    })
+}
+
+// One whose field copies that property, and one without fields for none.
 fn copying(alloc: Global, what: u32, property: &str) -> Result<Template, Fail> {
     if property.is_empty() {
         template(alloc, what, &[])
@@ -177,7 +190,8 @@ fn set_of(alloc: Global, told: &Told<'_>) -> Result<Action, Fail> {
     })
 }
 
-fn action_of(alloc: Global, told: &Told<'_>) -> Result<Action, Fail> {
+/// An action that is told so.
+pub fn action_of(alloc: Global, told: &Told<'_>) -> Result<Action, Fail> {
     let &(letter, what, copied, amount, _, name) = told;
     match letter {
         b'r' => Ok(Action::Reply {

@@ -35,9 +35,8 @@ message_forms (Some m) g e = inl (value_of_message m, sym e)
 message_got : (levels : ℕ) (text : List ℕ) (g : Got) → message_from levels text ≡ Some g → IsGotOf k.Message g
 unfolding message_from
 message_got zero text g e =
-    let body = bind_some (braced text) (λ (b : List ℕ). words_of b >>= λ (words : List (List ℕ)). some_got (over k.Message)) g e in
-    let words = bind_some (words_of body.0) (λ (words : List (List ℕ)). some_got (over k.Message)) g body.2 in
-    inr (sym (some_is (over k.Message) g words.2))
+    let body = bind_some (braced text) (λ (b : List ℕ). some_got (over k.Message)) g e in
+    inr (sym (some_is (over k.Message) g body.2))
 message_got (suc levels) text g e =
     let body = bind_some (braced text) (λ (b : List ℕ). words_of b >>= λ (words : List (List ℕ)). option_map got_message (message_of (message_from levels) words)) g e in
     let words = bind_some (words_of body.0) (λ (words : List (List ℕ)). option_map got_message (message_of (message_from levels) words)) g body.2 in

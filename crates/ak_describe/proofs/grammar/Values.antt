@@ -187,8 +187,7 @@ got_fine most (Some m) h = record { kind_is = refl; shallow = omega (arith, h) }
 
 pub message_fine : (levels : ℕ) (text : List ℕ) → IfSome (message_from levels text) (IsFine levels)
 unfolding message_from
-message_fine zero text =
-    some_any (IsFine zero) (braced text) _ (λ body. some_any (IsFine zero) (words_of body) (λ words. Some (over k.Message)) (λ words. tt))
+message_fine zero text = some_any (IsFine zero) (braced text) _ (λ body. tt)
 message_fine (suc levels) text =
     some_any (IsFine (suc levels)) (braced text) _
     (λ body. some_any (IsFine (suc levels)) (words_of body) (λ words. option_map got_message (message_of (message_from levels) words))
@@ -350,15 +349,13 @@ one_given-is : (text : List ℕ) → option_map given_values (one_from text) ≡
 unfolding one_from
 one_given-is text = refl
 
-kept_small : (v : ValueData) (short shallow : Bool)
-    → given_values (where_true (short && is_none (cond shallow None (Some fault.TooDeep))) (one_value v)) ≡ cond (short && shallow) (Some (gets.Values (one_value v))) None
-kept_small v true true = refl
-kept_small v true false = refl
-kept_small v false shallow = refl
+kept_small : (v : ValueData) (short : Bool) → given_values (where_true short (one_value v)) ≡ cond short (Some (gets.Values (one_value v))) None
+kept_small v true = refl
+kept_small v false = refl
 
 one_is : (v : Option ValueData) → given_values (v >>= one_kept) ≡ set_value v
 one_is None = refl
-one_is (Some v) = kept_small v (is_short v) (ltb (depth_of_value v) 16)
+one_is (Some v) = kept_small v (is_short v)
 
 abbrev some_value : Kind → Option ValueData → Option Got
 some_value kind value = Some (record { kind = kind; value = value })

@@ -138,27 +138,14 @@ pub(crate) fn one_from(alloc: Global, word: &[u8]) -> Result<Option<Values>, For
     }
 }
 
-// The value, where it is no message that is too long or that no message can hold.
+// The value, where it is no message that is too long. It may be one that no field can hold.
 fn one_kept(alloc: Global, value: Value) -> Result<Option<Values>, FormFault>
     ensures { Gives (λ v. v) result (Some (reads.one_kept (value_of value))) }
 {
     if !is_short(&value) {
         return Ok(None);
     }
-    match Values::one(alloc, value) {
-        Ok(values) => Ok(Some(values)),
-        Err(fault) => not_kept(fault),
-    }
-}
-
-// No message can hold the value, unless memory ran out.
-fn not_kept(fault: ValuesFault) -> Result<Option<Values>, FormFault>
-    ensures { result ≡ faults.not_kept fault }
-{
-    match fault {
-        ValuesFault::NoMemory => Err(FormFault::NoMemory),
-        ValuesFault::BadType | ValuesFault::ValueLimit | ValuesFault::TooDeep => Ok(None),
-    }
+    Ok(Some(Values::alone(alloc, value)?))
 }
 
 fn is_short(value: &Value) -> bool

@@ -7,7 +7,7 @@ ghost use Rattle.ak_port.specs.SeatKept.{KeepsSeat};
 use ak_base::{Code, NoMemory};
 use ak_flatten::{Duty, FlattenFault, Item, Taken};
 use ak_message::{Message, Target};
-use ak_port::{How, Port, PortBook, TakeAnswer, WriteAnswer, take, write};
+use ak_port::{How, Port, PortBook, TakeAnswer, WriteAnswer, take, write, write_at_turn};
 use ak_turn::{Clock, Seat};
 use std::alloc::Global;
 use std::collections::VecDeque;
@@ -69,6 +69,27 @@ pub fn put<R: Wait>(
 {
     let item = item(alloc, code)?;
     Ok(said_by(write(port, rt, seat, clock, item, How::NoWait)))
+}
+
+/// The same, in a turn that is taken first.
+pub fn put_at_turn<R: Wait>(
+    rt: &R,
+    alloc: Global,
+    port: &Port,
+    seat: &mut Seat<PortBook>,
+    clock: &mut Clock,
+    code: u32,
+) -> Result<Said, FlattenFault>
+    requires of { seat.old.lock ≡ port.now }
+    requires idle { seat.old.turn ≡ false }
+    requires thread { seat.old.thread ≡ clock.old.thread.0 }
+    ensures seat { KeepsSeat seat.old seat.new }
+    ensures clock { clock.new.thread ≡ clock.old.thread }
+{
+    let item = item(alloc, code)?;
+    let turn = port.lock(rt, seat);
+    clock.ready(rt);
+    Ok(said_by(write_at_turn(turn, seat, clock, item)))
 }
 
 /// Takes one item: what it answered, and the item's position and code.

@@ -3,12 +3,13 @@ ghost use Rattle.std.specs.Prelude.{◌≡◌, false};
 ghost use Rattle.ak_turn.specs.Steps.{IsNewName};
 ghost use Rattle.ak_port.specs.PortCalls.{CanTake};
 
-use super::calls::{Said, put, take_first, take_one};
+use super::calls::{Said, put, put_at_turn, take_first, take_one};
 use crate::compare::same;
 use ak_base::{NoMemory, ThreadId};
 use ak_port::{
     CloseAnswer, Port, PortBook, PortEvent, TakeAnswer, a_write_has_one_answer, close, make,
-    nothing_is_written_after_shut, ports_stay_within_limits, written_is_taken_or_pending,
+    new_seats_can_take, nothing_comes_after_the_rest, nothing_is_written_after_shut,
+    ports_stay_within_limits, takes_go_on, written_is_taken_or_pending,
 };
 use ak_turn::{Book, Clock, Seat};
 use std::alloc::Global;
@@ -27,6 +28,20 @@ fn write_three<R: Wait>(rt: &R, alloc: Global) -> Result<[Said; 3], Fail> {
     let third = put(rt, alloc, &port, &mut seat, &mut clock, 3)?;
     Ok([first, second, third])
 }
+
+// What two writes answer at a port of capacity 1 and life 3, each in a turn that is taken first.
+fn write_two_at_turns<R: Wait>(rt: &R, alloc: Global) -> Result<[Said; 2], Fail> {
+    let mut clock = Clock {
+        thread: ThreadId(0),
+        time: 0,
+    };
+    let (port, mut seat) = make(alloc, 1, 3, ThreadId(0), &mut clock)?;
+    let first = put_at_turn(rt, alloc, &port, &mut seat, &mut clock, 1)?;
+    let second = put_at_turn(rt, alloc, &port, &mut seat, &mut clock, 2)?;
+    Ok([first, second])
+}
+
+const AT_TURNS: [Said; 2] = [Said::Wrote(0), Said::Full];
 
 const THREE: [Said; 3] = [Said::Wrote(0), Said::Wrote(1), Said::Spent];
 
@@ -159,6 +174,15 @@ fn a_port_is_made_filled_emptied_and_shut(rt: HostRuntime) -> Result<(), Fail> {
     nothing_is_written_after_shut();
     ports_stay_within_limits();
     a_write_has_one_answer();
+    takes_go_on();
+    new_seats_can_take();
+    nothing_comes_after_the_rest();
+    same(
+        &rt,
+        "writes at turns",
+        write_two_at_turns(&rt, alloc)?,
+        AT_TURNS,
+    );
     same(
         &rt,
         "capacity 2 and life 2",

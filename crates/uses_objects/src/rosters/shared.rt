@@ -1,6 +1,6 @@
 //! A roster that threads share, as a layer above it is written.
 ghost use Rattle.std.specs.Prelude.{◌≡◌, false};
-ghost use Rattle.ak_turn.specs.Seats.{HasCalled, HasSeen};
+ghost use Rattle.ak_turn.specs.Seats.{HasCalled, HasSeen, KnowsWhole};
 ghost use Rattle.ak_roster.specs.Answers.{OnFound, UnlessFound};
 
 use super::calls::{clock_of, roster_of};
@@ -24,6 +24,7 @@ pub fn find_in(
     requires thread { seat.old.thread ≡ clock.old.thread.0 }
     ensures called { OnFound result ((line : _) × HasCalled (λ l. l.entry.by.0) line seat.old seat.new) }
     ensures seen { UnlessFound result (HasSeen (λ l. l.entry.by.0) seat.old seat.new) }
+    ensures known { KnowsWhole (λ l. l.entry.by.0) seat.new }
 {
     let mut turn = roster.lock(rt, seat);
     clock.ready(rt);

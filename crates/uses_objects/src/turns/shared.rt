@@ -1,6 +1,6 @@
 //! A tally that threads share, as a layer above a lock is written.
 ghost use Rattle.std.specs.Prelude.{◌≡◌, ◌≤◌, length, false, OnErr, IfOk};
-ghost use Rattle.ak_turn.specs.Seats.{HasCalled, HasSeen};
+ghost use Rattle.ak_turn.specs.Seats.{HasCalled, HasSeen, KnowsWhole};
 
 use super::tally::{Count, Tally};
 use ak_base::NoMemory;
@@ -22,6 +22,7 @@ pub fn add_to(
     ensures called { IfOk result (λ count. HasCalled (λ c. c.by.0) count seat.old seat.new) }
     ensures number { IfOk result (λ count. count.number ≡ number) }
     ensures err { OnErr result (HasSeen (λ c. c.by.0) seat.old seat.new) }
+    ensures known { KnowsWhole (λ c. c.by.0) seat.new }
 {
     let mut turn = lock.lock(rt, seat);
     clock.ready(rt);
@@ -41,6 +42,7 @@ pub fn look(rt: &impl Wait, lock: &TurnLock<Tally>, seat: &mut Seat<Tally>) -> u
     requires of { seat.old.lock ≡ lock.now }
     requires idle { seat.old.turn ≡ false }
     ensures seen { HasSeen (λ c. c.by.0) seat.old seat.new }
+    ensures known { KnowsWhole (λ c. c.by.0) seat.new }
     ensures length { result ≡ length seat.new.front }
 {
     lock.lock(rt, seat).finish(seat);

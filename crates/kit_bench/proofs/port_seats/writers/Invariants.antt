@@ -1,5 +1,5 @@
 -- Each writer has a number of its own, and those so far are below the next one.
-use Rattle.std.proofs.Common.{◌≡◌, ◌+◌, All, vec_len}
+use Rattle.std.proofs.Common.{All}
 use Rattle.ak_port.specs.PortWriters.{StartsToTake}
 use Rattle.kit_bench.specs.Turns.{AreNamesBelow, IsReady}
 use Rattle.kit_bench.specs.declared.port_seats.TheConstants.{TAKER}
@@ -10,5 +10,4 @@ invariant-loop-number l = record {
   taker : StartsToTake l.port TAKER l.room l.seat;
   names : AreNamesBelow l.number l.seat.names;
   ready : All (λ writer. IsReady l.port writer.thread.0 writer.seat) l.writers.items;
-  count : vec_len l.writers + 2 ≡ l.number;
 }

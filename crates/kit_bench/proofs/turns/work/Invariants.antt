@@ -1,5 +1,5 @@
--- One entry for each round.
-use Rattle.std.proofs.Common.{◌≡◌, length}
+-- The worker stays at its seat.
+use Rattle.std.proofs.Common.{◌≡◌}
 use Rattle.kit_bench.specs.Turns.{IsIdleAt}
 use Rattle.kit_bench.proofs.turns.work.Given as goal
 
@@ -7,5 +7,4 @@ abbrev pub invariant-loop-number : goal.invariant-loop-number
 invariant-loop-number g l = record {
   at : IsIdleAt l.lock l.seat;
   thread : l.seat.thread ≡ l.clock.thread.0;
-  each : length l.seat.own ≡ l.number;
 }

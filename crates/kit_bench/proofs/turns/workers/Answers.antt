@@ -15,5 +15,4 @@ loop-place-preserved c =
       ready = let P : Worker → Type 0 = λ worker. IsReady c.args.lock.now worker.thread.0 worker.seat in
           subst (All P) (sym c.in_ok-push.ensures.items)
           (All-push P c.loop-place.workers.items _ before.ready (subst (IsReady c.args.lock.now (c.loop-place.place + 1)) (sym split.new) (record { of = before.at.of; idle = refl; is = refl; unused = refl })));
-      count = c.in_ok-push.ensures.len ∙ ap (λ n. n + 1) before.count;
     }

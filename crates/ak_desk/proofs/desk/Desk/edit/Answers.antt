@@ -1,21 +1,22 @@
 -- The line of an edit is one that may follow; without memory all is as it was.
-use Rattle.std.proofs.Common.{◌≡◌, ◌<◌, true, false, [], ◌∷◌, ◌++◌, Option, None, option_map, vec_len, vec_capacity, ap, subst, sym, ◌∙◌, arith}
+use Rattle.std.proofs.Common.{◌≡◌, ◌<◌, true, false, [], ◌∷◌, ◌++◌, Option, None, vec_len, vec_capacity, ap, subst, sym, ◌∙◌, arith}
 use Rattle.std.proofs.lemmas.Grind.{common_steps}
 use Rattle.ak_desk.specs.declared.entry.DeskEvent.TheVariants as event
-use Rattle.ak_desk.specs.Desk.{BegunData, DeskData, clock_after, line_after}
-use Rattle.ak_desk.specs.DeskInside.{HasPlaces, begun_seen, desk_inside}
+use Rattle.ak_desk.specs.declared.desk.Begun.{Begun}
+use Rattle.ak_desk.specs.Desk.{DeskData, clock_after, line_after}
+use Rattle.ak_desk.specs.DeskInside.{HasPlaces, desk_inside}
 use Rattle.ak_desk.specs.Machine.{is_no_memory}
-use Rattle.ak_desk.proofs.Standing.{edits_add, edit_stands, edit_told_of, kept_stands, none_told_of}
+use Rattle.ak_desk.proofs.Standing.{edits_add, edit_stands, edit_told_of, kept_stands, none_inside, none_told_of}
 use Rattle.ak_desk.proofs.desk.Desk.edit.Goals as goal
 
 pub invariant_of-self-then-is_no_memory : goal.invariant_of-self-then-is_no_memory
 invariant_of-self-then-is_no_memory c =
-    let none : option_map begun_seen c.self.inside.begun ≡ None = ap (λ (d : DeskData). d.begun) c.self.view_is ∙ c.requires.rest in
+    let none : c.self.inside.begun ≡ None = none_inside c.self.inside.begun (ap (λ (d : DeskData). d.begun) c.self.view_is ∙ c.requires.rest) in
     let without : is_no_memory c.changed-answer.result ≡ true = grind (arith, common_steps) in
     let room : vec_len c.reserve.new.self < vec_capacity c.reserve.new.self = grind (arith, common_steps) in
     record {
-      stands = kept_stands c.self.inside.opening.value c.self.inside.lines.items c.reserve.new.self.items (option_map begun_seen c.self.inside.begun) c.self.inside.state none c.self.invariant.stands c.args.e c.changed-answer.result c.changed-answer.new.handlers _ _ c.changed-answer.ensures without c.reserve.ensures.items;
-      places = subst (λ (o : Option BegunData). HasPlaces c.reserve.new.self.items o (vec_len c.reserve.new.self) (vec_capacity c.reserve.new.self)) (sym none) (λ _. room);
+      stands = kept_stands c.self.inside.opening.value c.self.inside.lines.items c.reserve.new.self.items c.self.inside.begun c.self.inside.state none c.self.invariant.stands c.args.e c.changed-answer.result c.changed-answer.new.handlers _ _ c.changed-answer.ensures without c.reserve.ensures.items;
+      places = subst (λ (o : Option Begun). HasPlaces c.reserve.new.self.items o (vec_len c.reserve.new.self) (vec_capacity c.reserve.new.self)) (sym none) (λ _. room);
     }
 
 pub returns-then-is_no_memory-clause-edits : goal.returns-then-is_no_memory-clause-edits
@@ -25,13 +26,13 @@ returns-then-is_no_memory-clause-edits c =
 
 pub invariant_of-self-2 : goal.invariant_of-self-2
 invariant_of-self-2 c =
-    let none : option_map begun_seen c.self.inside.begun ≡ None = ap (λ (d : DeskData). d.begun) c.self.view_is ∙ c.requires.rest in
+    let none : c.self.inside.begun ≡ None = none_inside c.self.inside.begun (ap (λ (d : DeskData). d.begun) c.self.view_is ∙ c.requires.rest) in
     let other : is_no_memory c.changed-answer.result ≡ false = grind (arith, common_steps) in
     let grown : c.add.new.lines.items ≡ c.self.inside.lines.items ++ line_after c.self.inside.lines.items c.args.clock.now (event.Edited c.args.e c.changed-answer.result) None ∷ [] = grind (arith, common_steps) in
     let room : vec_len c.add.new.lines < vec_capacity c.add.new.lines = grind (arith, common_steps) in
     record {
-      stands = edit_stands c.self.inside.opening.value c.self.inside.lines.items c.add.new.lines.items (option_map begun_seen c.self.inside.begun) c.self.inside.state none c.self.invariant.stands c.args.clock.now c.args.e c.changed-answer.result c.changed-answer.new.handlers _ _ c.changed-answer.ensures other grown;
-      places = subst (λ (o : Option BegunData). HasPlaces c.add.new.lines.items o (vec_len c.add.new.lines) (vec_capacity c.add.new.lines)) (sym none) (λ _. room);
+      stands = edit_stands c.self.inside.opening.value c.self.inside.lines.items c.add.new.lines.items c.self.inside.begun c.self.inside.state none c.self.invariant.stands c.args.clock.now c.args.e c.changed-answer.result c.changed-answer.new.handlers _ _ c.changed-answer.ensures other grown;
+      places = subst (λ (o : Option Begun). HasPlaces c.add.new.lines.items o (vec_len c.add.new.lines) (vec_capacity c.add.new.lines)) (sym none) (λ _. room);
     }
 
 pub returns-clause-edits : goal.returns-clause-edits

@@ -1,22 +1,17 @@
 -- What is begun goes on by the answer.
-use Rattle.std.proofs.Common.{◌≡◌, ◌+◌, ◌<◌, Option, Some, option_map, vec_len, vec_capacity, ap, subst, sym, ◌∙◌}
+use Rattle.std.proofs.Common.{◌≡◌, ◌+◌, ◌<◌, Option, vec_len, vec_capacity, subst}
 use Rattle.ak_desk.specs.declared.desk.Begun.{Begun}
-use Rattle.ak_desk.specs.Desk.{BegunData, DeskData, OfBegun}
-use Rattle.ak_desk.specs.DeskInside.{HasPlaces, IsBegun, Stands, begun_seen}
-use Rattle.ak_desk.specs.Task.{TakesAnswer}
-use Rattle.ak_desk.proofs.Standing.{given_stands}
+use Rattle.ak_desk.specs.DeskInside.{HasPlaces}
+use Rattle.ak_desk.proofs.Going.{given, may_give}
 use Rattle.ak_desk.proofs.desk.Desk.give.Goals as goal
+
+pub give-requires : goal.give-requires
+give-requires c =
+    may_give c.self.inside.opening.value c.self.inside.lines.items c.self.inside.begun c.in-Some.begun c.self.inside.state c.args.self.now c.in-Some.is c.self.view_is c.self.invariant.stands c.args.a c.requires
 
 pub invariant_of-self : goal.invariant_of-self
 invariant_of-self c =
-    let b : BegunData = begun_seen c.in-Some.begun in
-    let seen : c.args.self.now.begun ≡ Some b = ap (λ (d : DeskData). d.begun) (sym c.self.view_is) ∙ ap (option_map begun_seen) c.in-Some.is in
-    let stands : IsBegun c.self.inside.opening.value c.self.inside.lines.items b c.self.inside.state =
-    subst (λ (o : Option Begun). Stands c.self.inside.opening.value c.self.inside.lines.items (option_map begun_seen o) c.self.inside.state) c.in-Some.is c.self.invariant.stands in
+    let after = given c.self.inside.opening.value c.self.inside.lines.items c.self.inside.begun c.in-Some.begun c.self.inside.state c.args.self.now c.in-Some.is c.self.view_is c.self.invariant.stands c.args.a c.requires c.give.new.self c.give.new.state c.give.ensures.message c.give.ensures.heard in
     let places : vec_len c.self.inside.lines + 1 < vec_capacity c.self.inside.lines =
-    subst (λ (o : Option Begun). HasPlaces c.self.inside.lines.items (option_map begun_seen o) (vec_len c.self.inside.lines) (vec_capacity c.self.inside.lines)) c.in-Some.is c.self.invariant.places in
-    let takes : TakesAnswer b.task c.args.a = subst (λ (o : Option BegunData). OfBegun (λ t. TakesAnswer t c.args.a) o) seen c.requires in
-    record {
-      stands = given_stands c.self.inside.opening.value c.self.inside.lines.items b c.self.inside.state stands c.args.a c.give.new.self c.give.new.state takes c.give.ensures.heard;
-      places = places;
-    }
+    subst (λ (o : Option Begun). HasPlaces c.self.inside.lines.items o (vec_len c.self.inside.lines) (vec_capacity c.self.inside.lines)) c.in-Some.is c.self.invariant.places in
+    record { stands = after.begun; places = places }

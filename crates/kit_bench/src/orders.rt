@@ -1,0 +1,131 @@
+//! What the words of an order ask for.
+ghost use Rattle.std.specs.Prelude.{◌≤◌, IfOk};
+ghost use Rattle.kit_bench.specs.Ports.{IsPortShape};
+
+use crate::asks::count_replies;
+use crate::descriptions::loopers_read;
+use crate::fault::BenchFault;
+use crate::ports::{PortShape, count_taken};
+use crate::routes::{Shape, deliveries};
+use crate::samples::{checksum, message};
+use crate::turns::{count_after_wait, count_turns};
+use ak_describe::APP_LIMIT;
+use ak_filter::FILTER_LIMIT;
+use ak_handler::HANDLER_LIMIT;
+use ak_port::CAPACITY_LIMIT;
+use std::alloc::Global;
+use std::sync::Wait;
+use std::thread::Threads;
+use std::time::Clock;
+
+/// The most rounds of one order.
+const ROUND_LIMIT: u32 = 10_000_000;
+
+/// The most threads that take turns, or write to a port.
+const THREAD_LIMIT: u32 = 8;
+
+/// Does what the words say, and tells what is counted and how many there were.
+pub fn count_of<R: AllocGlobal + Threads + Wait + Clock + Sync>(
+    rt: &R,
+    words: &[String],
+) -> Result<(&'static str, u64), BenchFault> {
+    let (rounds, others) = words.split_last().ok_or(BenchFault::Usage)?;
+    let (subject, sizes) = others.split_first().ok_or(BenchFault::Usage)?;
+    let rounds = read_number(rounds, 1, ROUND_LIMIT)?;
+    match subject.as_str() {
+        "flat" => Ok(("checksum", count_flat(rt.alloc(), sizes, rounds)?)),
+        "route" => Ok(("delivered", count_routes(rt.alloc(), sizes, rounds)?)),
+        "turn" => Ok(("entries", count_entries(rt, sizes, rounds)?)),
+        "port" => Ok(("taken", count_items(rt, sizes, rounds)?)),
+        "ask" => Ok(("replies", count_asks(rt, sizes, rounds)?)),
+        "describe" => Ok(("loopers", count_loopers(rt.alloc(), sizes, rounds)?)),
+        _ => Err(BenchFault::Usage),
+    }
+}
+
+fn read_number(word: &String, least: u32, most: u32) -> Result<u32, BenchFault>
+    ensures { IfOk result (λ number. (least ≤ number) × (number ≤ most)) }
+{
+    let Ok(number) = word.parse::<u32>() else {
+        return Err(BenchFault::Usage);
+    };
+    if number < least || number > most {
+        return Err(BenchFault::Usage);
+    }
+    Ok(number)
+}
+
+fn count_flat(alloc: Global, sizes: &[String], rounds: u32) -> Result<u64, BenchFault> {
+    let [name] = sizes else {
+        return Err(BenchFault::Usage);
+    };
+    checksum(alloc, &message(alloc, name.as_str())?, rounds)
+}
+
+fn count_routes(alloc: Global, sizes: &[String], rounds: u32) -> Result<u64, BenchFault> {
+    let [handlers, filters] = sizes else {
+        return Err(BenchFault::Usage);
+    };
+    let shape = Shape {
+        handlers: read_number(handlers, 1, HANDLER_LIMIT as u32)?,
+        filters: read_number(filters, 0, FILTER_LIMIT as u32)?,
+    };
+    deliveries(alloc, shape, rounds)
+}
+
+fn count_entries<R: AllocGlobal + Threads + Wait + Clock + Sync>(
+    rt: &R,
+    sizes: &[String],
+    rounds: u32,
+) -> Result<u64, BenchFault> {
+    let [threads] = sizes else {
+        return Err(BenchFault::Usage);
+    };
+    if threads.as_str() == "wait" {
+        return count_after_wait(rt, rt.alloc(), rounds);
+    }
+    count_turns(
+        rt,
+        rt.alloc(),
+        read_number(threads, 1, THREAD_LIMIT)?,
+        rounds,
+    )
+}
+
+fn read_port(capacity: &String, writers: &String) -> Result<PortShape, BenchFault>
+    ensures { IfOk result IsPortShape }
+{
+    Ok(PortShape {
+        capacity: read_number(capacity, 1, CAPACITY_LIMIT)?,
+        writers: read_number(writers, 1, THREAD_LIMIT)?,
+    })
+}
+
+fn count_items<R: AllocGlobal + Threads + Wait + Sync>(
+    rt: &R,
+    sizes: &[String],
+    rounds: u32,
+) -> Result<u64, BenchFault> {
+    let [capacity, writers] = sizes else {
+        return Err(BenchFault::Usage);
+    };
+    count_taken(rt, rt.alloc(), read_port(capacity, writers)?, rounds)
+}
+
+fn count_asks<R: AllocGlobal + Threads + Wait + Sync>(
+    rt: &R,
+    sizes: &[String],
+    rounds: u32,
+) -> Result<u64, BenchFault> {
+    if !sizes.is_empty() {
+        return Err(BenchFault::Usage);
+    }
+    count_replies(rt, rt.alloc(), rounds)
+}
+
+fn count_loopers(alloc: Global, sizes: &[String], rounds: u32) -> Result<u64, BenchFault> {
+    let [apps] = sizes else {
+        return Err(BenchFault::Usage);
+    };
+    loopers_read(alloc, read_number(apps, 1, APP_LIMIT as u32)?, rounds)
+}
