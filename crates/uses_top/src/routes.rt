@@ -29,13 +29,13 @@ fn messages_go_to_their_handlers(rt: HostRuntime) -> Result<(), Fail> {
     same(
         &rt,
         "where targets and specifiers lead",
-        first_scene(alloc, &leading::scenes())?,
+        first_scene(alloc, &leading::SCENES)?,
         None,
     );
     same(
         &rt,
         "what filters make of a message",
-        first_scene(alloc, &settling::scenes())?,
+        first_scene(alloc, &settling::SCENES)?,
         None,
     );
     same(
@@ -47,7 +47,7 @@ fn messages_go_to_their_handlers(rt: HostRuntime) -> Result<(), Fail> {
     same(
         &rt,
         "which handler takes it, and as what",
-        first_scene(alloc, &taking::scenes())?,
+        first_scene(alloc, &taking::SCENES)?,
         None,
     );
     Ok(())

@@ -6,7 +6,7 @@ use super::fixture::{
 };
 use ak_message::Target;
 
-static ROUTES: [Row; 42] = [
+const ROUTES: &[Row] = &[
     (false, PREFERRED, GET, b"T.Hb", AT_B, 1, GET),
     (false, PREFERRED, GET, b"T.H3", LOST, 0, GET),
     (false, PREFERRED, GET, b"T.H1", AT_A, 1, GET),
@@ -53,7 +53,7 @@ static ROUTES: [Row; 42] = [
 
 // A badly formed specifier that is not current, and messages without specifiers, or with well formed ones alone, to the
 // looper itself.
-static BAD_ONCE_CURRENT: [Row; 8] = [
+const BAD_ONCE_CURRENT: &[Row] = &[
     (false, PREFERRED, GET, b"!1H1", AT_A, 1, GET),
     (false, PREFERRED, GET, b"!2H1", LOST, 1, GET),
     (false, PREFERRED, GET, b"!9H1", LOST, 1, GET),
@@ -65,7 +65,7 @@ static BAD_ONCE_CURRENT: [Row; 8] = [
 ];
 
 // By index without one, by name without one, and of no form.
-static BAD_TO_PREFERRED: [Row; 9] = [
+const BAD_TO_PREFERRED: &[Row] = &[
     (true, PREFERRED, GET, b"!2", LOST, 0, GET),
     (true, PREFERRED, QUIT, b"!2", LOST, 0, QUIT),
     (true, PREFERRED, PING, b"!2", LOST, 0, PING),
@@ -77,7 +77,7 @@ static BAD_TO_PREFERRED: [Row; 9] = [
     (true, PREFERRED, PING, b"!9", LOST, 0, PING),
 ];
 
-static BAD_TO_TOKENS: [Row; 18] = [
+const BAD_TO_TOKENS: &[Row] = &[
     (true, TO_LOOPER, GET, b"!2", LOST, 0, GET),
     (true, TO_LOOPER, QUIT, b"!2", LOST, 0, QUIT),
     (true, TO_LOOPER, PING, b"!2", LOST, 0, PING),
@@ -99,7 +99,7 @@ static BAD_TO_TOKENS: [Row; 18] = [
 ];
 
 // Without a match the looper is asked, which leads on to another handler, and to the same one.
-static WITH_A_PREFERRED: [Row; 6] = [
+const WITH_A_PREFERRED: &[Row] = &[
     (false, PREFERRED, GET, b"T.", AT_A, 0, GET),
     (false, PREFERRED, GET, b"C.", AT_LOOPER, 0, GET),
     (false, PREFERRED, QUIT, b"", BUILT_IN, 0, QUIT),
@@ -109,31 +109,20 @@ static WITH_A_PREFERRED: [Row; 6] = [
 ];
 
 // The chain of `a` ends with it.
-static WITHOUT_A_NEXT_ONE: [Row; 1] = [(false, TO_A, QUIT, b"", LOST, 0, QUIT)];
+const WITHOUT_A_NEXT_ONE: &[Row] = &[(false, TO_A, QUIT, b"", LOST, 0, QUIT)];
 
 // The token of `a` leads nowhere.
-static ONCE_REMOVED: [Row; 1] = [(false, TO_A, GET, b"T.", DROPPED, 0, GET)];
+const ONCE_REMOVED: &[Row] = &[(false, TO_A, GET, b"T.", DROPPED, 0, GET)];
 
-static BEFORE_B: [Row; 2] = [
+const BEFORE_B: &[Row] = &[
     (false, TO_A, PING, b"", B_REACTS, 0, PING),
     (false, TO_A, QUIT, b"", LOST, 0, QUIT),
 ];
 
-static WITHOUT_B: [Row; 2] = [
+const WITHOUT_B: &[Row] = &[
     (false, TO_A, PING, b"", LOST, 0, PING),
     (false, TO_A, QUIT, b"", BUILT_IN, 0, QUIT),
 ];
-
-const fn scene(label: &'static str, changes: &'static [Change], rows: &'static [Row]) -> Scene {
-    Scene {
-        label,
-        own: COUNTING,
-        beside: A_AND_B,
-        changes,
-        common: &[],
-        rows,
-    }
-}
 
 const PREFER_A: &[Change] = &[Change::Prefer(1)];
 
@@ -156,45 +145,85 @@ const B_NEXT_TO_A_REMOVED: &[Change] = &[
 
 /// Scenes of `demo`. Specifiers that are badly formed go to the preferred handler, which is the looper or `a`, and to tokens;
 /// or they count once they are current.
-pub fn scenes() -> [Scene; 10] {
-    [
-        scene("messages are routed", &[], &ROUTES),
-        scene(
-            "bad specifiers, to the preferred handler",
-            &[],
-            &BAD_TO_PREFERRED,
-        ),
-        scene("bad specifiers, to tokens", &[], &BAD_TO_TOKENS),
-        scene(
-            "bad specifiers, once they are current",
-            &[],
-            &BAD_ONCE_CURRENT,
-        ),
-        scene(
-            "the preferred handler is asked first",
-            PREFER_A,
-            &WITH_A_PREFERRED,
-        ),
-        scene(
-            "bad specifiers, to another preferred handler",
-            PREFER_A,
-            &BAD_TO_PREFERRED,
-        ),
-        scene(
-            "a preferred one without a next one",
-            PREFER_A_ALONE,
-            &WITHOUT_A_NEXT_ONE,
-        ),
-        scene(
-            "a preferred one, once it is removed",
-            PREFER_A_AND_REMOVE_IT,
-            &ONCE_REMOVED,
-        ),
-        scene("the last one is next", B_NEXT_TO_A, &BEFORE_B),
-        scene(
-            "the looper is next to one whose next is removed",
-            B_NEXT_TO_A_REMOVED,
-            &WITHOUT_B,
-        ),
-    ]
-}
+pub static SCENES: [Scene; 10] = [
+    Scene {
+        label: "messages are routed",
+        own: COUNTING,
+        beside: A_AND_B,
+        changes: &[],
+        common: &[],
+        rows: ROUTES,
+    },
+    Scene {
+        label: "bad specifiers, to the preferred handler",
+        own: COUNTING,
+        beside: A_AND_B,
+        changes: &[],
+        common: &[],
+        rows: BAD_TO_PREFERRED,
+    },
+    Scene {
+        label: "bad specifiers, to tokens",
+        own: COUNTING,
+        beside: A_AND_B,
+        changes: &[],
+        common: &[],
+        rows: BAD_TO_TOKENS,
+    },
+    Scene {
+        label: "bad specifiers, once they are current",
+        own: COUNTING,
+        beside: A_AND_B,
+        changes: &[],
+        common: &[],
+        rows: BAD_ONCE_CURRENT,
+    },
+    Scene {
+        label: "the preferred handler is asked first",
+        own: COUNTING,
+        beside: A_AND_B,
+        changes: PREFER_A,
+        common: &[],
+        rows: WITH_A_PREFERRED,
+    },
+    Scene {
+        label: "bad specifiers, to another preferred handler",
+        own: COUNTING,
+        beside: A_AND_B,
+        changes: PREFER_A,
+        common: &[],
+        rows: BAD_TO_PREFERRED,
+    },
+    Scene {
+        label: "a preferred one without a next one",
+        own: COUNTING,
+        beside: A_AND_B,
+        changes: PREFER_A_ALONE,
+        common: &[],
+        rows: WITHOUT_A_NEXT_ONE,
+    },
+    Scene {
+        label: "a preferred one, once it is removed",
+        own: COUNTING,
+        beside: A_AND_B,
+        changes: PREFER_A_AND_REMOVE_IT,
+        common: &[],
+        rows: ONCE_REMOVED,
+    },
+    Scene {
+        label: "the last one is next",
+        own: COUNTING,
+        beside: A_AND_B,
+        changes: B_NEXT_TO_A,
+        common: &[],
+        rows: BEFORE_B,
+    },
+    Scene {
+        label: "the looper is next to one whose next is removed",
+        own: COUNTING,
+        beside: A_AND_B,
+        changes: B_NEXT_TO_A_REMOVED,
+        common: &[],
+        rows: WITHOUT_B,
+    },
+];

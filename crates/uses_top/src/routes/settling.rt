@@ -20,7 +20,7 @@ const FILTERS_IN_ORDER: &[FilterRow] = &[
     (Some(PING), false, b"", Some(PONG)),
 ];
 
-static IN_ORDER: [Row; 6] = [
+const IN_ORDER: &[Row] = &[
     (false, PREFERRED, GET, b"C.", SKIPPED, 0, GET),
     (false, PREFERRED, SET, b"", LOST, 0, PONG),
     (false, PREFERRED, SET, b"C.", LOST, 0, PONG),
@@ -35,7 +35,7 @@ const PASSING_TO_NONE: &[FilterRow] = &[
     (Some(PING), false, b"", Some(PONG)),
 ];
 
-static NO_REFUSAL: [Row; 4] = [
+const NO_REFUSAL: &[Row] = &[
     (false, PREFERRED, SET, b"", REACTS, 0, PONG),
     (false, PREFERRED, SET, b"C.", REACTS, 0, PONG),
     (false, PREFERRED, PING, b"", REACTS, 0, PONG),
@@ -48,7 +48,7 @@ const IN_THE_OTHER_ORDER: &[FilterRow] = &[
     (Some(SET), false, b"", Some(PING)),
 ];
 
-static OTHER_ORDER: [Row; 1] = [(false, PREFERRED, SET, b"", LOST, 0, PING)];
+const OTHER_ORDER: &[Row] = &[(false, PREFERRED, SET, b"", LOST, 0, PING)];
 
 // And then with a filter more, which skips each `PONG`.
 const SKIPPING_PONG: &[FilterRow] = &[
@@ -58,9 +58,9 @@ const SKIPPING_PONG: &[FilterRow] = &[
 ];
 
 // What is skipped keeps the code that it came with, though it was skipped for another.
-static SKIPPED_AS_IT_CAME: [Row; 1] = [(false, PREFERRED, PING, b"", SKIPPED, 0, PING)];
+const SKIPPED_AS_IT_CAME: &[Row] = &[(false, PREFERRED, PING, b"", SKIPPED, 0, PING)];
 
-static PASSED_ONCE: [Row; 1] = [(false, PREFERRED, PING, b"", A_REACTS, 0, PING)];
+const PASSED_ONCE: &[Row] = &[(false, PREFERRED, PING, b"", A_REACTS, 0, PING)];
 
 // The handlers `a`, which is preferred, and `b`: each passes all that it gets to the other.
 const TO_EACH_OTHER: &[Beside] = &[
@@ -68,7 +68,7 @@ const TO_EACH_OTHER: &[Beside] = &[
     (b"b", PING, &[(None, false, b"a", None)]),
 ];
 
-static BY_ITSELF: [Row; 4] = [
+const BY_ITSELF: &[Row] = &[
     (false, TO_LOOPER, PING, b"", LOST, 0, PING),
     (false, TO_A, PING, b"", SKIPPED, 0, PING),
     (false, TO_A, PONG, b"", A_REACTS, 0, PONG),
@@ -76,7 +76,7 @@ static BY_ITSELF: [Row; 4] = [
 ];
 
 // The filters of the handler that it was for do not run, and those of `a` do.
-static PASSED_TO_A: [Row; 2] = [
+const PASSED_TO_A: &[Row] = &[
     (false, TO_B, PING, b"", SKIPPED, 0, PING),
     (false, TO_B, PONG, b"", B_REACTS, 0, PONG),
 ];
@@ -90,63 +90,65 @@ const WITH_FILTERS: &[Beside] = &[
 
 const PASSING_TO_A: &[FilterRow] = &[(Some(PING), false, b"a", None)];
 
-const fn filtered(
-    label: &'static str,
-    own: Own,
-    common: &'static [FilterRow],
-    rows: &'static [Row],
-) -> Scene {
+/// Scenes in which common filters run in order, and those of a handler once.
+pub static SCENES: [Scene; 7] = [
     Scene {
-        label,
-        own,
+        label: "filters run in order",
+        own: COUNTING,
+        beside: A_AND_B,
+        changes: &[],
+        common: FILTERS_IN_ORDER,
+        rows: IN_ORDER,
+    },
+    Scene {
+        label: "passed to none",
+        own: PONGING,
         beside: &[],
         changes: &[],
-        common,
-        rows,
-    }
-}
-
-/// Scenes in which common filters run in order, and those of a handler once.
-pub fn scenes() -> [Scene; 7] {
-    let mut in_order = filtered(
-        "filters run in order",
-        COUNTING,
-        FILTERS_IN_ORDER,
-        &IN_ORDER,
-    );
-    in_order.beside = A_AND_B;
-    let mut passed = filtered("handlers pass to each other", COUNTING, &[], &PASSED_ONCE);
-    passed.beside = TO_EACH_OTHER;
-    passed.changes = &[Change::Prefer(1)];
-    let mut alone = filtered("filters of a handler run", COUNTING, &[], &BY_ITSELF);
-    alone.beside = WITH_FILTERS;
-    let mut to_a = filtered(
-        "filters of a handler run once",
-        COUNTING,
-        PASSING_TO_A,
-        &PASSED_TO_A,
-    );
-    to_a.beside = WITH_FILTERS;
-    [
-        in_order,
-        filtered("passed to none", PONGING, PASSING_TO_NONE, &NO_REFUSAL),
-        filtered(
-            "in the other order",
-            PONGING,
-            IN_THE_OTHER_ORDER,
-            &OTHER_ORDER,
-        ),
-        filtered(
-            "skipped as it came",
-            PONGING,
-            SKIPPING_PONG,
-            &SKIPPED_AS_IT_CAME,
-        ),
-        passed,
-        alone,
-        to_a,
-    ]
-}
+        common: PASSING_TO_NONE,
+        rows: NO_REFUSAL,
+    },
+    Scene {
+        label: "in the other order",
+        own: PONGING,
+        beside: &[],
+        changes: &[],
+        common: IN_THE_OTHER_ORDER,
+        rows: OTHER_ORDER,
+    },
+    Scene {
+        label: "skipped as it came",
+        own: PONGING,
+        beside: &[],
+        changes: &[],
+        common: SKIPPING_PONG,
+        rows: SKIPPED_AS_IT_CAME,
+    },
+    Scene {
+        label: "handlers pass to each other",
+        own: COUNTING,
+        beside: TO_EACH_OTHER,
+        changes: &[Change::Prefer(1)],
+        common: &[],
+        rows: PASSED_ONCE,
+    },
+    Scene {
+        label: "filters of a handler run",
+        own: COUNTING,
+        beside: WITH_FILTERS,
+        changes: &[],
+        common: &[],
+        rows: BY_ITSELF,
+    },
+    Scene {
+        label: "filters of a handler run once",
+        own: COUNTING,
+        beside: WITH_FILTERS,
+        changes: &[],
+        common: PASSING_TO_A,
+        rows: PASSED_TO_A,
+    },
+];
 
 // Whether a message is local, and whether it was dropped.
 static ORIGINS: [(bool, bool); 4] = [(true, false), (true, true), (false, false), (false, true)];

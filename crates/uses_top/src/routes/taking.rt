@@ -35,7 +35,7 @@ const DELETE: Code = Code::DELETE;
 
 const CREATE: Code = Code::CREATE;
 
-static TAKEN: [Row; 19] = [
+const TAKEN: &[Row] = &[
     (false, TO_LOOPER, GET, b"T.", SECOND_ROW, 0, GET),
     (false, TO_LOOPER, SET, b"T.", THIRD_ROW, 0, SET),
     (false, TO_LOOPER, COUNT, b"T.", LOST, 0, COUNT),
@@ -59,7 +59,7 @@ static TAKEN: [Row; 19] = [
 ];
 
 // With any number of specifiers.
-static WITH_ANY: [Row; 8] = [
+const WITH_ANY: &[Row] = &[
     (false, TO_LOOPER, QUIT, b"C.", BUILT_IN, 0, QUIT),
     (false, TO_LOOPER, QUIT, b"C.C.", BUILT_IN, 0, QUIT),
     (true, TO_LOOPER, READY, b"C.", BUILT_IN, 0, READY),
@@ -71,7 +71,7 @@ static WITH_ANY: [Row; 8] = [
 ];
 
 // Of a looper with `Count`, with `Suites` and with `Handler`; the last keeps what a looper would lead on.
-static WITH_COUNT: [Row; 5] = [
+const WITH_COUNT: &[Row] = &[
     (false, PREFERRED, GET, b"C.", AT_LOOPER, 0, GET),
     (false, PREFERRED, GET, b"S.", REACTS, 0, GET),
     (false, PREFERRED, QUIT, b"", REACTS_OTHERWISE, 0, QUIT),
@@ -79,9 +79,9 @@ static WITH_COUNT: [Row; 5] = [
     (false, PREFERRED, COUNT, b"H.", BUILT_IN, 0, COUNT),
 ];
 
-static WITH_SUITES: [Row; 1] = [(false, PREFERRED, GET, b"S.", AT_LOOPER, 0, GET)];
+const WITH_SUITES: &[Row] = &[(false, PREFERRED, GET, b"S.", AT_LOOPER, 0, GET)];
 
-static WITH_HANDLER: [Row; 2] = [
+const WITH_HANDLER: &[Row] = &[
     (false, PREFERRED, COUNT, b"H.", AT_LOOPER, 0, COUNT),
     (false, PREFERRED, GET, b"T.H0", AT_LOOPER, 0, GET),
 ];
@@ -89,9 +89,9 @@ static WITH_HANDLER: [Row; 2] = [
 // With that property, and with reactions on `GET` and on `_QRQ`.
 const WITH_REACTIONS: [Code; 2] = [GET, QUIT];
 
-static WHILE_THERE: [Row; 1] = [(false, TO_A, PING, b"", A_REACTS, 0, PING)];
+const WHILE_THERE: &[Row] = &[(false, TO_A, PING, b"", A_REACTS, 0, PING)];
 
-static ONCE_REMOVED: [Row; 2] = [
+const ONCE_REMOVED: &[Row] = &[
     (false, TO_A, PING, b"", DROPPED, 0, PING),
     (false, PREFERRED, GET, b"C.", AT_LOOPER, 0, GET),
 ];
@@ -99,71 +99,68 @@ static ONCE_REMOVED: [Row; 2] = [
 // The handler `a` with `Title` and a reaction on `PING`.
 const ONLY_A: &[Beside] = &[(b"a", PING, &[])];
 
-const fn taking(
-    label: &'static str,
-    own: Own,
-    beside: &'static [Beside],
-    changes: &'static [Change],
-    rows: &'static [Row],
-) -> Scene {
-    Scene {
-        label,
-        own,
-        beside,
-        changes,
-        common: &[],
-        rows,
-    }
-}
+const WITH_COUNT_AND_REACTIONS: Own = (&[(b"Count", &[], &[])], WITH_REACTIONS);
+
+const WITH_SUITES_AND_REACTIONS: Own = (&[(b"Suites", &[], &[])], WITH_REACTIONS);
+
+const WITH_HANDLER_AND_REACTIONS: Own = (&[(b"Handler", &[], &[])], WITH_REACTIONS);
 
 /// Scenes in which commands and forms decide, a property comes first and what is built in last, and a handler is removed.
-pub fn scenes() -> [Scene; 7] {
-    let counting: Own = (&[(b"Count", &[], &[])], WITH_REACTIONS);
-    let with_suites: Own = (&[(b"Suites", &[], &[])], WITH_REACTIONS);
-    let with_handler: Own = (&[(b"Handler", &[], &[])], WITH_REACTIONS);
-    [
-        taking(
-            "commands and forms decide",
-            (FOUR_ROWS, [PONG, PING]),
-            &[],
-            &[],
-            &TAKEN,
-        ),
-        taking(
-            "with any number of specifiers",
-            COUNTING,
-            A_AND_B,
-            &[],
-            &WITH_ANY,
-        ),
-        taking("a property comes first", counting, &[], &[], &WITH_COUNT),
-        taking(
-            "a property of suites comes first",
-            with_suites,
-            &[],
-            &[],
-            &WITH_SUITES,
-        ),
-        taking(
-            "a property keeps what leads on",
-            with_handler,
-            &[],
-            &[],
-            &WITH_HANDLER,
-        ),
-        taking(
-            "a handler while it is there",
-            COUNTING,
-            ONLY_A,
-            &[],
-            &WHILE_THERE,
-        ),
-        taking(
-            "a removed handler gets nothing",
-            COUNTING,
-            ONLY_A,
-            &[Change::Remove(1)],
-            &ONCE_REMOVED,
-        ),
-    ]
-}
+pub static SCENES: [Scene; 7] = [
+    Scene {
+        label: "commands and forms decide",
+        own: (FOUR_ROWS, [PONG, PING]),
+        beside: &[],
+        changes: &[],
+        common: &[],
+        rows: TAKEN,
+    },
+    Scene {
+        label: "with any number of specifiers",
+        own: COUNTING,
+        beside: A_AND_B,
+        changes: &[],
+        common: &[],
+        rows: WITH_ANY,
+    },
+    Scene {
+        label: "a property comes first",
+        own: WITH_COUNT_AND_REACTIONS,
+        beside: &[],
+        changes: &[],
+        common: &[],
+        rows: WITH_COUNT,
+    },
+    Scene {
+        label: "a property of suites comes first",
+        own: WITH_SUITES_AND_REACTIONS,
+        beside: &[],
+        changes: &[],
+        common: &[],
+        rows: WITH_SUITES,
+    },
+    Scene {
+        label: "a property keeps what leads on",
+        own: WITH_HANDLER_AND_REACTIONS,
+        beside: &[],
+        changes: &[],
+        common: &[],
+        rows: WITH_HANDLER,
+    },
+    Scene {
+        label: "a handler while it is there",
+        own: COUNTING,
+        beside: ONLY_A,
+        changes: &[],
+        common: &[],
+        rows: WHILE_THERE,
+    },
+    Scene {
+        label: "a removed handler gets nothing",
+        own: COUNTING,
+        beside: ONLY_A,
+        changes: &[Change::Remove(1)],
+        common: &[],
+        rows: ONCE_REMOVED,
+    },
+];
