@@ -3,6 +3,7 @@ ghost use Rattle.std.specs.Prelude.{◌≡◌, false, IfOk};
 ghost use Rattle.std.specs.Arc.{arc_value};
 ghost use Rattle.ak_port.specs.Reply.{IsFlatText};
 
+use crate::compare::same;
 use crate::reply_text::reply_text;
 use ak_base::{Bytes, NoMemory, ThreadId};
 use ak_port::{
@@ -79,56 +80,39 @@ fn filled_at(book: &ReplyBook, place: u64, text: &[u8]) -> Result<(u64, ThreadId
     Ok((entry.stamp, entry.by, is_filled_with(&entry.event, text)))
 }
 
-/// What came of two fills and of the wait behind them, and the book then.
-#[derive(Clone, Copy, Debug, PartialEq, Eq)]
-struct Waited {
-    first: FillAnswer,
-    second: FillAnswer,
-    is_the_reply: bool,
-    entries: u64,
-    last_stamp: u64,
-    has_more: bool,
-    filled: (u64, ThreadId, bool),
-}
+/// What came of two fills; whether the wait behind them gave the reply; how many entries the book has then, its last
+/// stamp, and whether it has one more; and when the slot was filled, by whom, and whether with the reply.
+type Waited = (
+    [FillAnswer; 2],
+    bool,
+    (u64, u64, bool),
+    (u64, ThreadId, bool),
+);
 
 fn fill_and_wait<R: Wait>(rt: &R, alloc: Global) -> Result<Waited, Fail> {
     let wanted = reply_text(alloc)?;
     let (first, second, reply, book) = fill_then_wait(rt, alloc, reply_text(alloc)?)?;
-    Ok(Waited {
-        first,
-        second,
-        is_the_reply: reply.as_slice() == wanted.as_slice(),
-        entries: book.len(),
-        last_stamp: book.last_stamp(),
-        has_more: book.entry(3)?.is_some(),
-        filled: filled_at(&book, 1, wanted.as_slice())?,
-    })
+    Ok((
+        [first, second],
+        reply.as_slice() == wanted.as_slice(),
+        (book.len(), book.last_stamp(), book.entry(3)?.is_some()),
+        filled_at(&book, 1, wanted.as_slice())?,
+    ))
 }
 
-const WAITED: Waited = Waited {
-    first: FillAnswer::Filled,
-    second: FillAnswer::Duplicate,
-    is_the_reply: true,
-    entries: 3,
-    last_stamp: 3,
-    has_more: false,
-    filled: (2, OTHER, true),
-};
-
-#[test]
-fn a_slot_is_filled_before_the_wait(rt: HostRuntime) -> Result<(), Fail> {
-    assert_eq!(rt; fill_and_wait(&rt, rt.alloc())?, WAITED);
-    Ok(())
-}
+const WAITED: Waited = (
+    [FillAnswer::Filled, FillAnswer::Duplicate],
+    true,
+    (3, 3, false),
+    (2, OTHER, true),
+);
 
 // What came of cancelling, of two fills after it, and how many entries there are.
 fn cancel_then_fill<R: Wait>(
     rt: &R,
     alloc: Global,
-    text: Bytes,
-) -> Result<(CancelAnswer, FillAnswer, FillAnswer, u64), NoMemory>
-    requires { IsFlatText text }
-{
+) -> Result<(CancelAnswer, FillAnswer, FillAnswer, u64), NoMemory> {
+    let text = reply_text(alloc)?;
     let Scene {
         book,
         mut seat,
@@ -142,18 +126,12 @@ fn cancel_then_fill<R: Wait>(
     Ok((cancelled, first, second, other.seen()))
 }
 
-#[test]
-fn a_cancelled_slot_is_never_filled(rt: HostRuntime) -> Result<(), Fail> {
-    let told = (
-        CancelAnswer::Cancelled,
-        FillAnswer::Duplicate,
-        FillAnswer::Duplicate,
-        2,
-    );
-    let text = reply_text(rt.alloc())?;
-    assert_eq!(rt; cancel_then_fill(&rt, rt.alloc(), text)?, told);
-    Ok(())
-}
+const CANCELLED: (CancelAnswer, FillAnswer, FillAnswer, u64) = (
+    CancelAnswer::Cancelled,
+    FillAnswer::Duplicate,
+    FillAnswer::Duplicate,
+    2,
+);
 
 // What came of a fill, and of cancelling after it.
 fn fill_then_cancel<R: Wait>(
@@ -172,10 +150,34 @@ fn fill_then_cancel<R: Wait>(
     Ok((filled, cancelled, seat.seen()))
 }
 
+const NOT_CANCELLED: (FillAnswer, CancelAnswer, u64) = (
+    FillAnswer::Filled,
+    CancelAnswer::Duplicate,
+    2,
+);
+
 #[test]
-fn a_filled_slot_is_not_cancelled(rt: HostRuntime) -> Result<(), Fail> {
-    let told = fill_then_cancel(&rt, rt.alloc())?;
-    assert_eq!(rt; told, (FillAnswer::Filled, CancelAnswer::Duplicate, 2));
+fn a_slot_is_filled_or_cancelled_once(rt: HostRuntime) -> Result<(), Fail> {
+    let alloc = rt.alloc();
+    slots_are_settled_once();
+    same(
+        &rt,
+        "a slot is filled before the wait",
+        fill_and_wait(&rt, alloc)?,
+        WAITED,
+    );
+    same(
+        &rt,
+        "a cancelled slot is never filled",
+        cancel_then_fill(&rt, alloc)?,
+        CANCELLED,
+    );
+    same(
+        &rt,
+        "a filled slot is not cancelled",
+        fill_then_cancel(&rt, alloc)?,
+        NOT_CANCELLED,
+    );
     Ok(())
 }
 
@@ -242,9 +244,4 @@ fn a_wait_ends_where_another_thread_fills(rt: HostRuntime) -> Result<(), Fail> {
     let told = [ask_beside(&rt, alloc, 0)?, ask_beside(&rt, alloc, 5000)?];
     assert_eq!(rt; told, [NONE_LENGTH, NONE_LENGTH]);
     Ok(())
-}
-
-#[test]
-fn the_law_of_reply_books_is_called() {
-    slots_are_settled_once();
 }

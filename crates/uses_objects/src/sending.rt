@@ -7,6 +7,7 @@ ghost use Rattle.ak_port.specs.PortCalls.{CanTake};
 ghost use Rattle.ak_port.specs.Reply.{IsFlatText};
 ghost use Rattle.ak_port.specs.SeatKept.{KeepsSeat};
 
+use crate::compare::same;
 use crate::reply_text::reply_text;
 use ak_base::{Bytes, Code, NoMemory, Text, ThreadId};
 use ak_flatten::{Duty, Item};
@@ -24,24 +25,18 @@ const MAIN: ThreadId = ThreadId(0);
 
 const LOOPER: ThreadId = ThreadId(10_000);
 
-/// What an item tells beside its message.
-#[derive(Clone, Copy, Debug, PartialEq, Eq)]
-struct Told {
-    target: Target,
-    team: u32,
-    dropped: bool,
-    popped: u32,
-    duty: Duty,
-}
+/// What an item tells beside its message: its target, its team, whether it was dropped, how many specifiers are popped,
+/// and its duty.
+type Told = (Target, u32, bool, u32, Duty);
 
 fn told_by(item: &Item) -> Told {
-    Told {
-        target: item.target(),
-        team: item.team(),
-        dropped: item.dropped(),
-        popped: item.popped(),
-        duty: item.duty(),
-    }
+    (
+        item.target(),
+        item.team(),
+        item.dropped(),
+        item.popped(),
+        item.duty(),
+    )
 }
 
 fn clock_of(thread: ThreadId) -> Clock
@@ -161,23 +156,17 @@ fn take_one<R: Wait>(
 {
     let mut out = VecDeque::with_capacity(alloc, 1)?;
     take(port, rt, taker, &mut clock_of(LOOPER), &mut out, 1);
-    Ok(out.pop_front().map(|taken| taken.item))
+    match out.pop_front() {
+        Some(taken) => Ok(Some(taken.item)),
+        None => Ok(None),
+    }
 }
 
 /// What posts answer, what the item of the first tells, and how many entries there are then.
-#[derive(Clone, Copy, Debug, PartialEq, Eq)]
-struct Posts {
-    first: Result<u64, SendFault>,
-    full: Result<u64, SendFault>,
-    long: Result<u64, SendFault>,
-    second: Result<u64, SendFault>,
-    spent: Result<u64, SendFault>,
-    shut: Result<u64, SendFault>,
-    item: Told,
-    entries: u64,
-}
+type Posts = ([Result<u64, SendFault>; 6], Told, u64);
 
-// Posts to a port that has room, is full, has room again, has accepted all that it does, and is shut.
+// Posts to a port that has room, is full, is full for a message that is too long, has room again, has accepted all that it
+// does, and is shut.
 fn post_in_turn<R: Wait>(rt: &R, alloc: Global) -> Result<Posts, Fail> {
     let Scene {
         mut hands,
@@ -195,45 +184,36 @@ fn post_in_turn<R: Wait>(rt: &R, alloc: Global) -> Result<Posts, Fail> {
     let spent = post_one(rt, alloc, &mut hands, &port, &mut seat, &m);
     close(&port, rt, &mut seat, &mut hands.clock);
     let shut = post_one(rt, alloc, &mut hands, &port, &mut seat, &m);
-    Ok(Posts {
-        first,
-        full,
-        long,
-        second,
-        spent,
-        shut,
-        item: told_by(&item.ok_or("an item")?),
-        entries: seat.seen(),
-    })
+    Ok((
+        [first, full, long, second, spent, shut],
+        told_by(&item.ok_or("an item")?),
+        seat.seen(),
+    ))
 }
 
 // What the posts have to answer.
-const ANSWERS: Posts = Posts {
-    first: Ok(0),
-    full: Err(SendFault::WouldBlock),
-    long: Err(SendFault::TooLong),
-    second: Ok(1),
-    spent: Err(SendFault::Spent),
-    shut: Err(SendFault::BadPort),
-    item: Told {
-        target: Target::Token(3),
-        team: 7,
-        dropped: true,
-        popped: 1,
-        duty: Duty::Back(Address {
+const ANSWERS: Posts = (
+    [
+        Ok(0),
+        Err(SendFault::WouldBlock),
+        Err(SendFault::TooLong),
+        Ok(1),
+        Err(SendFault::Spent),
+        Err(SendFault::BadPort),
+    ],
+    (
+        Target::Token(3),
+        7,
+        true,
+        1,
+        Duty::Back(Address {
             looper: 2,
             target: Target::Preferred,
         }),
-    },
+    ),
     // The making, four writes or refusals, the take, the closing, and a refusal.
-    entries: 8,
-};
-
-#[test]
-fn posts_answer_by_their_causes(rt: HostRuntime) -> Result<(), Fail> {
-    assert_eq!(rt; post_in_turn(&rt, rt.alloc())?, ANSWERS);
-    Ok(())
-}
+    8,
+);
 
 // Asks, with all the specifiers of the message popped.
 fn ask_one<R: Wait>(
@@ -254,14 +234,7 @@ fn ask_one<R: Wait>(
 }
 
 /// What refused asks answer, how many entries the book has then, and which slots its second and its fourth entry cancel.
-#[derive(Clone, Copy, Debug, PartialEq, Eq)]
-struct Asks {
-    long: Option<SendFault>,
-    spent: Option<SendFault>,
-    shut: Option<SendFault>,
-    entries: u64,
-    cancelled: [Option<u64>; 2],
-}
+type Asks = ([Option<SendFault>; 3], u64, [Option<u64>; 2]);
 
 // The whole book.
 fn whole<R: Wait>(rt: &R, hands: Hands) -> ReplyBook {
@@ -297,26 +270,38 @@ fn ask_in_vain<R: Wait>(rt: &R, alloc: Global) -> Result<Asks, Fail> {
     close(&port, rt, &mut seat, &mut hands.clock);
     let shut = ask_one(rt, alloc, &mut hands, &port, &mut seat, &m).err();
     let book = whole(rt, hands);
-    Ok(Asks {
-        long,
-        spent,
-        shut,
-        entries: book.len(),
-        cancelled: [cancelled_at(&book, 1)?, cancelled_at(&book, 3)?],
-    })
+    Ok((
+        [long, spent, shut],
+        book.len(),
+        [cancelled_at(&book, 1)?, cancelled_at(&book, 3)?],
+    ))
 }
 
-const IN_VAIN: Asks = Asks {
-    long: Some(SendFault::TooLong),
-    spent: Some(SendFault::Spent),
-    shut: Some(SendFault::BadPort),
-    entries: 4,
-    cancelled: [Some(0), Some(1)],
-};
+const IN_VAIN: Asks = (
+    [
+        Some(SendFault::TooLong),
+        Some(SendFault::Spent),
+        Some(SendFault::BadPort),
+    ],
+    4,
+    [Some(0), Some(1)],
+);
 
 #[test]
-fn asks_in_vain_cancel_their_slots(rt: HostRuntime) -> Result<(), Fail> {
-    assert_eq!(rt; ask_in_vain(&rt, rt.alloc())?, IN_VAIN);
+fn posts_and_asks_answer_by_their_causes(rt: HostRuntime) -> Result<(), Fail> {
+    let alloc = rt.alloc();
+    same(
+        &rt,
+        "posts answer by their causes",
+        post_in_turn(&rt, alloc)?,
+        ANSWERS,
+    );
+    same(
+        &rt,
+        "asks in vain cancel their slots",
+        ask_in_vain(&rt, alloc)?,
+        IN_VAIN,
+    );
     Ok(())
 }
 
@@ -396,37 +381,25 @@ fn ask_beside<R: Threads + Wait + Sync>(
 
 /// The reply of another thread: its slot, whether its text is the one that was given, and the code of its message; and
 /// what the item tells.
-#[derive(Clone, Copy, Debug, PartialEq, Eq)]
-struct Replied {
-    slot: u64,
-    is_the_text: bool,
-    what: Code,
-    item: Told,
-}
+type Replied = (u64, bool, Code, Told);
 
 fn reply_of_another<R: Threads + Wait + Sync>(rt: &R, alloc: Global) -> Result<Replied, Fail> {
     let wanted = reply_text(alloc)?;
     let (reply, item) = ask_beside(rt, alloc, reply_text(alloc)?)?;
-    Ok(Replied {
-        slot: reply.slot,
-        is_the_text: reply.flat.as_slice() == wanted.as_slice(),
-        what: reply.message.what(),
-        item: told_by(&item.ok_or("an item")?),
-    })
+    Ok((
+        reply.slot,
+        reply.flat.as_slice() == wanted.as_slice(),
+        reply.message.what(),
+        told_by(&item.ok_or("an item")?),
+    ))
 }
 
-const REPLIED: Replied = Replied {
-    slot: 0,
-    is_the_text: true,
-    what: Code::REPLY,
-    item: Told {
-        target: Target::Token(3),
-        team: 7,
-        dropped: true,
-        popped: 1,
-        duty: Duty::Slot(0),
-    },
-};
+const REPLIED: Replied = (
+    0,
+    true,
+    Code::REPLY,
+    (Target::Token(3), 7, true, 1, Duty::Slot(0)),
+);
 
 #[test]
 fn an_ask_gets_the_reply_of_another_thread(rt: HostRuntime) -> Result<(), Fail> {

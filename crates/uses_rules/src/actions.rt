@@ -4,56 +4,47 @@
 ghost use Rattle.std.specs.Prelude.{◌≤◌, length, IfOk};
 ghost use Rattle.ak_action.specs.Interp.{MayGoOn};
 
+use crate::compare::same;
+use crate::parts::{NONE, Told, action_of, deep, giving, row_of, text};
 use ak_action::{
-    Acted, Action, ActionList, Answer, AnswerWord, DeskRow, DeskState, Dest, ElementsList, Given,
-    Interp, Number, Reaction, ReactionList, Template, TemplateField, TemplateFields, Values, Want,
+    Acted, Action, ActionList, Answer, AnswerWord, DeskRow, DeskState, ElementsList, Given, Interp,
+    Number, Reaction, ReactionList, Values, Want,
 };
 use ak_base::{Code, Items, KitError, Text};
 use ak_filter::FilterList;
 use ak_flatten::{flatten, unflatten};
 use ak_handler::HandlerSet;
-use ak_message::{Kind, Message, Value};
-use ak_property::{PropertyRow, PropertyTable};
+use ak_message::{Message, Value};
 use ak_value::Elements;
 use std::alloc::Global;
 use std::test::Fail;
 
-fn text(alloc: Global, bytes: &[u8]) -> Result<Text, Fail> {
-    Ok(Text::from_bytes(alloc, bytes)?)
-}
-
 // ---- the state
-fn property(alloc: Global, name: &[u8], kind: Kind) -> Result<PropertyRow, Fail> {
-    Ok(PropertyRow {
-        name: text(alloc, name)?,
-        kind,
-        commands: Items::from_vec(Vec::new(alloc)),
-        forms: Items::from_vec(Vec::new(alloc)),
-        usage: text(alloc, b"")?,
-    })
+const LINES: &[u8] = b"app /boot/Demo application/x-demo single
+looper alpha
+property count LONG
+element 5
+property title CSTR
+element \"t\"
+property byte BYTE
+element BYTE:1
+property ulong ULNG
+element ULNG:1
+property ullg ULLG
+element ULLG:0
+";
+
+// Of an application there are at most 8 loopers.
+fn names(alloc: Global) -> Result<Items<Text>, Fail>
+    ensures { IfOk result (λ names. length names ≤ 8) }
+{
+    let mut names = Vec::new(alloc);
+    names.push(text(alloc, b"alpha")?)?;
+    names.push(text(alloc, b"beta")?)?;
+    Ok(Items::from_vec(names))
 }
 
-fn alone(alloc: Global, value: Value) -> Result<Elements, Fail> {
-    let kind = value.kind();
-    let mut list = Vec::new(alloc);
-    list.push((text(alloc, b"")?, value))?;
-    Ok(Elements::new(alloc, kind, list)?)
-}
-
-fn table(alloc: Global, kind: Kind) -> Result<PropertyTable, Fail> {
-    let mut table = PropertyTable::new(alloc);
-    table.add_row(property(alloc, b"count", kind)?)?;
-    table.add_row(property(alloc, b"title", Kind::Text)?)?;
-    Ok(table)
-}
-
-fn elements(alloc: Global, count: Value) -> Result<ElementsList, Fail> {
-    let mut elements = Vec::new(alloc);
-    elements.push(alone(alloc, count)?)?;
-    elements.push(alone(alloc, Value::Text(text(alloc, b"t")?))?)?;
-    Ok(ElementsList::from_vec(elements))
-}
-
+// One, of that action and `quit`.
 fn reactions(alloc: Global, action: Action) -> Result<ReactionList, Fail> {
     let mut actions = ActionList::new(alloc);
     actions.push(action)?;
@@ -66,33 +57,27 @@ fn reactions(alloc: Global, action: Action) -> Result<ReactionList, Fail> {
     Ok(reactions)
 }
 
-// Of an application there are at most 8 loopers.
-fn names(alloc: Global) -> Result<Items<Text>, Fail>
-    ensures { IfOk result (λ names. length names ≤ 8) }
-{
-    let mut names = Vec::new(alloc);
-    names.push(text(alloc, b"alpha")?)?;
-    names.push(text(alloc, b"beta")?)?;
-    Ok(Items::from_vec(names))
+fn handlers(
+    alloc: Global,
+    row: DeskRow,
+    reactions: ReactionList,
+) -> Result<HandlerSet<DeskRow>, Fail> {
+    let row = DeskRow { reactions, ..row };
+    Ok(HandlerSet::new(alloc, text(alloc, b"alpha")?, row)?)
 }
 
-// The looper `alpha` of an application with another one, `beta`. Its property `count` has that value, and
-// its reaction is that action and `quit`.
-fn desk(alloc: Global, count: Value, action: Action) -> Result<DeskState, Fail> {
-    let row = DeskRow {
-        suites: Items::from_vec(Vec::new(alloc)),
-        table: table(alloc, count.kind())?,
-        elements: elements(alloc, count)?,
-        filters: FilterList::new(alloc),
-        reactions: reactions(alloc, action)?,
-    };
+/// The looper `alpha` of an application with another one, `beta`. It holds that row, but its only reaction is that action
+/// and `quit`.
+pub fn state_with(alloc: Global, row: DeskRow, action: Action) -> Result<DeskState, Fail> {
+    let reactions = reactions(alloc, action)?;
+    let handlers = handlers(alloc, row, reactions)?;
     Ok(DeskState {
         looper: 3,
         team: 2,
         first: 3,
         names: names(alloc)?,
         quit_refused: false,
-        handlers: HandlerSet::new(alloc, text(alloc, b"alpha")?, row)?,
+        handlers,
         common: FilterList::new(alloc),
     })
 }
@@ -117,128 +102,137 @@ fn carried_out(alloc: Global, state: &mut DeskState) -> Result<Acted, Fail> {
     )
 }
 
-fn error_of(word: &AnswerWord) -> Option<KitError> {
-    match word {
-        AnswerWord::Error(error) => Some(*error),
+fn error_of(words: &[AnswerWord]) -> Option<KitError> {
+    match words.first() {
+        Some(AnswerWord::Error(error)) => Some(*error),
         _ => None,
     }
 }
 
-// The word of the action, how many fields its reply has, the first element of `count` where that is a
-// number, and whether the list went on.
-type Left = (Option<KitError>, Option<u32>, Option<Number>, bool);
-
-fn count_of(state: &DeskState) -> Option<Number> {
-    Number::of(state.handlers.by_token(0)?.first_of(b"count")?)
+fn count_of(reply: &Option<Message>) -> Option<u32> {
+    match reply {
+        Some(reply) => Some(reply.count_names()),
+        None => None,
+    }
 }
 
-fn left_by(alloc: Global, count: Value, action: Action) -> Result<Left, Fail> {
-    let mut state = desk(alloc, count, action)?;
+fn number_of(state: &DeskState, name: &[u8]) -> Option<Number> {
+    Number::of(state.handlers.by_token(0)?.first_of(name)?)
+}
+
+// The word of the action, how many fields its reply has, the first element of a property where that is a number, and
+// whether the list went on.
+type Left = (Option<KitError>, Option<u32>, Option<Number>, bool);
+
+fn left_by(alloc: Global, row: DeskRow, action: Action, name: &[u8]) -> Result<Left, Fail> {
+    let mut state = state_with(alloc, row, action)?;
     let acted = carried_out(alloc, &mut state)?;
     Ok((
-        acted.answers.as_slice().first().and_then(error_of),
-        acted.reply.as_ref().map(Message::count_names),
-        count_of(&state),
+        error_of(acted.answers.as_slice()),
+        count_of(&acted.reply),
+        number_of(&state, name),
         acted.quit,
     ))
 }
 
-// ---- sums
-fn added(alloc: Global, count: Number, name: &[u8], amount: Number) -> Result<Left, Fail> {
-    let action = Action::Add {
-        property: text(alloc, name)?,
-        amount,
-    };
-    left_by(alloc, count.value(), action)
+const GAMMA: (u8, &str) = (b'l', "gamma");
+
+const FIVE: Option<Number> = Some(Number::Int32(5));
+
+const BAD_VALUE: Option<KitError> = Some(KitError::BadValue);
+
+const NO_TEAM: Option<KitError> = Some(KitError::NoTeam);
+
+const fn adding(amount: Number, name: &'static str) -> Told<'static> {
+    (b'+', 0, "", amount, (b'-', ""), name)
 }
 
-// The number of `count`, a property, and what is added to its first element, which is of another kind.
-static OTHER_KINDS: [(Number, &[u8], Number); 5] = [
-    (Number::Int8(1), b"count", Number::Int16(1)),
-    (Number::UInt32(1), b"count", Number::Int32(1)),
-    (Number::Int32(5), b"count", Number::Int64(1)),
-    (Number::UInt64(0), b"count", Number::Int64(0)),
-    (Number::Int32(5), b"title", Number::Int32(1)),
-];
+// What an action is called, the action, the property that is looked at then, and what is told.
+type Case = (&'static str, Told<'static>, &'static [u8], Left);
 
-#[test]
-fn a_sum_is_of_one_kind(rt: HostRuntime) -> Result<(), Fail> {
-    for &(count, name, amount) in &OTHER_KINDS {
-        let left = added(rt.alloc(), count, name, amount)?;
-        assert_eq!(rt; left, (Some(KitError::BadValue), None, Some(count), true));
+// A number is added to one of another kind, or to a text.
+fn sums() -> [Case; 5] {
+    let byte = Some(Number::Int8(1));
+    let ulong = Some(Number::UInt32(1));
+    let ullg = Some(Number::UInt64(0));
+    [
+        (
+            "a short to a byte",
+            adding(Number::Int16(1), "byte"),
+            b"byte",
+            (BAD_VALUE, None, byte, true),
+        ),
+        (
+            "a long to an unsigned one",
+            adding(Number::Int32(1), "ulong"),
+            b"ulong",
+            (BAD_VALUE, None, ulong, true),
+        ),
+        (
+            "a long long to a long",
+            adding(Number::Int64(1), "count"),
+            b"count",
+            (BAD_VALUE, None, FIVE, true),
+        ),
+        (
+            "0 to an unsigned 0",
+            adding(Number::Int64(0), "ullg"),
+            b"ullg",
+            (BAD_VALUE, None, ullg, true),
+        ),
+        (
+            "a long to a text",
+            adding(Number::Int32(1), "title"),
+            b"count",
+            (BAD_VALUE, None, FIVE, true),
+        ),
+    ]
+}
+
+// What an action names is not there.
+fn absences() -> [Case; 4] {
+    [
+        (
+            "set to the value of a property that is not there",
+            (b's', 0, "", NONE, (b'p', "absent"), "count"),
+            b"count",
+            (Some(KitError::NameNotFound), None, FIVE, true),
+        ),
+        (
+            "a reply with such a value",
+            (b'r', 21, "absent", NONE, (b'-', ""), ""),
+            b"count",
+            (Some(KitError::Ok), Some(0), FIVE, true),
+        ),
+        (
+            "a post to no looper",
+            (b'p', 21, "count", NONE, GAMMA, "back"),
+            b"count",
+            (NO_TEAM, None, FIVE, true),
+        ),
+        (
+            "an ask of no looper",
+            (b'a', 21, "count", NONE, GAMMA, "count"),
+            b"count",
+            (NO_TEAM, None, FIVE, true),
+        ),
+    ]
+}
+
+// The first one that is told otherwise: what it is called, what came, and what was to come.
+fn first_other(alloc: Global, cases: &[Case]) -> Result<Option<(&'static str, Left, Left)>, Fail> {
+    for (label, action, name, wanted) in cases {
+        let left = left_by(
+            alloc,
+            row_of(alloc, LINES)?,
+            action_of(alloc, action)?,
+            name,
+        )?;
+        if left != *wanted {
+            return Ok(Some((*label, left, *wanted)));
+        }
     }
-    Ok(())
-}
-
-// ---- what is not there
-fn copying(alloc: Global, name: &[u8]) -> Result<Template, Fail> {
-    giving(alloc, Given::Property(text(alloc, name)?))
-}
-
-// A message with one field, which gets this.
-fn giving(alloc: Global, given: Given) -> Result<Template, Fail> {
-    let mut fields = TemplateFields::new(alloc);
-    fields.add(TemplateField {
-        name: text(alloc, b"copy")?,
-        given,
-    })?;
-    Ok(Template {
-        what: Code(21),
-        fields,
-    })
-}
-
-fn set_from_nothing(alloc: Global) -> Result<Left, Fail> {
-    let action = Action::Set {
-        property: text(alloc, b"count")?,
-        value: Given::Property(text(alloc, b"absent")?),
-    };
-    left_by(alloc, Value::Int32(5), action)
-}
-
-fn reply_of_nothing(alloc: Global) -> Result<Left, Fail> {
-    let message = copying(alloc, b"absent")?;
-    left_by(alloc, Value::Int32(5), Action::Reply { message })
-}
-
-fn post_to_nobody(alloc: Global) -> Result<Left, Fail> {
-    let action = Action::Post {
-        to: Dest::Looper(text(alloc, b"gamma")?),
-        message: copying(alloc, b"count")?,
-        back: true,
-    };
-    left_by(alloc, Value::Int32(5), action)
-}
-
-fn ask_nobody(alloc: Global) -> Result<Left, Fail> {
-    let action = Action::Ask {
-        to: Dest::Looper(text(alloc, b"gamma")?),
-        message: copying(alloc, b"count")?,
-        into: Some(text(alloc, b"count")?),
-    };
-    left_by(alloc, Value::Int32(5), action)
-}
-
-fn left_by_nothing(alloc: Global) -> Result<[Left; 4], Fail> {
-    Ok([
-        set_from_nothing(alloc)?,
-        reply_of_nothing(alloc)?,
-        post_to_nobody(alloc)?,
-        ask_nobody(alloc)?,
-    ])
-}
-
-#[test]
-fn what_is_not_there_is_told_or_left_out(rt: HostRuntime) -> Result<(), Fail> {
-    let five = Some(Number::Int32(5));
-    let told: [Left; 4] = [
-        (Some(KitError::NameNotFound), None, five, true),
-        (Some(KitError::Ok), Some(0), five, true),
-        (Some(KitError::NoTeam), None, five, true),
-        (Some(KitError::NoTeam), None, five, true),
-    ];
-    assert_eq!(rt; left_by_nothing(rt.alloc())?, told);
-    Ok(())
+    Ok(None)
 }
 
 // ---- the reply to an ask
@@ -254,53 +248,47 @@ fn asked(alloc: Global, state: &mut DeskState, reply: &Message) -> Result<Acted,
     ended(interp, state)
 }
 
+const ASKS_BETA: Told<'static> = (b'a', 21, "count", NONE, (b'l', "beta"), "absent");
+
 // What `count` is, and whether the list went on, where the result is to become the value of a property that
 // is not there.
 fn result_into_nothing(alloc: Global) -> Result<(Option<Number>, bool), Fail> {
-    let action = Action::Ask {
-        to: Dest::Looper(text(alloc, b"beta")?),
-        message: copying(alloc, b"count")?,
-        into: Some(text(alloc, b"absent")?),
-    };
-    let mut state = desk(alloc, Value::Int32(5), action)?;
+    let action = action_of(alloc, &ASKS_BETA)?;
+    let mut state = state_with(alloc, row_of(alloc, LINES)?, action)?;
     let mut reply = Message::new(alloc, Code(9));
     reply.add(b"result", Value::Int32(30))?;
     let acted = asked(alloc, &mut state, &reply)?;
-    Ok((count_of(&state), acted.quit))
-}
-
-#[test]
-fn a_result_for_no_property_changes_none(rt: HostRuntime) -> Result<(), Fail> {
-    let told = (Some(Number::Int32(5)), true);
-    assert_eq!(rt; result_into_nothing(rt.alloc())?, told);
-    Ok(())
+    Ok((number_of(&state, b"count"), acted.quit))
 }
 
 // ---- a property of messages
-// Messages stand in one another, so many deep.
-fn nested(alloc: Global, depth: u32) -> Result<Value, Fail> {
-    let mut message = Message::new(alloc, Code(1));
-    for _ in 1..depth {
-        let inner = Value::from_message(alloc, message)?;
-        message = Message::new(alloc, Code(1));
-        message.add(b"in", inner)?;
-    }
-    Ok(Value::from_message(alloc, message)?)
+fn alone(alloc: Global, value: Value) -> Result<ElementsList, Fail> {
+    let kind = value.kind();
+    let mut list = Vec::new(alloc);
+    list.push((text(alloc, b"")?, value))?;
+    let mut elements = Vec::new(alloc);
+    elements.push(Elements::new(alloc, kind, list)?)?;
+    Ok(ElementsList::from_vec(elements))
 }
+
+const REPLIES: Told<'static> = (b'r', 21, "count", NONE, (b'-', ""), "");
 
 // How many fields a reply has where the property to be copied is a message so deep.
 fn names_copied(alloc: Global, depth: u32) -> Result<Option<u32>, Fail> {
-    let message = copying(alloc, b"count")?;
-    let left = left_by(alloc, nested(alloc, depth)?, Action::Reply { message })?;
-    Ok(left.1)
+    let elements = alone(alloc, deep(alloc, depth)?)?;
+    let row = DeskRow {
+        elements,
+        ..row_of(alloc, LINES)?
+    };
+    Ok(left_by(alloc, row, action_of(alloc, &REPLIES)?, b"count")?.1)
 }
 
 // How many fields a reply has whose only one is given a message so deep.
 fn names_given(alloc: Global, depth: u32) -> Result<Option<u32>, Fail> {
-    let values = Values::alone(alloc, nested(alloc, depth)?)?;
-    let message = giving(alloc, Given::Values(values))?;
-    let left = left_by(alloc, Value::Int32(5), Action::Reply { message })?;
-    Ok(left.1)
+    let values = Values::alone(alloc, deep(alloc, depth)?)?;
+    let message = giving(alloc, 21, Given::Values(values))?;
+    let row = row_of(alloc, LINES)?;
+    Ok(left_by(alloc, row, Action::Reply { message }, b"count")?.1)
 }
 
 fn names_left(alloc: Global) -> Result<[Option<u32>; 4], Fail> {
@@ -312,12 +300,33 @@ fn names_left(alloc: Global) -> Result<[Option<u32>; 4], Fail> {
     ])
 }
 
-// A value that no message can hold is left out.
 #[test]
-fn a_template_leaves_out_what_is_too_deep(rt: HostRuntime) -> Result<(), Fail> {
-    assert_eq!(rt;
-        names_left(rt.alloc())?,
-        [Some(1), Some(0), Some(1), Some(0)]
+fn actions_come_to_what_the_rules_say(rt: HostRuntime) -> Result<(), Fail> {
+    let alloc = rt.alloc();
+    same(
+        &rt,
+        "a sum is of one kind",
+        first_other(alloc, &sums())?,
+        None,
+    );
+    same(
+        &rt,
+        "what is not there is told or left out",
+        first_other(alloc, &absences())?,
+        None,
+    );
+    same(
+        &rt,
+        "a result for no property changes none",
+        result_into_nothing(alloc)?,
+        (FIVE, true),
+    );
+    let left = [Some(1), Some(0), Some(1), Some(0)];
+    same(
+        &rt,
+        "a template leaves out what is too deep",
+        names_left(alloc)?,
+        left,
     );
     Ok(())
 }

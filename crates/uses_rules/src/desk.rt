@@ -3,11 +3,9 @@
 ghost use Rattle.std.specs.Prelude.{◌≡◌, ◌<◌, ◌^◌, IsTrue, IfOk, IfSome};
 ghost use Rattle.ak_desk.specs.Desk.{opened, stamp_in};
 
-use ak_action::LooperPlan;
+use crate::parts::plan_of;
 use ak_base::Items;
-use ak_describe::read_description;
 use ak_desk::Desk;
-use ak_message::split_lines;
 use ak_turn::{Book, Clock};
 use std::alloc::Global;
 use std::test::Fail;
@@ -30,20 +28,12 @@ set Count 8
 handler side
 ";
 
-fn plan(alloc: Global) -> Result<LooperPlan, Fail> {
-    let lines = split_lines(alloc, TEXT)?;
-    let apps = read_description(alloc, lines.lines.as_slice())?;
-    let app = apps.into_iter().next().ok_or("no application")?;
-    let plan = app.loopers.into_vec().into_iter().next();
-    Ok(plan.ok_or("no looper")?)
-}
-
 // The desk of that looper, the only one of its application, with number 3.
 fn unused(alloc: Global) -> Result<Desk, Fail>
     ensures opened { IfOk result (λ d. d ≡ opened d.opening) }
     ensures looper { IfOk result (λ d. d.opening.looper ≡ 3) }
 {
-    let plan = plan(alloc)?;
+    let plan = plan_of(alloc, TEXT)?;
     let mut names = Vec::with_capacity(alloc, 1)?;
     names.push(plan.parts().name.try_clone()?)?;
     if !plan.knows_loopers(&names) {

@@ -6,8 +6,12 @@
 #[cfg(test)]
 mod actions;
 #[cfg(test)]
+mod compare;
+#[cfg(test)]
 mod desk;
 #[cfg(test)]
 mod lists;
+#[cfg(test)]
+mod parts;
 #[cfg(test)]
 mod plans;

@@ -1,149 +1,46 @@
 //! What the parts of a looper's description hold, their copies, and which fault is answered at their limits.
 
-ghost use Rattle.std.specs.Prelude.{◌≤◌, length, IfOk};
-
+use crate::actions::state_with;
+use crate::compare::same;
+use crate::parts::{Gives, NONE, Told, actions_of, deep, gives, row_of, template, text, told};
 use ak_action::Number::{Int8, Int16, Int32, Int64, UInt8, UInt16, UInt32, UInt64};
 use ak_action::{
-    Action, ActionList, DeskRow, DeskState, Dest, ElementsList, Given, Number, Reaction,
-    ReactionList, Template, TemplateFault, TemplateField, TemplateFields, Values, ValuesFault,
+    Action, ActionList, DeskRow, ElementsList, Given, Number, Reaction, ReactionList,
+    TemplateFault, TemplateField, TemplateFields, Values, ValuesFault,
 };
-use ak_base::{AppWord, Code, Items, Text};
-use ak_filter::FilterList;
-use ak_handler::HandlerSet;
+use ak_base::Code;
 use ak_message::{AtRef, Kind, Message, Value};
-use ak_property::{HandlerRow, PropertyRow, PropertyTable};
-use ak_value::{ElementFault, Elements};
+use ak_property::HandlerRow;
+use ak_value::ElementFault;
 use std::alloc::Global;
 use std::test::Fail;
 
-fn text(alloc: Global, bytes: &[u8]) -> Result<Text, Fail> {
-    Ok(Text::from_bytes(alloc, bytes)?)
-}
-
 // ---- actions
-fn bare(alloc: Global, what: u32) -> Template {
-    Template {
-        what: Code(what),
-        fields: TemplateFields::new(alloc),
-    }
-}
-
 // One of each kind, and of each kind of destination.
-fn one_of_each(alloc: Global) -> Result<ActionList, Fail> {
-    let mut list = ActionList::new(alloc);
-    list.push(Action::Reply {
-        message: bare(alloc, 1),
-    })?;
-    list.push(Action::Post {
-        to: Dest::Own,
-        message: bare(alloc, 2),
-        back: true,
-    })?;
-    list.push(Action::Post {
-        to: Dest::Handler(text(alloc, b"side")?),
-        message: bare(alloc, 3),
-        back: false,
-    })?;
-    list.push(Action::Ask {
-        to: Dest::Looper(text(alloc, b"list")?),
-        message: bare(alloc, 4),
-        into: Some(text(alloc, b"Count")?),
-    })?;
-    list.push(Action::Ask {
-        to: Dest::App(AppWord::Path(text(alloc, b"/boot/demo")?)),
-        message: bare(alloc, 5),
-        into: None,
-    })?;
-    list.push(Action::Set {
-        property: text(alloc, b"Title")?,
-        value: Given::Field(text(alloc, b"title")?),
-    })?;
-    list.push(Action::Add {
-        property: text(alloc, b"Count")?,
-        amount: Int32(-1),
-    })?;
-    list.push(Action::Stop)?;
-    list.push(Action::Quit)?;
-    Ok(list)
-}
-
-fn dest(dest: &Dest) -> (u8, &str) {
-    match dest {
-        Dest::Own => (b'o', ""),
-        Dest::Looper(name) => (b'l', name.as_str()),
-        Dest::Handler(name) => (b'h', name.as_str()),
-        Dest::App(AppWord::Path(path)) => (b'a', path.as_str()),
-        Dest::App(_) => (b'?', ""),
-    }
-}
-
-// What it is given: a letter of the form, and the name or how many values.
-fn given(given: &Given) -> (u8, &str, usize) {
-    match given {
-        Given::Values(values) => (b'v', "", values.as_slice().len()),
-        Given::Field(name) => (b'f', name.as_str(), 0),
-        Given::Property(name) => (b'p', name.as_str(), 0),
-    }
-}
-
-// An action in plain data: a letter, the code of its message or a number, where it goes or what it gives, and a
-// name.
-type Told<'a> = (u8, i64, (u8, &'a str), &'a str);
-
-fn told(action: &Action) -> Told<'_> {
-    match action {
-        Action::Reply { message } => (b'r', i64::from(message.what.0), (b'-', ""), ""),
-        Action::Post { to, message, back } => (
-            b'p',
-            i64::from(message.what.0),
-            dest(to),
-            if *back { "back" } else { "" },
-        ),
-        Action::Ask { to, message, into } => (
-            b'a',
-            i64::from(message.what.0),
-            dest(to),
-            into.as_ref().map_or("", |name| name.as_str()),
-        ),
-        Action::Set { property, value } => {
-            let (form, name, _) = given(value);
-            (b's', 0, (form, name), property.as_str())
-        }
-        Action::Add { property, amount } => (
-            b'+',
-            if *amount == Int32(-1) { -1 } else { 0 },
-            (b'-', ""),
-            property.as_str(),
-        ),
-        Action::Stop => (b'd', 0, (b'-', ""), ""),
-        Action::Quit => (b'q', 0, (b'-', ""), ""),
-    }
-}
-
 static EACH: [Told<'static>; 9] = [
-    (b'r', 1, (b'-', ""), ""),
-    (b'p', 2, (b'o', ""), "back"),
-    (b'p', 3, (b'h', "side"), ""),
-    (b'a', 4, (b'l', "list"), "Count"),
-    (b'a', 5, (b'a', "/boot/demo"), ""),
-    (b's', 0, (b'f', "title"), "Title"),
-    (b'+', -1, (b'-', ""), "Count"),
-    (b'd', 0, (b'-', ""), ""),
-    (b'q', 0, (b'-', ""), ""),
+    (b'r', 1, "", NONE, (b'-', ""), ""),
+    (b'p', 2, "", NONE, (b'o', ""), "back"),
+    (b'p', 3, "", NONE, (b'h', "side"), ""),
+    (b'a', 4, "", NONE, (b'l', "list"), "Count"),
+    (b'a', 5, "", NONE, (b'a', "/boot/demo"), ""),
+    (b's', 0, "", NONE, (b'f', "title"), "Title"),
+    (b'+', 0, "", Int32(-1), (b'-', ""), "Count"),
+    (b'd', 0, "", NONE, (b'-', ""), ""),
+    (b'q', 0, "", NONE, (b'-', ""), ""),
 ];
 
 fn are_each(list: &ActionList) -> bool {
+    for (action, each) in list.as_slice().iter().zip(&EACH) {
+        if told(action) != *each {
+            return false;
+        }
+    }
     list.as_slice().len() == EACH.len()
-        && list
-            .as_slice()
-            .iter()
-            .zip(&EACH)
-            .all(|(action, each)| told(action) == *each)
 }
 
-// Of the actions, and of those of the copy of a list of reactions on one code.
-fn copies(alloc: Global) -> Result<([bool; 2], usize, Option<Code>), Fail> {
-    let actions = one_of_each(alloc)?;
+// Whether they are those actions, and those of the copy of a list of reactions on one code, and that code.
+fn copies(alloc: Global) -> Result<([bool; 2], Code), Fail> {
+    let actions = actions_of(alloc, &EACH)?;
     let first = are_each(&actions);
     let mut reactions = ReactionList::new(alloc);
     reactions.push(Reaction {
@@ -151,33 +48,14 @@ fn copies(alloc: Global) -> Result<([bool; 2], usize, Option<Code>), Fail> {
         actions,
     })?;
     let copy = reactions.try_clone()?;
-    let reaction = copy.as_slice().first();
-    Ok((
-        [first, reaction.is_some_and(|r| are_each(&r.actions))],
-        copy.as_slice().len(),
-        reaction.map(|r| r.what),
-    ))
-}
-
-#[test]
-fn copies_have_each_part(rt: HostRuntime) -> Result<(), Fail> {
-    assert_eq!(rt; copies(rt.alloc())?, ([true; 2], 1, Some(Code::GET)));
-    Ok(())
+    match copy.as_slice() {
+        [only] => Ok(([first, are_each(&only.actions)], only.what)),
+        _ => Err(Fail::new("there is not one reaction")),
+    }
 }
 
 // ---- the values of a field
-// A message in which messages stand so deep, itself counted.
-fn deep(alloc: Global, depth: u32) -> Result<Value, Fail> {
-    let mut message = Message::new(alloc, Code(1));
-    for _ in 1..depth {
-        let mut outer = Message::new(alloc, Code(1));
-        outer.add(b"m", Value::from_message(alloc, message)?)?;
-        message = outer;
-    }
-    Ok(Value::from_message(alloc, message)?)
-}
-
-// 255 messages that are 15 deep.
+// 255 messages, the first one 15 deep.
 fn full(alloc: Global) -> Result<Values, Fail> {
     let mut values = Values::one(alloc, deep(alloc, 15)?)?;
     for _ in 1..255 {
@@ -186,209 +64,131 @@ fn full(alloc: Global) -> Result<Values, Fail> {
     Ok(values)
 }
 
-// What a value that is too deep is refused for: alone, beside another one, beside one of another kind, and
-// beside as many as there can be; and one of another kind beside those. Then, beside one that is too deep
-// itself and was taken alone, another such one, and one that is not.
-fn value_faults(alloc: Global) -> Result<[Option<ValuesFault>; 8], Fail> {
+// What a message so deep is refused for.
+fn refused(alloc: Global, values: &mut Values, depth: u32) -> Result<Option<ValuesFault>, Fail> {
+    Ok(values.push(deep(alloc, depth)?).err())
+}
+
+// What a value that is too deep is refused for: alone, beside another one, beside one of another kind; and one
+// that is not, beside another one. Then, beside one that is too deep itself and was taken alone, another such one,
+// and one that is not.
+fn depth_faults(alloc: Global) -> Result<[Option<ValuesFault>; 6], Fail> {
     let mut values = Values::one(alloc, deep(alloc, 15)?)?;
     let mut other = Values::one(alloc, Value::Bool(true))?;
-    let mut full = full(alloc)?;
     let mut alone = Values::alone(alloc, deep(alloc, 16)?)?;
     Ok([
         Values::one(alloc, deep(alloc, 16)?).err(),
-        values.push(deep(alloc, 16)?).err(),
-        other.push(deep(alloc, 16)?).err(),
-        full.push(deep(alloc, 16)?).err(),
-        full.push(Value::Bool(true)).err(),
-        values.push(deep(alloc, 15)?).err(),
-        alone.push(deep(alloc, 16)?).err(),
-        alone.push(deep(alloc, 15)?).err(),
+        refused(alloc, &mut values, 16)?,
+        refused(alloc, &mut other, 16)?,
+        refused(alloc, &mut values, 15)?,
+        refused(alloc, &mut alone, 16)?,
+        refused(alloc, &mut alone, 15)?,
     ])
 }
 
-fn lengths(alloc: Global) -> Result<([usize; 2], [Kind; 2]), Fail> {
+// What is refused beside as many as there can be: one that is too deep, one of another kind, and one like them; and
+// how many these and their copies are, and of which kinds.
+fn limits(alloc: Global) -> Result<([Option<ValuesFault>; 3], [(usize, Kind); 2]), Fail> {
     let mut full = full(alloc)?;
-    if full.push(deep(alloc, 1)?).is_ok() {
-        return Err(Fail::new("there is no limit"));
-    }
-    let copy = full.try_clone()?;
-    Ok((
-        [full.as_slice().len(), copy.as_slice().len()],
-        [full.kind(), copy.kind()],
-    ))
-}
-
-#[test]
-fn kinds_are_tested_before_how_many_and_that_before_depth(rt: HostRuntime) -> Result<(), Fail> {
-    let wanted = [
-        Some(ValuesFault::TooDeep),
-        Some(ValuesFault::TooDeep),
-        Some(ValuesFault::BadType),
-        Some(ValuesFault::ValueLimit),
-        Some(ValuesFault::BadType),
-        None,
-        Some(ValuesFault::TooDeep),
-        None,
+    let faults = [
+        refused(alloc, &mut full, 16)?,
+        full.push(Value::Bool(true)).err(),
+        refused(alloc, &mut full, 1)?,
     ];
-    assert_eq!(rt; value_faults(rt.alloc())?, wanted);
-    assert_eq!(rt; lengths(rt.alloc())?, ([255; 2], [Kind::Message; 2]));
-    Ok(())
+    let copy = full.try_clone()?;
+    let told = [
+        (full.as_slice().len(), full.kind()),
+        (copy.as_slice().len(), copy.kind()),
+    ];
+    Ok((faults, told))
 }
 
 // ---- the fields of a template
-fn field(alloc: Global, name: &[u8]) -> Result<TemplateField, Fail> {
-    Ok(TemplateField {
+fn add(
+    alloc: Global,
+    fields: &mut TemplateFields,
+    name: &[u8],
+) -> Result<Option<TemplateFault>, Fail> {
+    let field = TemplateField {
         name: text(alloc, name)?,
         given: Given::Field(text(alloc, b"x")?),
-    })
+    };
+    Ok(fields.add(field).err())
 }
 
 // 64 fields with two letters as their names, the first one `aa`.
 fn full_template(alloc: Global) -> Result<TemplateFields, Fail> {
     let mut fields = TemplateFields::new(alloc);
     for i in 0..64 {
-        fields.add(field(alloc, &[b'a' + i / 8, b'a' + i % 8])?)?;
+        if add(alloc, &mut fields, &[b'a' + i / 8, b'a' + i % 8])?.is_some() {
+            return Err(Fail::new("a field is refused"));
+        }
     }
     Ok(fields)
 }
 
-fn refused(
-    alloc: Global,
-    fields: &mut TemplateFields,
-    name: &[u8],
-) -> Result<Option<TemplateFault>, Fail> {
-    Ok(fields.add(field(alloc, name)?).err())
-}
+// Names are tested before how many fields there are.
+static NAMES: [&[u8]; 6] = [b"more", b"aa", b"hh", b"", b"two words", &[b'n'; 65]];
 
-fn field_faults(alloc: Global) -> Result<([Option<TemplateFault>; 6], usize), Fail> {
+const NAME_FAULTS: [Option<TemplateFault>; 6] = [
+    Some(TemplateFault::FieldLimit),
+    Some(TemplateFault::NameInUse),
+    Some(TemplateFault::NameInUse),
+    Some(TemplateFault::BadName),
+    Some(TemplateFault::BadName),
+    Some(TemplateFault::BadName),
+];
+
+fn name_faults(alloc: Global) -> Result<([Option<TemplateFault>; 6], usize), Fail> {
     let mut fields = full_template(alloc)?;
-    let faults = [
-        refused(alloc, &mut fields, b"more")?,
-        refused(alloc, &mut fields, b"aa")?,
-        refused(alloc, &mut fields, b"hh")?,
-        refused(alloc, &mut fields, b"")?,
-        refused(alloc, &mut fields, b"two words")?,
-        refused(alloc, &mut fields, &[b'n'; 65])?,
-    ];
+    let mut faults = [None; 6];
+    for (fault, name) in faults.iter_mut().zip(&NAMES) {
+        *fault = add(alloc, &mut fields, name)?;
+    }
     Ok((faults, fields.as_slice().len()))
 }
 
-#[test]
-fn names_are_tested_before_how_many_fields(rt: HostRuntime) -> Result<(), Fail> {
-    let wanted = [
-        Some(TemplateFault::FieldLimit),
-        Some(TemplateFault::NameInUse),
-        Some(TemplateFault::NameInUse),
-        Some(TemplateFault::BadName),
-        Some(TemplateFault::BadName),
-        Some(TemplateFault::BadName),
-    ];
-    assert_eq!(rt; field_faults(rt.alloc())?, (wanted, 64));
-    Ok(())
-}
-
-fn add(alloc: Global, template: &mut Template, name: &[u8], given: Given) -> Result<(), Fail> {
-    template.fields.add(TemplateField {
-        name: text(alloc, name)?,
-        given,
-    })?;
-    Ok(())
-}
-
-fn template(alloc: Global) -> Result<Template, Fail> {
-    let mut values = Values::one(alloc, Value::Int8(1))?;
-    values.push(Value::Int8(2))?;
-    let mut template = bare(alloc, 7);
-    add(alloc, &mut template, b"a", Given::Values(values))?;
-    add(
-        alloc,
-        &mut template,
-        b"b",
-        Given::Field(text(alloc, b"from")?),
-    )?;
-    add(
-        alloc,
-        &mut template,
-        b"c",
-        Given::Property(text(alloc, b"of")?),
-    )?;
-    Ok(template)
-}
-
-static FIELDS: [(&str, (u8, &str, usize)); 3] = [
+static FIELDS: [(&str, Gives<'static>); 3] = [
     ("a", (b'v', "", 2)),
     ("b", (b'f', "from", 0)),
     ("c", (b'p', "of", 0)),
 ];
 
-fn is_copied(alloc: Global) -> Result<bool, Fail> {
-    let copy = template(alloc)?.try_clone()?;
-    let fields = copy.fields.as_slice();
-    Ok(
-        copy.what == Code(7)
-            && fields.len() == 3
-            && fields.iter().zip(&FIELDS).all(|(field, told)| (
-                field.name.as_str(),
-                given(&field.given),
-            ) == *told),
-    )
+fn are_these(fields: &[TemplateField]) -> bool {
+    for (field, told) in fields.iter().zip(&FIELDS) {
+        if (field.name.as_str(), gives(&field.given)) != *told {
+            return false;
+        }
+    }
+    fields.len() == FIELDS.len()
 }
 
-#[test]
-fn a_template_is_copied(rt: HostRuntime) -> Result<(), Fail> {
-    assert_eq!(rt; is_copied(rt.alloc())?, true);
-    Ok(())
+// The code of a copy, and whether it has these fields.
+fn copied_template(alloc: Global) -> Result<(Code, bool), Fail> {
+    let copy = template(alloc, 7, &FIELDS)?.try_clone()?;
+    Ok((copy.what, are_these(copy.fields.as_slice())))
 }
 
 // ---- what a handler holds
-fn property(alloc: Global, name: &[u8]) -> Result<PropertyRow, Fail> {
-    Ok(PropertyRow {
-        name: text(alloc, name)?,
-        kind: Kind::Int32,
-        commands: Items::from_vec(Vec::new(alloc)),
-        forms: Items::from_vec(Vec::new(alloc)),
-        usage: text(alloc, b"")?,
-    })
-}
+// The property `one` with 10 and 20, and `two` without elements.
+const LINES: &[u8] = b"app /boot/Demo application/x-demo single
+looper list
+property one LONG
+element 10
+element 20 name \"b\"
+property two LONG
+on 0x00000007
+on 0x00000008
+";
 
-fn table(alloc: Global) -> Result<PropertyTable, Fail> {
-    let mut table = PropertyTable::new(alloc);
-    table.add_row(property(alloc, b"one")?)?;
-    table.add_row(property(alloc, b"two")?)?;
-    Ok(table)
-}
-
-fn reactions(alloc: Global) -> Result<ReactionList, Fail> {
-    let mut reactions = ReactionList::new(alloc);
-    for what in [7, 8, 7] {
-        reactions.push(Reaction {
-            what: Code(what),
-            actions: ActionList::new(alloc),
-        })?;
-    }
-    Ok(reactions)
-}
-
-// The elements 10 and 20, and the elements of a property that has none.
-fn two_and_none(alloc: Global) -> Result<ElementsList, Fail> {
-    let mut two = Vec::new(alloc);
-    two.push((text(alloc, b"")?, Value::Int32(10)))?;
-    two.push((text(alloc, b"b")?, Value::Int32(20)))?;
-    let mut list = Vec::new(alloc);
-    list.push(Elements::new(alloc, Kind::Int32, two)?)?;
-    list.push(Elements::new(alloc, Kind::Int32, Vec::new(alloc))?)?;
-    Ok(ElementsList::from_vec(list))
-}
-
-// The properties `one` and `two`, and reactions on the codes 7, 8 and 7.
+// With reactions on the codes 7, 8 and 7.
 fn described(alloc: Global) -> Result<DeskRow, Fail> {
-    Ok(DeskRow {
-        suites: Items::from_vec(Vec::new(alloc)),
-        table: table(alloc)?,
-        elements: two_and_none(alloc)?,
-        filters: FilterList::new(alloc),
-        reactions: reactions(alloc)?,
-    })
+    let mut row = row_of(alloc, LINES)?;
+    row.reactions.push(Reaction {
+        what: Code(7),
+        actions: ActionList::new(alloc),
+    })?;
+    Ok(row)
 }
 
 fn number_in(value: Option<&Value>) -> Option<i32> {
@@ -420,61 +220,35 @@ fn found(row: &DeskRow) -> Found {
     )
 }
 
+// In that row, and in an empty one.
 fn all_found(alloc: Global) -> Result<[Found; 2], Fail> {
     Ok([found(&described(alloc)?), found(&DeskRow::empty(alloc))])
 }
 
-#[test]
-fn the_first_of_a_name_or_a_code_is_found(rt: HostRuntime) -> Result<(), Fail> {
-    let wanted: [Found; 2] = [
-        (
-            [Some(0), Some(1), None],
-            [Some(10), None],
-            [Some(0), Some(1), None],
-        ),
-        ([None; 3], [None; 2], [None; 3]),
-    ];
-    assert_eq!(rt; all_found(rt.alloc())?, wanted);
-    Ok(())
-}
+const FOUND: Found = (
+    [Some(0), Some(1), None],
+    [Some(10), None],
+    [Some(0), Some(1), None],
+);
+
+const NOT_FOUND: Found = ([None; 3], [None; 2], [None; 3]);
 
 // ---- loopers by their names
-fn names(alloc: Global) -> Result<Items<Text>, Fail>
-    ensures { IfOk result (λ names. length names ≤ 8) }
-{
-    let mut names = Vec::new(alloc);
-    names.push(text(alloc, b"own")?)?;
-    names.push(text(alloc, b"list")?)?;
-    Ok(Items::from_vec(names))
-}
-
 fn loopers(alloc: Global) -> Result<[Option<u32>; 4], Fail> {
-    let state = DeskState {
-        looper: 4,
-        team: 2,
-        first: 3,
-        names: names(alloc)?,
-        quit_refused: false,
-        handlers: HandlerSet::new(alloc, text(alloc, b"list")?, DeskRow::empty(alloc))?,
-        common: FilterList::new(alloc),
-    };
+    let state = state_with(alloc, DeskRow::empty(alloc), Action::Quit)?;
     Ok([
-        state.looper_named(b"own"),
-        state.looper_named(b"list"),
-        state.looper_named(b"lis"),
+        state.looper_named(b"alpha"),
+        state.looper_named(b"beta"),
+        state.looper_named(b"bet"),
         state.looper_named(b""),
     ])
 }
 
-#[test]
-fn loopers_are_named(rt: HostRuntime) -> Result<(), Fail> {
-    assert_eq!(rt; loopers(rt.alloc())?, [Some(3), Some(4), None, None]);
-    Ok(())
-}
-
 // ---- the elements of properties
 // The first elements at the places 0, 1 and 2.
-fn firsts(list: &ElementsList) -> [Option<i32>; 3] {
+type Firsts = [Option<i32>; 3];
+
+fn firsts(list: &ElementsList) -> Firsts {
     [
         number_in(list.first_at(0)),
         number_in(list.first_at(1)),
@@ -482,49 +256,76 @@ fn firsts(list: &ElementsList) -> [Option<i32>; 3] {
     ]
 }
 
-fn reply(alloc: Global, name: &[u8], value: Value) -> Result<Message, Fail> {
-    let mut reply = Message::new(alloc, Code::REPLY);
-    reply.add(name, value)?;
-    Ok(reply)
-}
+const TEN: Firsts = [Some(10), None, None];
 
-// They are set, of another kind, where none is, and where there is no such place; and set from replies.
-fn set_firsts(alloc: Global) -> Result<[[Option<i32>; 3]; 6], Fail> {
-    let mut list = two_and_none(alloc)?;
-    let first = firsts(&list);
-    list.set_first_at(0, Value::Int16(11));
-    list.set_first_at(1, Value::Int32(11));
-    list.set_first_at(2, Value::Int32(11));
-    let second = firsts(&list);
-    list.set_first_at(0, Value::Int32(11));
-    let third = firsts(&list);
-    let copy = list.try_clone()?;
-    list.take_result_at(0, reply(alloc, b"result", Value::Int8(7))?);
-    list.take_result_at(0, reply(alloc, b"data", Value::Int32(7))?);
-    list.take_result_at(1, reply(alloc, b"result", Value::Int32(7))?);
-    list.take_result_at(2, reply(alloc, b"result", Value::Int32(7))?);
-    let fourth = firsts(&list);
-    list.take_result_at(0, reply(alloc, b"result", Value::Int32(5))?);
-    Ok([first, second, third, fourth, firsts(&list), firsts(&copy)])
-}
+const ELEVEN: Firsts = [Some(11), None, None];
 
-#[test]
-fn the_first_element_is_read_and_set(rt: HostRuntime) -> Result<(), Fail> {
-    let ten = [Some(10), None, None];
-    let eleven = [Some(11), None, None];
-    let wanted = [ten, ten, eleven, eleven, [Some(5), None, None], eleven];
-    assert_eq!(rt; set_firsts(rt.alloc())?, wanted);
+// What is set as the first element at a place, by itself or, with a name, as the field of a reply, and the first elements
+// then: of another kind, where none is, and where there is no such place nothing changes.
+static STEPS: [(usize, &[u8], Number, Firsts); 9] = [
+    (0, b"", Int16(11), TEN),
+    (1, b"", Int32(11), TEN),
+    (2, b"", Int32(11), TEN),
+    (0, b"", Int32(11), ELEVEN),
+    (0, b"result", Int8(7), ELEVEN),
+    (0, b"data", Int32(7), ELEVEN),
+    (1, b"result", Int32(7), ELEVEN),
+    (2, b"result", Int32(7), ELEVEN),
+    (0, b"result", Int32(5), [Some(5), None, None]),
+];
+
+fn set(
+    alloc: Global,
+    list: &mut ElementsList,
+    place: usize,
+    name: &[u8],
+    number: Number,
+) -> Result<(), Fail> {
+    if name.is_empty() {
+        list.set_first_at(place, number.value());
+    } else {
+        let mut reply = Message::new(alloc, Code::REPLY);
+        reply.add(name, number.value())?;
+        list.take_result_at(place, reply);
+    }
     Ok(())
 }
 
-// The first number that the command answers, and how many there are.
+// The first step that is told otherwise: its place, what came, and what was to come.
+fn first_step(
+    alloc: Global,
+    list: &mut ElementsList,
+) -> Result<Option<(usize, Firsts, Firsts)>, Fail> {
+    for (step, &(place, name, number, wanted)) in STEPS.iter().enumerate() {
+        set(alloc, list, place, name, number)?;
+        let came = firsts(list);
+        if came != wanted {
+            return Ok(Some((step, came, wanted)));
+        }
+    }
+    Ok(None)
+}
+
+// The first elements before the steps, the first step that is told otherwise, and those of a copy that was made before.
+type Set = (Firsts, Option<(usize, Firsts, Firsts)>, Firsts);
+
+fn set_firsts(alloc: Global) -> Result<Set, Fail> {
+    let mut list = row_of(alloc, LINES)?.elements;
+    let copy = list.try_clone()?;
+    let before = firsts(&list);
+    Ok((before, first_step(alloc, &mut list)?, firsts(&copy)))
+}
+
+// The first number that a command answers, and how many there are.
+type Answered = Result<(Option<i32>, usize), ElementFault>;
+
 fn answered(
     list: &mut ElementsList,
     place: usize,
     what: Code,
     at: AtRef<'_>,
     m: &Message,
-) -> Result<(Option<i32>, usize), ElementFault> {
+) -> Answered {
     match list.access_at(place, what, at, m)? {
         Some(values) => Ok((
             number_in(values.as_slice().first()),
@@ -534,46 +335,43 @@ fn answered(
     }
 }
 
-type Answered = Result<(Option<i32>, usize), ElementFault>;
-
-fn commands(alloc: Global) -> Result<[Answered; 6], Fail> {
-    let mut list = two_and_none(alloc)?;
-    let m = reply(alloc, b"data", Value::Int32(7))?;
-    Ok([
-        answered(&mut list, 0, Code::COUNT, AtRef::Direct, &m),
-        answered(&mut list, 1, Code::COUNT, AtRef::Direct, &m),
-        answered(&mut list, 2, Code::COUNT, AtRef::Direct, &m),
-        answered(&mut list, 2, Code::GET, AtRef::Index(0), &m),
-        answered(&mut list, 0, Code::SET, AtRef::Index(1), &m),
-        answered(&mut list, 0, Code::GET, AtRef::Index(1), &m),
-    ])
+fn form_of(index: Option<i32>) -> AtRef<'static> {
+    match index {
+        Some(index) => AtRef::Index(index),
+        None => AtRef::Direct,
+    }
 }
 
-#[test]
-fn commands_go_to_the_property_at_their_place(rt: HostRuntime) -> Result<(), Fail> {
-    let wanted: [Answered; 6] = [
-        Ok((Some(2), 1)),
-        Ok((Some(0), 1)),
-        Err(ElementFault::BadScript),
-        Err(ElementFault::BadScript),
-        Ok((None, 0)),
-        Ok((Some(7), 1)),
-    ];
-    assert_eq!(rt; commands(rt.alloc())?, wanted);
-    Ok(())
+// The place of a property, a command, the index that it names if any, and the answer.
+static COMMANDS: [(usize, Code, Option<i32>, Answered); 6] = [
+    (0, Code::COUNT, None, Ok((Some(2), 1))),
+    (1, Code::COUNT, None, Ok((Some(0), 1))),
+    (2, Code::COUNT, None, Err(ElementFault::BadScript)),
+    (2, Code::GET, Some(0), Err(ElementFault::BadScript)),
+    (0, Code::SET, Some(1), Ok((None, 0))),
+    (0, Code::GET, Some(1), Ok((Some(7), 1))),
+];
+
+// The first command that is answered otherwise: its place, what came, and what was to come.
+fn first_command(alloc: Global) -> Result<Option<(usize, Answered, Answered)>, Fail> {
+    let mut list = row_of(alloc, LINES)?.elements;
+    let mut m = Message::new(alloc, Code::SET);
+    m.add(b"data", Value::Int32(7))?;
+    for (row, &(place, what, index, wanted)) in COMMANDS.iter().enumerate() {
+        let came = answered(&mut list, place, what, form_of(index), &m);
+        if came != wanted {
+            return Ok(Some((row, came, wanted)));
+        }
+    }
+    Ok(None)
 }
 
 fn kinds(alloc: Global) -> Result<[Option<Kind>; 3], Fail> {
-    let copy = two_and_none(alloc)?.try_clone()?;
+    let copy = row_of(alloc, LINES)?.elements.try_clone()?;
     Ok([copy.kind_at(0), copy.kind_at(1), copy.kind_at(2)])
 }
 
-#[test]
-fn each_property_has_its_kind(rt: HostRuntime) -> Result<(), Fail> {
-    let number = Some(Kind::Int32);
-    assert_eq!(rt; kinds(rt.alloc())?, [number, number, None]);
-    Ok(())
-}
+const LONG: Option<Kind> = Some(Kind::Int32);
 
 // ---- whole numbers
 static NUMBERS: [(Number, Kind); 8] = [
@@ -587,24 +385,28 @@ static NUMBERS: [(Number, Kind); 8] = [
     (UInt64(18446744073709551615), Kind::UInt64),
 ];
 
-fn none_is_a_number(alloc: Global) -> Result<[Option<Number>; 2], Fail> {
-    Ok([
-        Number::of(&Value::Bool(true)),
-        Number::of(&Value::Text(text(alloc, b"1")?)),
-    ])
+// The kinds of a number and of its value, and the number of that.
+type Seen = (Kind, Kind, Option<Number>);
+
+fn seen(number: Number) -> Seen {
+    let value = number.value();
+    (number.kind(), value.kind(), Number::of(&value))
 }
 
-#[test]
-fn numbers_are_values(rt: HostRuntime) -> Result<(), Fail> {
+// The first number that is seen otherwise.
+fn first_number() -> Option<(Seen, Seen)> {
     for &(number, kind) in &NUMBERS {
-        let value = number.value();
-        assert_eq!(rt;
-            (number.kind(), value.kind(), Number::of(&value)),
-            (kind, kind, Some(number))
-        );
+        let wanted = (kind, kind, Some(number));
+        if seen(number) != wanted {
+            return Some((seen(number), wanted));
+        }
     }
-    assert_eq!(rt; none_is_a_number(rt.alloc())?, [None; 2]);
-    Ok(())
+    None
+}
+
+fn none_is_a_number(alloc: Global) -> Result<[Option<Number>; 2], Fail> {
+    let letter = Value::Text(text(alloc, b"1")?);
+    Ok([Number::of(&Value::Bool(true)), Number::of(&letter)])
 }
 
 // Two numbers, and their sum, in either order.
@@ -623,9 +425,98 @@ static SUMS: [(Number, Number, Option<Number>); 8] = [
     (UInt64(0), Int64(0), None),
 ];
 
-#[test]
-fn sums_are_of_one_kind_in_either_order(rt: HostRuntime) {
+// The first two of another sum: the numbers, and the sum in each order.
+fn first_sum() -> Option<([Number; 2], [Option<Number>; 2])> {
     for &(a, b, sum) in &SUMS {
-        assert_eq!(rt; (a.plus(b), b.plus(a)), (sum, sum));
+        let sums = [a.plus(b), b.plus(a)];
+        if sums != [sum, sum] {
+            return Some(([a, b], sums));
+        }
     }
+    None
+}
+
+#[test]
+fn lists_are_limited_and_copied(rt: HostRuntime) -> Result<(), Fail> {
+    let alloc = rt.alloc();
+    same(
+        &rt,
+        "copies have each part",
+        copies(alloc)?,
+        ([true; 2], Code::GET),
+    );
+    let deep = Some(ValuesFault::TooDeep);
+    let kind = Some(ValuesFault::BadType);
+    let limit = Some(ValuesFault::ValueLimit);
+    same(
+        &rt,
+        "kinds are tested before depth",
+        depth_faults(alloc)?,
+        [deep, deep, kind, None, deep, None],
+    );
+    let many = [(255, Kind::Message); 2];
+    let told = limits(alloc)?;
+    same(
+        &rt,
+        "kinds are tested before how many and that before depth",
+        told,
+        ([limit, kind, limit], many),
+    );
+    same(
+        &rt,
+        "names are tested before how many fields",
+        name_faults(alloc)?,
+        (NAME_FAULTS, 64),
+    );
+    same(
+        &rt,
+        "a template is copied",
+        copied_template(alloc)?,
+        (Code(7), true),
+    );
+    Ok(())
+}
+
+#[test]
+fn a_handler_holds_properties_and_reactions(rt: HostRuntime) -> Result<(), Fail> {
+    let alloc = rt.alloc();
+    same(
+        &rt,
+        "the first of a name or a code is found",
+        all_found(alloc)?,
+        [FOUND, NOT_FOUND],
+    );
+    same(
+        &rt,
+        "loopers are named",
+        loopers(alloc)?,
+        [Some(3), Some(4), None, None],
+    );
+    same(
+        &rt,
+        "the first element is read and set",
+        set_firsts(alloc)?,
+        (TEN, None, TEN),
+    );
+    same(
+        &rt,
+        "commands go to the property at their place",
+        first_command(alloc)?,
+        None,
+    );
+    same(
+        &rt,
+        "each property has its kind",
+        kinds(alloc)?,
+        [LONG, LONG, None],
+    );
+    same(&rt, "numbers are values", first_number(), None);
+    same(&rt, "no number is one", none_is_a_number(alloc)?, [None; 2]);
+    same(
+        &rt,
+        "sums are of one kind in either order",
+        first_sum(),
+        None,
+    );
+    Ok(())
 }

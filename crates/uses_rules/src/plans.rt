@@ -3,9 +3,11 @@
 
 ghost use Rattle.std.specs.Prelude.{◌≡◌, IfOk};
 
+use crate::compare::same;
+use crate::parts::{NONE, Told, actions_of, str_of, text, text_or_none};
 use ak_action::{
-    Action, ActionList, Dest, ElementsList, LooperPlan, Number, PlanFault, PlanParts, PlanRow,
-    Reaction, ReactionList, Template, TemplateFields, plans_are_whole,
+    ElementsList, LooperPlan, Number, PlanFault, PlanParts, PlanRow, Reaction, ReactionList,
+    plans_are_whole,
 };
 use ak_base::{Code, Items, Text};
 use ak_filter::FilterList;
@@ -14,19 +16,6 @@ use ak_property::{PropertyRow, PropertyTable};
 use ak_value::Elements;
 use std::alloc::Global;
 use std::test::Fail;
-
-fn text(alloc: Global, name: &[u8]) -> Result<Text, Fail> {
-    Ok(Text::from_bytes(alloc, name)?)
-}
-
-// None for the empty text.
-fn text_or_none(alloc: Global, name: &[u8]) -> Result<Option<Text>, Fail> {
-    if name.is_empty() {
-        Ok(None)
-    } else {
-        Ok(Some(text(alloc, name)?))
-    }
-}
 
 // A handler without properties, filters and reactions. The empty text is no next handler.
 fn bare_row(alloc: Global, name: &[u8], next: &[u8]) -> Result<PlanRow, Fail> {
@@ -80,34 +69,28 @@ fn fault(
 }
 
 // ---- a plan and its parts
-fn names_of(row: &PlanRow) -> (&str, Option<&str>) {
-    (
-        row.name.as_str(),
-        row.next.as_ref().map(|name| name.as_str()),
-    )
+// The name, the capacity, the refusal, how many handlers, and the last one's name and next one.
+type Parts<'a> = (&'a str, u32, bool, usize, (&'a str, &'a str));
+
+fn names_of_last(rows: &[PlanRow]) -> (&str, &str) {
+    match rows.last() {
+        Some(row) => (row.name.as_str(), str_of(&row.next)),
+        None => ("", ""),
+    }
 }
 
-// The name, the capacity, the refusal, how many handlers, and the last one's name and next one.
-type Told<'a> = (
-    &'a str,
-    u32,
-    bool,
-    usize,
-    Option<(&'a str, Option<&'a str>)>,
-);
-
-fn told(parts: &PlanParts) -> Told<'_> {
+fn told(parts: &PlanParts) -> Parts<'_> {
     let rows = parts.rows.as_slice();
     (
         parts.name.as_str(),
         parts.capacity,
         parts.quit_refused,
         rows.len(),
-        rows.last().map(names_of),
+        names_of_last(rows),
     )
 }
 
-const CHAIN: Told<'static> = ("desk", 100, true, 3, Some(("b", Some("a"))));
+const CHAIN: Parts<'static> = ("desk", 100, true, 3, ("b", "a"));
 
 // Whether it, its copy, and the parts that it is made into are that chain.
 fn are_chains(alloc: Global) -> Result<[bool; 3], Fail> {
@@ -124,112 +107,117 @@ fn are_chains(alloc: Global) -> Result<[bool; 3], Fail> {
     ])
 }
 
-#[test]
-fn a_plan_has_its_parts(rt: HostRuntime) -> Result<(), Fail> {
-    assert_eq!(rt; are_chains(rt.alloc())?, [true; 3]);
-    Ok(())
-}
-
 // ---- loopers, names and chains
-// The capacity, the preferred handler, the names, and what is told of all that is wrong.
-static NAMES: [(u32, &[u8], Names, PlanFault); 12] = [
-    (100, b"", &[], PlanFault::BadLooper),
-    (100, b"", &[(b"other", b"")], PlanFault::BadLooper),
-    (100, b"", &[(b"desk", b"desk")], PlanFault::BadLooper),
-    (
-        100,
-        b"",
-        &[(b"a", b""), (b"desk", b"")],
-        PlanFault::BadLooper,
-    ),
-    (0, b"", &[(b"a", b"")], PlanFault::BadLooper),
+// The capacity, the preferred handler, the names, how many handlers there are besides, and what is told of all that is
+// wrong.
+type Looper = (u32, &'static [u8], Names, u8, Option<PlanFault>);
+
+const BAD_LOOPER: Option<PlanFault> = Some(PlanFault::BadLooper);
+
+const BAD_CAPACITY: Option<PlanFault> = Some(PlanFault::BadCapacity);
+
+const HANDLER_LIMIT: Option<PlanFault> = Some(PlanFault::HandlerLimit);
+
+const BAD_NAME: Option<PlanFault> = Some(PlanFault::BadName);
+
+const NAME_IN_USE: Option<PlanFault> = Some(PlanFault::NameInUse);
+
+const UNKNOWN_NAME: Option<PlanFault> = Some(PlanFault::UnknownName);
+
+// A looper has up to 64 handlers: the capacity is tested before how many there are, and that before names.
+static LOOPERS: [Looper; 16] = [
+    (100, b"", &[], 0, BAD_LOOPER),
+    (100, b"", &[(b"other", b"")], 0, BAD_LOOPER),
+    (100, b"", &[(b"desk", b"desk")], 0, BAD_LOOPER),
+    (100, b"", &[(b"a", b""), (b"desk", b"")], 0, BAD_LOOPER),
+    (0, b"", &[(b"a", b"")], 0, BAD_LOOPER),
     (
         u32::MAX,
         b"",
         &[(b"desk", b""), (b"a b", b"")],
-        PlanFault::BadCapacity,
+        0,
+        BAD_CAPACITY,
     ),
-    (
-        100,
-        b"",
-        &[(b"desk", b""), (b"a b", b"")],
-        PlanFault::BadName,
-    ),
-    (100, b"", &[(b"desk", b""), (b"", b"")], PlanFault::BadName),
+    (100, b"", &[(b"desk", b""), (b"a b", b"")], 0, BAD_NAME),
+    (100, b"", &[(b"desk", b""), (b"", b"")], 0, BAD_NAME),
     (
         100,
         b"",
         &[(b"desk", b""), (b"a b", b""), (b"a b", b"")],
-        PlanFault::BadName,
+        0,
+        BAD_NAME,
     ),
     (
         100,
         b"",
         &[(b"desk", b""), (b"a", b"x"), (b"a", b"")],
-        PlanFault::NameInUse,
+        0,
+        NAME_IN_USE,
     ),
     (
         100,
         b"",
         &[(b"desk", b""), (b"a", b"a"), (b"b", b"x")],
-        PlanFault::UnknownName,
+        0,
+        UNKNOWN_NAME,
     ),
+    (100, b"x", &[(b"desk", b""), (b"a", b"a")], 0, UNKNOWN_NAME),
+    (100, b"", &[(b"desk", b""), (b"zz", b"")], 62, None),
+    (100, b"", &[(b"desk", b""), (b"zz", b"")], 63, HANDLER_LIMIT),
+    (0, b"", &[(b"desk", b""), (b"zz", b"")], 63, BAD_CAPACITY),
     (
         100,
-        b"x",
-        &[(b"desk", b""), (b"a", b"a")],
-        PlanFault::UnknownName,
+        b"",
+        &[(b"desk", b""), (b"a b", b"")],
+        63,
+        HANDLER_LIMIT,
     ),
 ];
 
-#[test]
-fn loopers_are_tested_before_names_and_these_before_chains(rt: HostRuntime) -> Result<(), Fail> {
-    let alloc = rt.alloc();
-    for &(capacity, preferred, names, wanted) in &NAMES {
-        let told = fault(alloc, capacity, preferred, linked(alloc, names)?)?;
-        assert_eq!(rt; told, Some(wanted));
-    }
-    Ok(())
-}
-
-// The looper and so many handlers less one, each with two letters as its name, and then one of that name.
-fn crowd(alloc: Global, count: u8, name: &[u8]) -> Result<Vec<PlanRow>, Fail> {
-    let mut rows = linked(alloc, &[(b"desk", b"")])?;
-    for n in 1..count {
+// Adds so many handlers, each with two letters as its name.
+fn crowd(alloc: Global, rows: &mut Vec<PlanRow>, count: u8) -> Result<(), Fail> {
+    for n in 0..count {
         rows.push(bare_row(alloc, &[b'a' + n / 16, b'a' + n % 16], b"")?)?;
     }
-    rows.push(bare_row(alloc, name, b"")?)?;
-    Ok(rows)
-}
-
-fn faults_of_crowds(alloc: Global) -> Result<[Option<PlanFault>; 4], Fail> {
-    Ok([
-        fault(alloc, 100, b"", crowd(alloc, 63, b"zz")?)?,
-        fault(alloc, 100, b"", crowd(alloc, 64, b"zz")?)?,
-        fault(alloc, 0, b"", crowd(alloc, 64, b"zz")?)?,
-        fault(alloc, 100, b"", crowd(alloc, 64, b"a b")?)?,
-    ])
-}
-
-// The capacity is tested before how many handlers there are, and that before names.
-#[test]
-fn a_looper_has_up_to_64_handlers(rt: HostRuntime) -> Result<(), Fail> {
-    let limit = Some(PlanFault::HandlerLimit);
-    let wanted = [None, limit, Some(PlanFault::BadCapacity), limit];
-    assert_eq!(rt; faults_of_crowds(rt.alloc())?, wanted);
     Ok(())
 }
 
-// ---- properties
-fn add_property(alloc: Global, row: &mut PlanRow, name: &[u8], kind: Kind) -> Result<(), Fail> {
-    row.table.add_row(PropertyRow {
-        name: text(alloc, name)?,
-        kind,
-        commands: Items::from_vec(Vec::new(alloc)),
-        forms: Items::from_vec(Vec::new(alloc)),
-        usage: text(alloc, b"")?,
-    })?;
-    Ok(())
+fn fault_of_looper(alloc: Global, looper: &Looper) -> Result<Option<PlanFault>, Fail> {
+    let &(capacity, preferred, names, count, _) = looper;
+    let mut rows = linked(alloc, names)?;
+    crowd(alloc, &mut rows, count)?;
+    fault(alloc, capacity, preferred, rows)
+}
+
+// The place of a case, what came, and what was to come.
+type Other = (usize, Option<PlanFault>, Option<PlanFault>);
+
+fn first_looper(alloc: Global) -> Result<Option<Other>, Fail> {
+    for (place, looper) in LOOPERS.iter().enumerate() {
+        let fault = fault_of_looper(alloc, looper)?;
+        if fault != looper.4 {
+            return Ok(Some((place, fault, looper.4)));
+        }
+    }
+    Ok(None)
+}
+
+// ---- handlers
+// Properties in plain data.
+type Properties = &'static [(&'static [u8], Kind)];
+
+fn table(alloc: Global, properties: Properties) -> Result<PropertyTable, Fail> {
+    let mut table = PropertyTable::new(alloc);
+    for (name, kind) in properties {
+        table.add_row(PropertyRow {
+            name: text(alloc, name)?,
+            kind: *kind,
+            commands: Items::from_vec(Vec::new(alloc)),
+            forms: Items::from_vec(Vec::new(alloc)),
+            usage: text(alloc, b"")?,
+        })?;
+    }
+    Ok(table)
 }
 
 fn elements(alloc: Global, kinds: &[Kind]) -> Result<ElementsList, Fail> {
@@ -240,24 +228,36 @@ fn elements(alloc: Global, kinds: &[Kind]) -> Result<ElementsList, Fail> {
     Ok(ElementsList::from_vec(elements))
 }
 
-// Properties in plain data.
-type Properties = &'static [(&'static [u8], Kind)];
-
-// A handler `a` with properties of these names and kinds, and elements of those kinds.
-fn with_table(alloc: Global, properties: Properties, kinds: &[Kind]) -> Result<PlanRow, Fail> {
-    let mut row = bare_row(alloc, b"a", b"")?;
-    for (name, kind) in properties {
-        add_property(alloc, &mut row, name, *kind)?;
+fn suites(alloc: Global, count: u8) -> Result<Items<Text>, Fail> {
+    let mut suites = Vec::new(alloc);
+    for _ in 0..count {
+        suites.push(text(alloc, b"suite/vnd.demo")?)?;
     }
-    row.elements = elements(alloc, kinds)?;
-    Ok(row)
+    Ok(Items::from_vec(suites))
 }
 
-fn fault_of_row(alloc: Global, row: PlanRow) -> Result<Option<PlanFault>, Fail> {
-    let mut rows = linked(alloc, &[(b"desk", b""), (b"b", b"a")])?;
-    rows.push(row)?;
-    fault(alloc, 100, b"", rows)
+// One on that action, or none.
+fn reactions(alloc: Global, actions: &[Told<'_>]) -> Result<ReactionList, Fail> {
+    let mut reactions = ReactionList::new(alloc);
+    if !actions.is_empty() {
+        reactions.push(Reaction {
+            what: Code(7),
+            actions: actions_of(alloc, actions)?,
+        })?;
+    }
+    Ok(reactions)
 }
+
+// The handler that the next one to `b` is, how many suites the handler `a` has, its properties, the kinds of its elements,
+// its reaction's actions, and what is told.
+type Handler = (
+    &'static [u8],
+    u8,
+    Properties,
+    &'static [Kind],
+    &'static [Told<'static>],
+    Option<PlanFault>,
+);
 
 const TWO: Properties = &[(b"Count", Kind::Int32), (b"Title", Kind::Text)];
 
@@ -269,118 +269,95 @@ const TWICE: Properties = &[
 
 const MESSAGES: Properties = &[(b"Last", Kind::Message)];
 
+const BOTH: &[Kind] = &[Kind::Int32, Kind::Text];
+
 const BAD: Option<PlanFault> = Some(PlanFault::BadTable);
 
-static TABLES: [(Properties, &[Kind], Option<PlanFault>); 9] = [
-    (&[], &[], None),
-    (TWO, &[Kind::Int32, Kind::Text], None),
-    (TWO, &[Kind::Int32], BAD),
-    (TWO, &[], BAD),
-    (TWO, &[Kind::Int32, Kind::Text, Kind::Text], BAD),
-    (TWO, &[Kind::Text, Kind::Int32], BAD),
-    (TWO, &[Kind::Int32, Kind::Raw], BAD),
-    (TWICE, &[Kind::Int32, Kind::Text, Kind::Int32], BAD),
-    (MESSAGES, &[Kind::Message], BAD),
-];
-
-#[test]
-fn each_property_has_its_elements(rt: HostRuntime) -> Result<(), Fail> {
-    let alloc = rt.alloc();
-    for &(properties, kinds, wanted) in &TABLES {
-        let told = fault_of_row(alloc, with_table(alloc, properties, kinds)?)?;
-        assert_eq!(rt; told, wanted);
-    }
-    Ok(())
-}
-
-// ---- what is tested first
-fn suites(alloc: Global, count: u8) -> Result<Items<Text>, Fail> {
-    let mut suites = Vec::new(alloc);
-    for _ in 0..count {
-        suites.push(text(alloc, b"suite/vnd.demo")?)?;
-    }
-    Ok(Items::from_vec(suites))
-}
-
-// A handler whose properties have these elements, and a reaction of that action.
-fn acting(alloc: Global, kinds: &[Kind], action: Action) -> Result<PlanRow, Fail> {
-    let mut actions = ActionList::new(alloc);
-    actions.push(action)?;
-    let mut row = with_table(alloc, TWO, kinds)?;
-    row.reactions.push(Reaction {
-        what: Code(7),
-        actions,
-    })?;
-    Ok(row)
-}
+// It posts to a handler that is not there, which is no fault: one of that name may be added.
+const POSTS: &[Told<'static>] = &[(b'p', 1, "", NONE, (b'h', "none of them"), "back")];
 
 // It adds to a property that it does not have.
-fn adding(alloc: Global, kinds: &[Kind]) -> Result<PlanRow, Fail> {
-    let action = Action::Add {
-        property: text(alloc, b"Other")?,
-        amount: Number::Int32(1),
-    };
-    acting(alloc, kinds, action)
+const ADDS: &[Told<'static>] = &[(b'+', 0, "", Number::Int32(1), (b'-', ""), "Other")];
+
+// Each property has its elements; and chains come before suites, these before tables, and these before actions.
+static HANDLERS: [Handler; 15] = [
+    (b"a", 0, &[], &[], &[], None),
+    (b"a", 0, TWO, BOTH, &[], None),
+    (b"a", 0, TWO, &[Kind::Int32], &[], BAD),
+    (b"a", 0, TWO, &[], &[], BAD),
+    (
+        b"a",
+        0,
+        TWO,
+        &[Kind::Int32, Kind::Text, Kind::Text],
+        &[],
+        BAD,
+    ),
+    (b"a", 0, TWO, &[Kind::Text, Kind::Int32], &[], BAD),
+    (b"a", 0, TWO, &[Kind::Int32, Kind::Raw], &[], BAD),
+    (
+        b"a",
+        0,
+        TWICE,
+        &[Kind::Int32, Kind::Text, Kind::Int32],
+        &[],
+        BAD,
+    ),
+    (b"a", 0, MESSAGES, &[Kind::Message], &[], BAD),
+    (b"a", 0, TWO, BOTH, POSTS, None),
+    (b"a", 0, TWO, BOTH, ADDS, Some(PlanFault::BadAction)),
+    (b"a", 0, TWO, &[], ADDS, BAD),
+    (b"a", 16, TWO, &[], ADDS, BAD),
+    (b"a", 17, TWO, &[], ADDS, Some(PlanFault::SuiteLimit)),
+    (b"b", 17, &[], &[], &[], Some(PlanFault::ChainLoop)),
+];
+
+fn row_of(alloc: Global, handler: &Handler) -> Result<PlanRow, Fail> {
+    let &(_, count, properties, kinds, actions, _) = handler;
+    Ok(PlanRow {
+        name: text(alloc, b"a")?,
+        next: None,
+        suites: suites(alloc, count)?,
+        table: table(alloc, properties)?,
+        elements: elements(alloc, kinds)?,
+        filters: FilterList::new(alloc),
+        reactions: reactions(alloc, actions)?,
+    })
 }
 
-// It posts to a handler that is not there, which is no fault: one of that name may be added.
-fn fault_of_post(alloc: Global) -> Result<Option<PlanFault>, Fail> {
-    let action = Action::Post {
-        to: Dest::Handler(text(alloc, b"none of them")?),
-        message: Template {
-            what: Code(1),
-            fields: TemplateFields::new(alloc),
-        },
-        back: true,
-    };
-    fault_of_row(alloc, acting(alloc, &[Kind::Int32, Kind::Text], action)?)
-}
-
-fn fault_of_action(alloc: Global) -> Result<Option<PlanFault>, Fail> {
-    fault_of_row(alloc, adding(alloc, &[Kind::Int32, Kind::Text])?)
-}
-
-fn fault_of_table_and_action(alloc: Global) -> Result<Option<PlanFault>, Fail> {
-    fault_of_row(alloc, adding(alloc, &[])?)
-}
-
-fn fault_of_suites_and_table(alloc: Global, count: u8) -> Result<Option<PlanFault>, Fail> {
-    let mut row = adding(alloc, &[])?;
-    row.suites = suites(alloc, count)?;
-    fault_of_row(alloc, row)
-}
-
-fn fault_of_chain_and_suites(alloc: Global) -> Result<Option<PlanFault>, Fail> {
-    let mut row = bare_row(alloc, b"a", b"")?;
-    row.suites = suites(alloc, 17)?;
-    let mut rows = linked(alloc, &[(b"desk", b""), (b"b", b"b")])?;
-    rows.push(row)?;
+fn fault_of_handler(alloc: Global, handler: &Handler) -> Result<Option<PlanFault>, Fail> {
+    let mut rows = Vec::new(alloc);
+    rows.push(bare_row(alloc, b"desk", b"")?)?;
+    rows.push(bare_row(alloc, b"b", handler.0)?)?;
+    rows.push(row_of(alloc, handler)?)?;
     fault(alloc, 100, b"", rows)
 }
 
-fn first_faults(alloc: Global) -> Result<[Option<PlanFault>; 6], Fail> {
-    Ok([
-        fault_of_post(alloc)?,
-        fault_of_action(alloc)?,
-        fault_of_table_and_action(alloc)?,
-        fault_of_suites_and_table(alloc, 16)?,
-        fault_of_suites_and_table(alloc, 17)?,
-        fault_of_chain_and_suites(alloc)?,
-    ])
+fn first_handler(alloc: Global) -> Result<Option<Other>, Fail> {
+    for (place, handler) in HANDLERS.iter().enumerate() {
+        let fault = fault_of_handler(alloc, handler)?;
+        if fault != handler.5 {
+            return Ok(Some((place, fault, handler.5)));
+        }
+    }
+    Ok(None)
 }
 
 #[test]
-fn chains_come_before_suites_and_these_before_tables_and_actions(
-    rt: HostRuntime,
-) -> Result<(), Fail> {
-    let wanted = [
+fn plans_have_their_parts_or_their_first_fault(rt: HostRuntime) -> Result<(), Fail> {
+    let alloc = rt.alloc();
+    same(&rt, "a plan has its parts", are_chains(alloc)?, [true; 3]);
+    same(
+        &rt,
+        "loopers are tested before names and these before chains",
+        first_looper(alloc)?,
         None,
-        Some(PlanFault::BadAction),
-        BAD,
-        BAD,
-        Some(PlanFault::SuiteLimit),
-        Some(PlanFault::ChainLoop),
-    ];
-    assert_eq!(rt; first_faults(rt.alloc())?, wanted);
+    );
+    same(
+        &rt,
+        "chains come before suites, tables and actions",
+        first_handler(alloc)?,
+        None,
+    );
     Ok(())
 }

@@ -4,7 +4,8 @@ ghost use Rattle.ak_turn.specs.Steps.{IsNewName};
 ghost use Rattle.ak_port.specs.PortCalls.{CanTake};
 
 use super::calls::{Said, put, put_at_turn, take_first, take_one};
-use ak_base::{Code, NoMemory, ThreadId};
+use crate::compare::same;
+use ak_base::{NoMemory, ThreadId};
 use ak_port::{
     CloseAnswer, Port, PortBook, PortEvent, TakeAnswer, a_write_has_one_answer, close, make,
     new_seats_can_take, nothing_comes_after_the_rest, nothing_is_written_after_shut,
@@ -40,14 +41,9 @@ fn write_two_at_turns<R: Wait>(rt: &R, alloc: Global) -> Result<[Said; 2], Fail>
     Ok([first, second])
 }
 
-#[test]
-fn a_port_of_capacity_2_and_life_2(rt: HostRuntime) -> Result<(), Fail> {
-    let alloc = rt.alloc();
-    let told = (write_three(&rt, alloc)?, write_two_at_turns(&rt, alloc)?);
-    let three = [Said::Wrote(0), Said::Wrote(1), Said::Spent];
-    assert_eq!(rt; told, (three, [Said::Wrote(0), Said::Full]));
-    Ok(())
-}
+const AT_TURNS: [Said; 2] = [Said::Wrote(0), Said::Full];
+
+const THREE: [Said; 3] = [Said::Wrote(0), Said::Wrote(1), Said::Spent];
 
 // What is answered at a port of capacity 1 and life 3 before it is shut, and what after.
 fn write_take_and_shut<R: Wait>(rt: &R, alloc: Global) -> Result<(Start, End), Fail> {
@@ -61,34 +57,20 @@ fn write_take_and_shut<R: Wait>(rt: &R, alloc: Global) -> Result<(Start, End), F
     let taken = take_first(rt, alloc, &port, &mut seat, &mut clock)?;
     let third = put(rt, alloc, &port, &mut seat, &mut clock, 3)?;
     let end = shut_and_empty(rt, alloc, &port, seat, clock)?;
-    let start = Start {
-        first,
-        second,
-        taken,
-        third,
-    };
-    Ok((start, end))
+    Ok((([first, second, third], taken), end))
 }
 
-/// What is answered before a port is shut.
-#[derive(Clone, Copy, Debug, PartialEq, Eq)]
-struct Start {
-    first: Said,
-    second: Said,
-    taken: (u32, u64, u32),
-    third: Said,
-}
+/// What three writes answer before a port is shut, and the take between the second and the third.
+type Start = ([Said; 3], (u32, u64, u32));
 
-/// What is answered as a port is shut and after, and its book then.
-#[derive(Clone, Copy, Debug, PartialEq, Eq)]
-struct End {
-    shut: CloseAnswer,
-    fourth: Said,
-    again: CloseAnswer,
-    left: (TakeAnswer, u64, u32),
-    taker: ThreadId,
-    entries: u64,
-}
+/// What a closing answers, a write behind it, another closing and a take; who takes, and how many entries there are then.
+type End = (
+    CloseAnswer,
+    Said,
+    CloseAnswer,
+    (TakeAnswer, u64, u32),
+    (ThreadId, u64),
+);
 
 // The end of a port that has one item pending, at position 1 and with the code 3.
 fn shut_and_empty<R: Wait>(
@@ -114,59 +96,30 @@ fn shut_and_empty<R: Wait>(
     let again = close(port, rt, &mut guest, &mut other);
     let left = take_one(rt, alloc, port, &mut seat, &mut clock)?;
     let book = port.lock(rt, &mut seat).keep();
-    Ok(End {
-        shut,
-        fourth,
-        again,
-        left,
-        taker: book.taker(),
-        entries: book.len(),
-    })
+    Ok((shut, fourth, again, left, (book.taker(), book.len())))
 }
 
-const START: Start = Start {
-    first: Said::Wrote(0),
-    second: Said::Full,
-    taken: (1, 0, 1),
-    third: Said::Wrote(1),
-};
+const START: Start = ([Said::Wrote(0), Said::Full, Said::Wrote(1)], (1, 0, 1));
 
-const END: End = End {
-    shut: CloseAnswer::Shut,
-    fourth: Said::Closed,
-    again: CloseAnswer::AlreadyShut,
-    left: (TakeAnswer::Rest(1), 1, 3),
-    taker: ThreadId(10_000),
-    entries: 8,
-};
+const END: End = (
+    CloseAnswer::Shut,
+    Said::Closed,
+    CloseAnswer::AlreadyShut,
+    (TakeAnswer::Rest(1), 1, 3),
+    (ThreadId(10_000), 8),
+);
 
-#[test]
-fn a_port_of_capacity_1_and_life_3(rt: HostRuntime) -> Result<(), Fail> {
-    assert_eq!(rt; write_take_and_shut(&rt, rt.alloc())?, (START, END));
-    Ok(())
-}
-
-/// What an entry tells, in plain data.
-#[derive(Clone, Copy, Debug, PartialEq, Eq)]
-enum Entered {
-    Made { capacity: u32, life: u32 },
-    Written { position: u64, code: Code },
-    Full,
-    Other,
-}
+/// What an entry tells: which one it is, the capacity or the position, and the life or the code.
+type Entered = (&'static str, u64, u32);
 
 fn entered_by(alloc: Global, event: &PortEvent) -> Result<Entered, NoMemory> {
     match event {
-        PortEvent::Made { capacity, life } => Ok(Entered::Made {
-            capacity: *capacity,
-            life: *life,
-        }),
-        PortEvent::Written { position, item } => Ok(Entered::Written {
-            position: *position,
-            code: item.message(alloc)?.what(),
-        }),
-        PortEvent::Full => Ok(Entered::Full),
-        _ => Ok(Entered::Other),
+        PortEvent::Made { capacity, life } => Ok(("made", u64::from(*capacity), *life)),
+        PortEvent::Written { position, item } => {
+            Ok(("written", *position, item.message(alloc)?.what().0))
+        }
+        PortEvent::Full => Ok(("full", 0, 0)),
+        _ => Ok(("other", 0, 0)),
     }
 }
 
@@ -205,31 +158,18 @@ fn two_writes<R: Wait>(rt: &R, alloc: Global) -> Result<(u64, [Option<Told>; 4])
     Ok((book.last_stamp(), entries))
 }
 
-const MADE: Entered = Entered::Made {
-    capacity: 1,
-    life: 3,
-};
+const BY: ThreadId = ThreadId(7);
 
-const WRITTEN: Entered = Entered::Written {
-    position: 0,
-    code: Code(9),
-};
-
-#[test]
-fn a_book_copies_its_entries(rt: HostRuntime) -> Result<(), Fail> {
-    let by = ThreadId(7);
-    let entries = [
-        Some((5, by, MADE)),
-        Some((6, by, WRITTEN)),
-        Some((7, by, Entered::Full)),
-        None,
-    ];
-    assert_eq!(rt; two_writes(&rt, rt.alloc())?, (7, entries));
-    Ok(())
-}
+const ENTRIES: [Option<Told>; 4] = [
+    Some((5, BY, ("made", 1, 3))),
+    Some((6, BY, ("written", 0, 9))),
+    Some((7, BY, ("full", 0, 0))),
+    None,
+];
 
 #[test]
-fn the_laws_of_ports_are_called() {
+fn a_port_is_made_filled_emptied_and_shut(rt: HostRuntime) -> Result<(), Fail> {
+    let alloc = rt.alloc();
     written_is_taken_or_pending();
     nothing_is_written_after_shut();
     ports_stay_within_limits();
@@ -237,4 +177,29 @@ fn the_laws_of_ports_are_called() {
     takes_go_on();
     new_seats_can_take();
     nothing_comes_after_the_rest();
+    same(
+        &rt,
+        "writes at turns",
+        write_two_at_turns(&rt, alloc)?,
+        AT_TURNS,
+    );
+    same(
+        &rt,
+        "capacity 2 and life 2",
+        write_three(&rt, alloc)?,
+        THREE,
+    );
+    same(
+        &rt,
+        "capacity 1 and life 3",
+        write_take_and_shut(&rt, alloc)?,
+        (START, END),
+    );
+    same(
+        &rt,
+        "a book copies its entries",
+        two_writes(&rt, alloc)?,
+        (7, ENTRIES),
+    );
+    Ok(())
 }

@@ -56,7 +56,7 @@ fn door_at(roster: &Roster, place: u64) -> Result<(u64, ThreadId, u32), Fail> {
 }
 
 /// What a session is given of the last looper, the entry of that, and how many doors there are.
-type Given = (Option<()>, (u64, ThreadId, u32), usize);
+pub type Given = (Option<()>, (u64, ThreadId, u32), usize);
 
 fn grant_of_the_last(alloc: Global) -> Result<Given, Fail> {
     let mut roster = five(alloc)?;
@@ -65,9 +65,7 @@ fn grant_of_the_last(alloc: Global) -> Result<Given, Fail> {
     Ok((given, entry, roster.take_doors().len()))
 }
 
-#[test]
-fn a_door_is_given_where_its_looper_was_started(rt: HostRuntime) -> Result<(), Fail> {
-    let told = (grant_of_none(rt.alloc())?, grant_of_the_last(rt.alloc())?);
-    assert_eq!(rt; told, ((None, 1), (Some(()), (2, ThreadId(1), 4), 5)));
-    Ok(())
+/// What comes of both.
+pub fn doors_given(alloc: Global) -> Result<((Option<()>, u64), Given), Fail> {
+    Ok((grant_of_none(alloc)?, grant_of_the_last(alloc)?))
 }

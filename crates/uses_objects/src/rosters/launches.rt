@@ -3,6 +3,10 @@ ghost use Rattle.std.specs.Prelude.{IfOk};
 ghost use Rattle.ak_roster.specs.Roster.{IsAtRest};
 
 use super::calls::{Roster, Row, Word, clock_of, find, gone, launch, roster_of};
+use super::doors::doors_given;
+use super::shared::look_up;
+use crate::compare::same;
+use ak_base::ThreadId;
 use ak_roster::{
     Decision, FindAnswer, FindOutcome, LaunchOutcome, Mode, RosterEntry, RosterEvent,
     answers_follow, last_parts_are_so, limits_hold, modes_hold, no_team_returns,
@@ -75,12 +79,6 @@ fn launch_by_modes(alloc: Global) -> Result<(OtherLaunch, u64, u64, u64), Fail> 
     Ok((other, roster.len(), roster.last_stamp(), clock.time))
 }
 
-#[test]
-fn modes_decide_what_starts(rt: HostRuntime) -> Result<(), Fail> {
-    assert_eq!(rt; launch_by_modes(rt.alloc())?, (None, 7, 7, 7));
-    Ok(())
-}
-
 // Launches by that word sixteen times: the first launch that does not start the next team.
 fn launch_sixteen(
     alloc: Global,
@@ -102,14 +100,7 @@ fn launch_sixteen(
 
 /// What comes of sixteen launches, of one more, and of looking up the last team and one past it; and how many doors
 /// there are.
-#[derive(Clone, Copy, Debug, PartialEq)]
-struct Sixteen {
-    other: OtherLaunch,
-    more: Decision,
-    last: FindAnswer,
-    past: FindAnswer,
-    doors: usize,
-}
+type Sixteen = (OtherLaunch, Decision, [FindAnswer; 2], usize);
 
 fn sixteen_and_more(alloc: Global) -> Result<Sixteen, Fail> {
     let rows: [Row; 1] = [(b"/boot/m", b"application/m", Mode::Multiple, 2)];
@@ -120,31 +111,16 @@ fn sixteen_and_more(alloc: Global) -> Result<Sixteen, Fail> {
     let more = launch(alloc, &mut roster, &mut clock, &word)?;
     let last = find(alloc, &mut roster, &mut clock, &Word::Team(16))?;
     let past = find(alloc, &mut roster, &mut clock, &Word::Team(17))?;
-    Ok(Sixteen {
-        other,
-        more,
-        last,
-        past,
-        doors: roster.take_doors().len(),
-    })
+    Ok((other, more, [last, past], roster.take_doors().len()))
 }
 
-#[test]
-fn sixteen_launches_start(rt: HostRuntime) -> Result<(), Fail> {
-    let told = Sixteen {
-        other: None,
-        more: Decision::Limit,
-        last: FindAnswer::Team {
-            team: 16,
-            first: 30,
-            loopers: 2,
-        },
-        past: FindAnswer::NoTeam,
-        doors: 32,
-    };
-    assert_eq!(rt; sixteen_and_more(rt.alloc())?, told);
-    Ok(())
-}
+const SIXTEENTH: FindAnswer = FindAnswer::Team {
+    team: 16,
+    first: 30,
+    loopers: 2,
+};
+
+const SIXTEEN: Sixteen = (None, Decision::Limit, [SIXTEENTH, FindAnswer::NoTeam], 32);
 
 fn launch_32_loopers(alloc: Global) -> Result<OtherLaunch, Fail> {
     let rows: [Row; 2] = [
@@ -165,12 +141,6 @@ fn launch_32_loopers(alloc: Global) -> Result<OtherLaunch, Fail> {
         (Word::Signature(b"application/n"), Decision::Limit),
     ];
     launch_all(alloc, &mut roster, &mut clock, &launches)
-}
-
-#[test]
-fn loopers_are_at_most_32(rt: HostRuntime) -> Result<(), Fail> {
-    assert_eq!(rt; launch_32_loopers(rt.alloc())?, None);
-    Ok(())
 }
 
 /// The place of a look-up, and what was found in the place of what it tells.
@@ -238,12 +208,6 @@ fn find_the_least(alloc: Global) -> Result<(OtherLaunch, OtherFound), Fail> {
     Ok((launched, found))
 }
 
-#[test]
-fn the_least_team_is_found(rt: HostRuntime) -> Result<(), Fail> {
-    assert_eq!(rt; find_the_least(rt.alloc())?, (None, None));
-    Ok(())
-}
-
 /// When an entry was made and by whom, what it decided or found, and the number in it.
 type Told = (u64, u32, Option<LaunchOutcome>, Option<FindOutcome>, u32);
 
@@ -258,7 +222,10 @@ fn told_by(entry: &RosterEntry) -> Told {
 }
 
 fn told_at(entries: &[RosterEntry], place: usize) -> Option<Told> {
-    entries.get(place).map(told_by)
+    match entries.get(place) {
+        Some(entry) => Some(told_by(entry)),
+        None => None,
+    }
 }
 
 // How many entries there are, and the first four.
@@ -273,19 +240,9 @@ fn all_told(roster: Roster) -> (usize, [Option<Told>; 4]) {
     (entries.len(), told)
 }
 
-/// What comes of an end where no team runs; of a launch, and how many run then; of its end, and how many run then; of an
-/// end again; of a look-up; and of a launch again.
-#[derive(Clone, Copy, Debug, PartialEq)]
-struct ComeAndGo {
-    early: bool,
-    first: Decision,
-    running: usize,
-    gone: bool,
-    left: usize,
-    again: bool,
-    found: FindAnswer,
-    second: Decision,
-}
+/// What comes of an end where no team runs, of the end of the first team, and of an end again; of the launches before and
+/// after; how many run before the end and after; and of a look-up then.
+type ComeAndGo = ([bool; 3], [Decision; 2], [usize; 2], FindAnswer);
 
 fn come_and_go(alloc: Global, roster: &mut Roster, clock: &mut Clock) -> Result<ComeAndGo, Fail>
     requires { IsAtRest roster.old }
@@ -299,36 +256,28 @@ fn come_and_go(alloc: Global, roster: &mut Roster, clock: &mut Clock) -> Result<
     let again = gone(roster, clock, 1)?;
     let found = find(alloc, roster, clock, &word)?;
     let second = launch(alloc, roster, clock, &word)?;
-    Ok(ComeAndGo {
-        early,
-        first,
-        running,
-        gone: going,
-        left,
-        again,
+    Ok((
+        [early, going, again],
+        [first, second],
+        [running, left],
         found,
-        second,
-    })
+    ))
 }
 
-const COME_AND_GO: ComeAndGo = ComeAndGo {
-    early: false,
-    first: Decision::Starts {
+const STARTED: [Decision; 2] = [
+    Decision::Starts {
         description: 0,
         team: 1,
         first: 0,
     },
-    running: 1,
-    gone: true,
-    left: 0,
-    again: false,
-    found: FindAnswer::NoTeam,
-    second: Decision::Starts {
+    Decision::Starts {
         description: 0,
         team: 2,
         first: 1,
     },
-};
+];
+
+const COME_AND_GO: ComeAndGo = ([false, true, false], STARTED, [1, 0], FindAnswer::NoTeam);
 
 const FIRST: LaunchOutcome = LaunchOutcome::Started {
     description: 0,
@@ -350,24 +299,69 @@ fn team_that_goes(alloc: Global) -> Result<(ComeAndGo, (usize, [Option<Told>; 4]
     Ok((answers, all_told(roster)))
 }
 
-#[test]
-fn a_team_goes_once(rt: HostRuntime) -> Result<(), Fail> {
-    let entries = [
-        Some((1, 0, Some(FIRST), None, 0)),
-        Some((2, 0, None, None, 1)),
-        Some((3, 0, None, Some(FindOutcome::NoTeam), 0)),
-        Some((4, 0, Some(SECOND), None, 0)),
-    ];
-    assert_eq!(rt; team_that_goes(rt.alloc())?, (COME_AND_GO, (4, entries)));
-    Ok(())
-}
+const ENTRIES: [Option<Told>; 4] = [
+    Some((1, 0, Some(FIRST), None, 0)),
+    Some((2, 0, None, None, 1)),
+    Some((3, 0, None, Some(FindOutcome::NoTeam), 0)),
+    Some((4, 0, Some(SECOND), None, 0)),
+];
 
-#[test]
-fn the_laws_of_rosters_are_called() {
+fn call_the_laws() {
     answers_follow();
     last_parts_are_so();
     limits_hold();
     modes_hold();
     no_team_returns();
     the_least_is_found();
+}
+
+#[test]
+fn teams_are_launched_found_and_gone(rt: HostRuntime) -> Result<(), Fail> {
+    let alloc = rt.alloc();
+    call_the_laws();
+    same(
+        &rt,
+        "modes decide what starts",
+        launch_by_modes(alloc)?,
+        (None, 7, 7, 7),
+    );
+    same(
+        &rt,
+        "sixteen launches start",
+        sixteen_and_more(alloc)?,
+        SIXTEEN,
+    );
+    same(
+        &rt,
+        "loopers are at most 32",
+        launch_32_loopers(alloc)?,
+        None,
+    );
+    same(
+        &rt,
+        "the least team is found",
+        find_the_least(alloc)?,
+        (None, None),
+    );
+    same(
+        &rt,
+        "a team goes once",
+        team_that_goes(alloc)?,
+        (COME_AND_GO, (4, ENTRIES)),
+    );
+    let given = ((None, 1), (Some(()), (2, ThreadId(1), 4), 5));
+    same(
+        &rt,
+        "a door is given where its looper was started",
+        doors_given(alloc)?,
+        given,
+    );
+    let found = (FindAnswer::NoTeam, 1, 1);
+    same(
+        &rt,
+        "a team is looked up in a shared roster",
+        look_up(&rt, alloc)?,
+        found,
+    );
+    Ok(())
 }

@@ -33,8 +33,8 @@ pub fn find_in(
     answer
 }
 
-// What a look-up of the first team of a new roster answers; how many entries the seat has seen then, and its clock's time.
-fn look_up<R: Wait>(rt: &R, alloc: Global) -> Result<(FindAnswer, u64, u64), Fail> {
+/// What a look-up of the first team of a new roster answers; how many entries the seat has seen then, and its clock's time.
+pub fn look_up<R: Wait>(rt: &R, alloc: Global) -> Result<(FindAnswer, u64, u64), Fail> {
     let heads = [(
         b"/boot/demo".as_slice(),
         b"application/demo".as_slice(),
@@ -46,10 +46,4 @@ fn look_up<R: Wait>(rt: &R, alloc: Global) -> Result<(FindAnswer, u64, u64), Fai
     let mut clock = clock_of(0);
     let answer = find_in(rt, &lock, &mut seat, &mut clock, &AppWord::Team(1));
     Ok((answer, seat.seen(), clock.time))
-}
-
-#[test]
-fn a_team_is_looked_up_in_a_shared_roster(rt: HostRuntime) -> Result<(), Fail> {
-    assert_eq!(rt; look_up(&rt, rt.alloc())?, (FindAnswer::NoTeam, 1, 1));
-    Ok(())
 }

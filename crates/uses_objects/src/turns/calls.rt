@@ -3,7 +3,9 @@ ghost use Rattle.std.specs.Prelude.{◌≡◌, false};
 ghost use Rattle.std.specs.Arc.{arc_value};
 
 use super::shared::{add_to, await_count, look};
+use super::stamps::{BOOKS, first_stamp, two_entries, two_stamps};
 use super::tally::Tally;
+use crate::compare::same;
 use ak_base::ThreadId;
 use ak_turn::{Book, Clock, Seat, TurnLock, fronts_go_on};
 use std::alloc::Global;
@@ -14,16 +16,7 @@ use std::thread::yield_now;
 
 /// The stamp of a call; how many entries were seen by its seat behind it, by main's before it waited for it and after, and
 /// by a seat that is split off then; how long the tally is; and whether the entry of the call stands in it.
-#[derive(Clone, Copy, Debug, PartialEq, Eq)]
-struct Called {
-    stamp: u64,
-    by_its_seat: u64,
-    before: u64,
-    waited: u64,
-    by_a_new_one: u64,
-    entries: u64,
-    has_it: bool,
-}
+type Called = (u64, [u64; 4], u64, bool);
 
 fn split_call_and_join<R: Wait>(rt: &R, alloc: Global) -> Result<Called, Fail> {
     let (lock, mut main) = TurnLock::new(alloc, Tally::new(alloc), ThreadId(0))?;
@@ -42,30 +35,29 @@ fn split_call_and_join<R: Wait>(rt: &R, alloc: Global) -> Result<Called, Fail> {
     let mut fourth = lock.split(&mut main, ThreadId(3));
     let by_a_new_one = look(rt, &lock, &mut fourth);
     let tally = lock.lock(rt, &mut main).keep();
-    Ok(Called {
-        stamp: count.stamp,
-        by_its_seat,
-        before,
-        waited,
-        by_a_new_one,
-        entries: tally.len(),
-        has_it: tally.entry(0)? == Some(count),
-    })
+    Ok((
+        count.stamp,
+        [by_its_seat, before, waited, by_a_new_one],
+        tally.len(),
+        tally.entry(0)? == Some(count),
+    ))
 }
 
-const CALLED: Called = Called {
-    stamp: 7,
-    by_its_seat: 1,
-    before: 0,
-    waited: 1,
-    by_a_new_one: 1,
-    entries: 1,
-    has_it: true,
-};
+const CALLED: Called = (7, [1, 0, 1, 1], 1, true);
 
 #[test]
-fn seats_split_call_and_join(rt: HostRuntime) -> Result<(), Fail> {
-    assert_eq!(rt; split_call_and_join(&rt, rt.alloc())?, CALLED);
+fn turns_are_entries_with_stamps(rt: HostRuntime) -> Result<(), Fail> {
+    let alloc = rt.alloc();
+    fronts_go_on::<Tally>();
+    same(
+        &rt,
+        "seats split, call and join",
+        split_call_and_join(&rt, alloc)?,
+        CALLED,
+    );
+    same(&rt, "a stamp is past both", first_stamp(), None);
+    same(&rt, "stamps of one thread rise", two_stamps(), (6, 7));
+    same(&rt, "a tally is a book", two_entries(alloc)?, BOOKS);
     Ok(())
 }
 
@@ -108,9 +100,4 @@ fn a_thread_waits_for_entries(rt: HostRuntime) -> Result<(), Fail> {
         child.join(&rt);
     }
     Ok(())
-}
-
-#[test]
-fn the_law_of_turns_is_called() {
-    fronts_go_on::<Tally>();
 }

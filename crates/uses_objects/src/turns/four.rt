@@ -205,11 +205,12 @@ pub fn four_threads<R: Threads + Wait + Sync>(
 
 // How many entries there are, and whether they have the numbers from 0 on.
 fn numbered(made: &Vec<Count>) -> (usize, bool) {
-    let from_0_on = made
-        .iter()
-        .enumerate()
-        .all(|(place, count)| count.number == place as u64);
-    (made.len(), from_0_on)
+    for (place, count) in made.iter().enumerate() {
+        if count.number != place as u64 {
+            return (made.len(), false);
+        }
+    }
+    (made.len(), true)
 }
 
 // Whether the stamps rise, and each entry is of one of the four.

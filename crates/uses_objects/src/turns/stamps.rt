@@ -6,7 +6,7 @@ use std::alloc::Global;
 use std::test::Fail;
 
 // The clock's time, the object's last stamp, and the stamp.
-const STAMPS: [(u64, u64, u64); 7] = [
+static STAMPS: [(u64, u64, u64); 7] = [
     (0, 0, 1),
     (0, 7, 8),
     (7, 0, 8),
@@ -17,7 +17,7 @@ const STAMPS: [(u64, u64, u64); 7] = [
 ];
 
 // The stamp behind that time and that last stamp, and the clock's time and thread then; zeros where no stamp is left.
-fn stamped(time: u64, last: u64) -> (u64, u64, ThreadId) {
+fn stamped(time: u64, last: u64) -> Stamped {
     if time >= 1 << 63 || last >= 1 << 63 {
         return (0, 0, ThreadId(0));
     }
@@ -29,22 +29,28 @@ fn stamped(time: u64, last: u64) -> (u64, u64, ThreadId) {
     (stamp, clock.time, clock.thread)
 }
 
-#[test]
-fn a_stamp_is_past_both(rt: HostRuntime) {
-    for (time, last, stamp) in STAMPS {
-        assert_eq!(rt; stamped(time, last), (stamp, stamp, ThreadId(4)));
+type Stamped = (u64, u64, ThreadId);
+
+/// The first one that is stamped otherwise: its place, what came, and what was to come.
+pub fn first_stamp() -> Option<(usize, Stamped, Stamped)> {
+    for (place, &(time, last, stamp)) in STAMPS.iter().enumerate() {
+        let wanted = (stamp, stamp, ThreadId(4));
+        let came = stamped(time, last);
+        if came != wanted {
+            return Some((place, came, wanted));
+        }
     }
+    None
 }
 
-#[test]
-fn stamps_of_one_thread_rise(rt: HostRuntime) {
+/// Two stamps of one thread.
+pub fn two_stamps() -> (u64, u64) {
     let mut clock = Clock {
         thread: ThreadId(0),
         time: 0,
     };
     let first = clock.stamp(5);
-    let second = clock.stamp(0);
-    assert_eq!(rt; (first, second), (6, 7));
+    (first, clock.stamp(0))
 }
 
 const FIRST: Count = Count {
@@ -60,15 +66,15 @@ const SECOND: Count = Count {
 };
 
 /// The last stamp of a tally, how long it is, and its first three entries.
-type Told = (u64, u64, [Option<Count>; 3]);
+pub type Told = (u64, u64, [Option<Count>; 3]);
 
 fn told_by(tally: &Tally) -> Result<Told, Fail> {
     let entries = [tally.entry(0)?, tally.entry(1)?, tally.entry(2)?];
     Ok((tally.last_stamp(), tally.len(), entries))
 }
 
-// A tally before and after two entries.
-fn two_entries(alloc: Global) -> Result<(Told, Told), Fail> {
+/// A tally before and after two entries.
+pub fn two_entries(alloc: Global) -> Result<(Told, Told), Fail> {
     let mut tally = Tally::new(alloc);
     let before = told_by(&tally)?;
     tally.add(FIRST)?;
@@ -76,10 +82,8 @@ fn two_entries(alloc: Global) -> Result<(Told, Told), Fail> {
     Ok((before, told_by(&tally)?))
 }
 
-#[test]
-fn a_tally_is_a_book(rt: HostRuntime) -> Result<(), Fail> {
-    let none = (0, 0, [None, None, None]);
-    let two = (5, 2, [Some(FIRST), Some(SECOND), None]);
-    assert_eq!(rt; two_entries(rt.alloc())?, (none, two));
-    Ok(())
-}
+/// What is told of it.
+pub const BOOKS: (Told, Told) = (
+    (0, 0, [None, None, None]),
+    (5, 2, [Some(FIRST), Some(SECOND), None]),
+);

@@ -69,96 +69,138 @@ impl HandlerRow for Held {
     }
 }
 
-pub fn text(alloc: Global, bytes: &[u8]) -> Result<Text, Fail> {
+fn text(alloc: Global, bytes: &[u8]) -> Result<Text, Fail> {
     Ok(Text::from_bytes(alloc, bytes)?)
 }
 
-/// A row of that name, with these commands and forms; none of them stand for all.
-pub fn table_row(
-    alloc: Global,
-    name: &[u8],
-    commands: &[Code],
-    forms: &[u32],
-) -> Result<PropertyRow, Fail> {
-    Ok(PropertyRow {
-        name: text(alloc, name)?,
-        kind: Kind::Text,
-        commands: Items::from_vec(commands.to_vec(alloc)?),
-        forms: Items::from_vec(forms.to_vec(alloc)?),
-        usage: text(alloc, b"")?,
-    })
+// None for the empty text.
+fn text_or_none(alloc: Global, bytes: &[u8]) -> Result<Option<Text>, Fail> {
+    if bytes.is_empty() {
+        Ok(None)
+    } else {
+        Ok(Some(text(alloc, bytes)?))
+    }
 }
 
-/// A handler with that property.
-pub fn holding(alloc: Global, property: &[u8], reaction: Code) -> Result<Held, Fail> {
+// ---- loopers, in plain data
+/// A property: its name, and the commands and the forms that it takes; none of them stand for all.
+pub type Property = (&'static [u8], &'static [Code], &'static [u32]);
+
+/// What a looper holds: its properties, and its reactions.
+pub type Own = (&'static [Property], [Code; 2]);
+
+/// A handler with `Title`: its name, its reaction, and its filters.
+pub type Beside = (&'static [u8], Code, &'static [FilterRow]);
+
+/// A filter: on which code, whether it skips, to which name it passes, if to any, and which code it sets.
+pub type FilterRow = (Option<Code>, bool, &'static [u8], Option<Code>);
+
+/// What is changed of a looper that is made.
+#[derive(Clone, Copy)]
+pub enum Change {
+    Next(u64, Option<u64>),
+    Prefer(u64),
+    Remove(u64),
+}
+
+/// A looper `demo`, handlers beside it, what is changed then, the common filters, and the rows that it is tried with.
+#[derive(Clone, Copy)]
+pub struct Scene {
+    pub label: &'static str,
+    pub own: Own,
+    pub beside: &'static [Beside],
+    pub changes: &'static [Change],
+    pub common: &'static [FilterRow],
+    pub rows: &'static [Row],
+}
+
+/// No reaction is to this code, which is sent nowhere.
+pub const NO_CODE: Code = Code(0);
+
+/// With `Count`, and no reaction.
+pub const COUNTING: Own = (&[(b"Count", &[], &[])], [NO_CODE, NO_CODE]);
+
+/// The handlers `a` (1) and `b` (2).
+pub const A_AND_B: &[Beside] = &[(b"a", NO_CODE, &[]), (b"b", PING, &[])];
+
+fn table_of(alloc: Global, properties: &[Property]) -> Result<PropertyTable, Fail> {
     let mut table = PropertyTable::new(alloc);
-    table.add_row(table_row(alloc, property, &[], &[])?)?;
+    for (name, commands, forms) in properties {
+        table.add_row(PropertyRow {
+            name: text(alloc, name)?,
+            kind: Kind::Text,
+            commands: Items::from_vec(commands.to_vec(alloc)?),
+            forms: Items::from_vec(forms.to_vec(alloc)?),
+            usage: text(alloc, b"")?,
+        })?;
+    }
+    Ok(table)
+}
+
+pub fn filters_of(alloc: Global, rows: &[FilterRow]) -> Result<FilterList, Fail> {
+    let mut filters = FilterList::new(alloc);
+    for (what, skip, name, set_what) in rows {
+        filters.push(Filter {
+            what: *what,
+            source: SourceIs::Any,
+            delivery: DeliveryIs::Any,
+            skip: *skip,
+            to: text_or_none(alloc, name)?,
+            set_what: *set_what,
+        })?;
+    }
+    Ok(filters)
+}
+
+fn held_of(alloc: Global, own: &Own, filters: &[FilterRow]) -> Result<Held, Fail> {
+    let (properties, [reaction, other_reaction]) = *own;
     Ok(Held {
-        table,
-        filters: FilterList::new(alloc),
+        table: table_of(alloc, properties)?,
+        filters: filters_of(alloc, filters)?,
         reaction,
-        other_reaction: Code(0),
+        other_reaction,
     })
 }
 
-/// A looper of the name `demo` that holds this.
-pub fn looper_with(alloc: Global, held: Held) -> Result<HandlerSet<Held>, Fail> {
+/// The looper `demo`.
+pub fn looper_of(alloc: Global, own: &Own) -> Result<HandlerSet<Held>, Fail> {
+    let held = held_of(alloc, own, &[])?;
     Ok(HandlerSet::new(alloc, text(alloc, b"demo")?, held)?)
 }
 
-/// The looper `demo` with `Count` and that reaction.
-pub fn looper(alloc: Global, reaction: Code) -> Result<HandlerSet<Held>, Fail> {
-    looper_with(alloc, holding(alloc, b"Count", reaction)?)
-}
-
-/// Adds a handler with `Title` and that reaction, and with that filter, if there is one.
-pub fn add_handler(
+fn add_handlers(
     alloc: Global,
     set: &mut HandlerSet<Held>,
-    name: &[u8],
-    reaction: Code,
-    filter: Option<Filter>,
+    handlers: &[Beside],
 ) -> Result<(), Fail> {
-    let mut held = holding(alloc, b"Title", reaction)?;
-    if let Some(filter) = filter {
-        held.filters.push(filter)?;
+    for (name, reaction, filters) in handlers {
+        let own: Own = (&[(b"Title", &[], &[])], [*reaction, NO_CODE]);
+        set.add(text(alloc, name)?, held_of(alloc, &own, filters)?)?;
     }
-    set.add(text(alloc, name)?, held)?;
     Ok(())
 }
 
-/// The looper `demo` with `Count`, and the handlers `a` (1) and `b` (2) with `Title`.
-pub fn demo(alloc: Global) -> Result<HandlerSet<Held>, Fail> {
-    let mut set = looper(alloc, Code(0))?;
-    add_handler(alloc, &mut set, b"a", Code(0), None)?;
-    add_handler(alloc, &mut set, b"b", PING, None)?;
+fn apply(set: &mut HandlerSet<Held>, changes: &[Change]) -> Result<(), Fail> {
+    for change in changes {
+        match *change {
+            Change::Next(token, next) => set.set_next(token, next)?,
+            Change::Prefer(token) => set.set_preferred(Some(token))?,
+            Change::Remove(token) => {
+                set.remove(token)?;
+            }
+        }
+    }
+    Ok(())
+}
+
+fn set_of(alloc: Global, scene: &Scene) -> Result<HandlerSet<Held>, Fail> {
+    let mut set = looper_of(alloc, &scene.own)?;
+    add_handlers(alloc, &mut set, scene.beside)?;
+    apply(&mut set, scene.changes)?;
     Ok(set)
 }
 
-/// A filter on a code, or on all: it skips, or passes on without a new target, and sets the code.
-pub fn filter(what: Option<Code>, skip: bool, set_what: Option<Code>) -> Filter {
-    Filter {
-        what,
-        source: SourceIs::Any,
-        delivery: DeliveryIs::Any,
-        skip,
-        to: None,
-        set_what,
-    }
-}
-
-/// One that passes to that name, and sets the code.
-pub fn passing_to(
-    alloc: Global,
-    what: Option<Code>,
-    name: &[u8],
-    set_what: Option<Code>,
-) -> Result<Filter, Fail> {
-    let mut passing = filter(what, false, set_what);
-    passing.to = Some(text(alloc, name)?);
-    Ok(passing)
-}
-
+// ---- messages, in plain data
 fn property(letter: u8) -> &'static [u8] {
     match letter {
         b'C' => b"Count",
@@ -239,33 +281,39 @@ pub fn routed_from(
 /// many specifiers are popped then, and its code then. A program of the looper's team sent it.
 pub type Row = (bool, Target, Code, &'static [u8], Route, u32, Code);
 
-/// The place of a row, and what came in the place of what it tells.
-pub type Other = (usize, Told);
+/// What came, and what was to come.
+pub type Other = (Told, Told);
 
-/// The first row that is told otherwise.
-pub fn first_other(
+// The first row that is told otherwise, and its place.
+fn first_row(
     alloc: Global,
     set: &HandlerSet<Held>,
     common: &FilterList,
     rows: &[Row],
-) -> Result<Option<Other>, Fail> {
+) -> Result<Option<(usize, Other)>, Fail> {
     for (place, &(own, first, what, specifiers, route, popped, code)) in rows.iter().enumerate() {
         let message = message(alloc, what, specifiers)?;
         let told = routed_from(alloc, set, common, own, (true, false), first, message)?;
-        if told != (route, popped, code) {
-            return Ok(Some((place, told)));
+        let wanted = (route, popped, code);
+        if told != wanted {
+            return Ok(Some((place, (told, wanted))));
         }
     }
     Ok(None)
 }
 
-/// The first row that is told otherwise where there are no common filters.
-pub fn first_unfiltered(
-    alloc: Global,
-    set: &HandlerSet<Held>,
-    rows: &[Row],
-) -> Result<Option<Other>, Fail> {
-    first_other(alloc, set, &FilterList::new(alloc), rows)
+/// The first scene with a row that is told otherwise: its label, and the row.
+pub type First = (&'static str, (usize, Other));
+
+pub fn first_scene(alloc: Global, scenes: &[Scene]) -> Result<Option<First>, Fail> {
+    for scene in scenes {
+        let set = set_of(alloc, scene)?;
+        let common = filters_of(alloc, scene.common)?;
+        if let Some(other) = first_row(alloc, &set, &common, scene.rows)? {
+            return Ok(Some((scene.label, other)));
+        }
+    }
+    Ok(None)
 }
 
 pub const PREFERRED: Target = Target::Preferred;

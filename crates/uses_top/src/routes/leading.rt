@@ -1,15 +1,12 @@
 //! Where the first target and the specifiers lead.
 use super::fixture::{
-    ARGV, AT_A, AT_B, AT_LOOPER, B_REACTS, BUILT_IN, BUILT_IN_A, BUILT_IN_B, COUNT, DROPPED,
-    FORWARD, GET, Held, LOST, Other, PING, PREFERRED, QUIT, READY, Row, SET, SUITES, TO_A, TO_B,
-    TO_LOOPER, demo, first_unfiltered,
+    A_AND_B, ARGV, AT_A, AT_B, AT_LOOPER, B_REACTS, BUILT_IN, BUILT_IN_A, BUILT_IN_B, COUNT,
+    COUNTING, Change, DROPPED, FORWARD, GET, LOST, PING, PREFERRED, QUIT, READY, Row, SET, SUITES,
+    Scene, TO_A, TO_B, TO_LOOPER,
 };
-use ak_handler::HandlerSet;
 use ak_message::Target;
-use std::alloc::Global;
-use std::test::Fail;
 
-static ROUTES: [Row; 42] = [
+const ROUTES: &[Row] = &[
     (false, PREFERRED, GET, b"T.Hb", AT_B, 1, GET),
     (false, PREFERRED, GET, b"T.H3", LOST, 0, GET),
     (false, PREFERRED, GET, b"T.H1", AT_A, 1, GET),
@@ -56,7 +53,7 @@ static ROUTES: [Row; 42] = [
 
 // A badly formed specifier that is not current, and messages without specifiers, or with well formed ones alone, to the
 // looper itself.
-static BAD_ONCE_CURRENT: [Row; 8] = [
+const BAD_ONCE_CURRENT: &[Row] = &[
     (false, PREFERRED, GET, b"!1H1", AT_A, 1, GET),
     (false, PREFERRED, GET, b"!2H1", LOST, 1, GET),
     (false, PREFERRED, GET, b"!9H1", LOST, 1, GET),
@@ -68,7 +65,7 @@ static BAD_ONCE_CURRENT: [Row; 8] = [
 ];
 
 // By index without one, by name without one, and of no form.
-static BAD_TO_PREFERRED: [Row; 9] = [
+const BAD_TO_PREFERRED: &[Row] = &[
     (true, PREFERRED, GET, b"!2", LOST, 0, GET),
     (true, PREFERRED, QUIT, b"!2", LOST, 0, QUIT),
     (true, PREFERRED, PING, b"!2", LOST, 0, PING),
@@ -80,7 +77,7 @@ static BAD_TO_PREFERRED: [Row; 9] = [
     (true, PREFERRED, PING, b"!9", LOST, 0, PING),
 ];
 
-static BAD_TO_TOKENS: [Row; 18] = [
+const BAD_TO_TOKENS: &[Row] = &[
     (true, TO_LOOPER, GET, b"!2", LOST, 0, GET),
     (true, TO_LOOPER, QUIT, b"!2", LOST, 0, QUIT),
     (true, TO_LOOPER, PING, b"!2", LOST, 0, PING),
@@ -101,26 +98,8 @@ static BAD_TO_TOKENS: [Row; 18] = [
     (true, TO_B, PING, b"!9", LOST, 0, PING),
 ];
 
-// Tables of `demo`: the routes; specifiers that are badly formed, to the preferred handler, which is the looper, and
-// to tokens; and those that count once they are current.
-fn at_demo(alloc: Global) -> Result<[Option<Other>; 4], Fail> {
-    let set = demo(alloc)?;
-    Ok([
-        first_unfiltered(alloc, &set, &ROUTES)?,
-        first_unfiltered(alloc, &set, &BAD_TO_PREFERRED)?,
-        first_unfiltered(alloc, &set, &BAD_TO_TOKENS)?,
-        first_unfiltered(alloc, &set, &BAD_ONCE_CURRENT)?,
-    ])
-}
-
-#[test]
-fn messages_are_routed(rt: HostRuntime) -> Result<(), Fail> {
-    assert_eq!(rt; at_demo(rt.alloc())?, [None, None, None, None]);
-    Ok(())
-}
-
 // Without a match the looper is asked, which leads on to another handler, and to the same one.
-static WITH_A_PREFERRED: [Row; 6] = [
+const WITH_A_PREFERRED: &[Row] = &[
     (false, PREFERRED, GET, b"T.", AT_A, 0, GET),
     (false, PREFERRED, GET, b"C.", AT_LOOPER, 0, GET),
     (false, PREFERRED, QUIT, b"", BUILT_IN, 0, QUIT),
@@ -130,59 +109,121 @@ static WITH_A_PREFERRED: [Row; 6] = [
 ];
 
 // The chain of `a` ends with it.
-static WITHOUT_A_NEXT_ONE: [Row; 1] = [(false, TO_A, QUIT, b"", LOST, 0, QUIT)];
+const WITHOUT_A_NEXT_ONE: &[Row] = &[(false, TO_A, QUIT, b"", LOST, 0, QUIT)];
 
 // The token of `a` leads nowhere.
-static ONCE_REMOVED: [Row; 1] = [(false, TO_A, GET, b"T.", DROPPED, 0, GET)];
+const ONCE_REMOVED: &[Row] = &[(false, TO_A, GET, b"T.", DROPPED, 0, GET)];
 
-fn preferring_a(alloc: Global) -> Result<HandlerSet<Held>, Fail> {
-    let mut set = demo(alloc)?;
-    set.set_preferred(Some(1))?;
-    Ok(set)
-}
-
-// Tables of `demo` where `a` is preferred: the routes, and specifiers that are badly formed; then without a next one to
-// `a`; and once that is removed.
-fn with_a_preferred(alloc: Global) -> Result<[Option<Other>; 4], Fail> {
-    let mut set = preferring_a(alloc)?;
-    let preferred = first_unfiltered(alloc, &set, &WITH_A_PREFERRED)?;
-    let bad = first_unfiltered(alloc, &set, &BAD_TO_PREFERRED)?;
-    set.set_next(1, None)?;
-    let alone = first_unfiltered(alloc, &set, &WITHOUT_A_NEXT_ONE)?;
-    set.remove(1)?;
-    let removed = first_unfiltered(alloc, &set, &ONCE_REMOVED)?;
-    Ok([preferred, bad, alone, removed])
-}
-
-#[test]
-fn the_preferred_handler_is_asked_first(rt: HostRuntime) -> Result<(), Fail> {
-    assert_eq!(rt; with_a_preferred(rt.alloc())?, [None, None, None, None]);
-    Ok(())
-}
-
-static BEFORE_B: [Row; 2] = [
+const BEFORE_B: &[Row] = &[
     (false, TO_A, PING, b"", B_REACTS, 0, PING),
     (false, TO_A, QUIT, b"", LOST, 0, QUIT),
 ];
 
-static WITHOUT_B: [Row; 2] = [
+const WITHOUT_B: &[Row] = &[
     (false, TO_A, PING, b"", LOST, 0, PING),
     (false, TO_A, QUIT, b"", BUILT_IN, 0, QUIT),
 ];
 
-// Where `b`, which has no next one, is next to `a`, and once `b` is removed.
-fn with_b_next_to_a(alloc: Global) -> Result<[Option<Other>; 2], Fail> {
-    let mut set = demo(alloc)?;
-    set.set_next(2, None)?;
-    set.set_next(1, Some(2))?;
-    let before = first_unfiltered(alloc, &set, &BEFORE_B)?;
-    set.remove(2)?;
-    let without = first_unfiltered(alloc, &set, &WITHOUT_B)?;
-    Ok([before, without])
-}
+const PREFER_A: &[Change] = &[Change::Prefer(1)];
 
-#[test]
-fn the_looper_is_next_to_one_whose_next_is_removed(rt: HostRuntime) -> Result<(), Fail> {
-    assert_eq!(rt; with_b_next_to_a(rt.alloc())?, [None, None]);
-    Ok(())
-}
+const PREFER_A_ALONE: &[Change] = &[Change::Prefer(1), Change::Next(1, None)];
+
+const PREFER_A_AND_REMOVE_IT: &[Change] = &[
+    Change::Prefer(1),
+    Change::Next(1, None),
+    Change::Remove(1),
+];
+
+// `b`, which has no next one, is next to `a`.
+const B_NEXT_TO_A: &[Change] = &[Change::Next(2, None), Change::Next(1, Some(2))];
+
+const B_NEXT_TO_A_REMOVED: &[Change] = &[
+    Change::Next(2, None),
+    Change::Next(1, Some(2)),
+    Change::Remove(2),
+];
+
+/// Scenes of `demo`. Specifiers that are badly formed go to the preferred handler, which is the looper or `a`, and to tokens;
+/// or they count once they are current.
+pub static SCENES: [Scene; 10] = [
+    Scene {
+        label: "messages are routed",
+        own: COUNTING,
+        beside: A_AND_B,
+        changes: &[],
+        common: &[],
+        rows: ROUTES,
+    },
+    Scene {
+        label: "bad specifiers, to the preferred handler",
+        own: COUNTING,
+        beside: A_AND_B,
+        changes: &[],
+        common: &[],
+        rows: BAD_TO_PREFERRED,
+    },
+    Scene {
+        label: "bad specifiers, to tokens",
+        own: COUNTING,
+        beside: A_AND_B,
+        changes: &[],
+        common: &[],
+        rows: BAD_TO_TOKENS,
+    },
+    Scene {
+        label: "bad specifiers, once they are current",
+        own: COUNTING,
+        beside: A_AND_B,
+        changes: &[],
+        common: &[],
+        rows: BAD_ONCE_CURRENT,
+    },
+    Scene {
+        label: "the preferred handler is asked first",
+        own: COUNTING,
+        beside: A_AND_B,
+        changes: PREFER_A,
+        common: &[],
+        rows: WITH_A_PREFERRED,
+    },
+    Scene {
+        label: "bad specifiers, to another preferred handler",
+        own: COUNTING,
+        beside: A_AND_B,
+        changes: PREFER_A,
+        common: &[],
+        rows: BAD_TO_PREFERRED,
+    },
+    Scene {
+        label: "a preferred one without a next one",
+        own: COUNTING,
+        beside: A_AND_B,
+        changes: PREFER_A_ALONE,
+        common: &[],
+        rows: WITHOUT_A_NEXT_ONE,
+    },
+    Scene {
+        label: "a preferred one, once it is removed",
+        own: COUNTING,
+        beside: A_AND_B,
+        changes: PREFER_A_AND_REMOVE_IT,
+        common: &[],
+        rows: ONCE_REMOVED,
+    },
+    Scene {
+        label: "the last one is next",
+        own: COUNTING,
+        beside: A_AND_B,
+        changes: B_NEXT_TO_A,
+        common: &[],
+        rows: BEFORE_B,
+    },
+    Scene {
+        label: "the looper is next to one whose next is removed",
+        own: COUNTING,
+        beside: A_AND_B,
+        changes: B_NEXT_TO_A_REMOVED,
+        common: &[],
+        rows: WITHOUT_B,
+    },
+];

@@ -1,26 +1,26 @@
 //! What the filters make of a message.
 use super::fixture::{
-    A_REACTS, AT_LOOPER, B_REACTS, COUNT, GET, LOST, Other, PING, PONG, PREFERRED, REACTS, Row,
-    SET, SKIPPED, TO_A, TO_B, TO_LOOPER, Told, add_handler, demo, filter, first_other, looper,
-    message, passing_to, routed_from,
+    A_AND_B, A_REACTS, AT_LOOPER, B_REACTS, Beside, COUNT, COUNTING, Change, FilterRow, GET, LOST,
+    NO_CODE, Own, PING, PONG, PREFERRED, REACTS, Row, SET, SKIPPED, Scene, TO_A, TO_B, TO_LOOPER,
+    Told, looper_of, message, routed_from,
 };
-use ak_base::Code;
-use ak_filter::{DeliveryIs, FilterList, SourceIs};
+use ak_filter::{DeliveryIs, Filter, FilterList, SourceIs};
 use std::alloc::Global;
 use std::test::Fail;
 
-// The code of a `SET` message changes twice, though no handler has the name to which it is passed.
-fn filters_in_order(alloc: Global) -> Result<FilterList, Fail> {
-    let mut common = FilterList::new(alloc);
-    common.push(filter(Some(GET), true, None))?;
-    common.push(filter(Some(PONG), true, None))?;
-    common.push(passing_to(alloc, Some(PING), b"b", None)?)?;
-    common.push(passing_to(alloc, Some(SET), b"none", Some(PING))?)?;
-    common.push(filter(Some(PING), false, Some(PONG)))?;
-    Ok(common)
-}
+// The looper with `Count` and a reaction on `PONG`.
+const PONGING: Own = (&[(b"Count", &[], &[])], [PONG, NO_CODE]);
 
-static IN_ORDER: [Row; 6] = [
+// The code of a `SET` message changes twice, though no handler has the name to which it is passed.
+const FILTERS_IN_ORDER: &[FilterRow] = &[
+    (Some(GET), true, b"", None),
+    (Some(PONG), true, b"", None),
+    (Some(PING), false, b"b", None),
+    (Some(SET), false, b"none", Some(PING)),
+    (Some(PING), false, b"", Some(PONG)),
+];
+
+const IN_ORDER: &[Row] = &[
     (false, PREFERRED, GET, b"C.", SKIPPED, 0, GET),
     (false, PREFERRED, SET, b"", LOST, 0, PONG),
     (false, PREFERRED, SET, b"C.", LOST, 0, PONG),
@@ -29,82 +29,46 @@ static IN_ORDER: [Row; 6] = [
     (false, PREFERRED, PING, b"", LOST, 0, PONG),
 ];
 
-fn run_in_order(alloc: Global) -> Result<Option<Other>, Fail> {
-    let common = filters_in_order(alloc)?;
-    first_other(alloc, &demo(alloc)?, &common, &IN_ORDER)
-}
-
 // A filter that passes to a name that is not there, and one that sees the code which that sets.
-fn passing_to_none(alloc: Global) -> Result<FilterList, Fail> {
-    let mut common = FilterList::new(alloc);
-    common.push(passing_to(alloc, Some(SET), b"none", Some(PING))?)?;
-    common.push(filter(Some(PING), false, Some(PONG)))?;
-    Ok(common)
-}
+const PASSING_TO_NONE: &[FilterRow] = &[
+    (Some(SET), false, b"none", Some(PING)),
+    (Some(PING), false, b"", Some(PONG)),
+];
 
-static NO_REFUSAL: [Row; 4] = [
+const NO_REFUSAL: &[Row] = &[
     (false, PREFERRED, SET, b"", REACTS, 0, PONG),
     (false, PREFERRED, SET, b"C.", REACTS, 0, PONG),
     (false, PREFERRED, PING, b"", REACTS, 0, PONG),
     (false, PREFERRED, GET, b"C.", AT_LOOPER, 0, GET),
 ];
 
-fn passed_to_none(alloc: Global) -> Result<Option<Other>, Fail> {
-    let common = passing_to_none(alloc)?;
-    first_other(alloc, &looper(alloc, PONG)?, &common, &NO_REFUSAL)
-}
-
 // In the other order nothing makes a `PONG` of the `PING` that was made of a `SET`.
-fn in_the_other_order(alloc: Global) -> Result<FilterList, Fail> {
-    let mut common = FilterList::new(alloc);
-    common.push(filter(Some(PING), false, Some(PONG)))?;
-    common.push(filter(Some(SET), false, Some(PING)))?;
-    Ok(common)
-}
+const IN_THE_OTHER_ORDER: &[FilterRow] = &[
+    (Some(PING), false, b"", Some(PONG)),
+    (Some(SET), false, b"", Some(PING)),
+];
 
-static OTHER_ORDER: [Row; 1] = [(false, PREFERRED, SET, b"", LOST, 0, PING)];
+const OTHER_ORDER: &[Row] = &[(false, PREFERRED, SET, b"", LOST, 0, PING)];
+
+// And then with a filter more, which skips each `PONG`.
+const SKIPPING_PONG: &[FilterRow] = &[
+    (Some(PING), false, b"", Some(PONG)),
+    (Some(SET), false, b"", Some(PING)),
+    (Some(PONG), true, b"", None),
+];
 
 // What is skipped keeps the code that it came with, though it was skipped for another.
-static SKIPPED_AS_IT_CAME: [Row; 1] = [(false, PREFERRED, PING, b"", SKIPPED, 0, PING)];
+const SKIPPED_AS_IT_CAME: &[Row] = &[(false, PREFERRED, PING, b"", SKIPPED, 0, PING)];
 
-// In the other order, and then with a filter more, which skips each `PONG`.
-fn run_in_the_other_order(alloc: Global) -> Result<[Option<Other>; 2], Fail> {
-    let set = looper(alloc, PONG)?;
-    let mut common = in_the_other_order(alloc)?;
-    let changed = first_other(alloc, &set, &common, &OTHER_ORDER)?;
-    common.push(filter(Some(PONG), true, None))?;
-    let skipped = first_other(alloc, &set, &common, &SKIPPED_AS_IT_CAME)?;
-    Ok([changed, skipped])
-}
-
-#[test]
-fn common_filters_run_in_order(rt: HostRuntime) -> Result<(), Fail> {
-    let alloc = rt.alloc();
-    let [changed, skipped] = run_in_the_other_order(alloc)?;
-    let told = [
-        run_in_order(alloc)?,
-        passed_to_none(alloc)?,
-        changed,
-        skipped,
-    ];
-    assert_eq!(rt; told, [None, None, None, None]);
-    Ok(())
-}
-
-static PASSED_ONCE: [Row; 1] = [(false, PREFERRED, PING, b"", A_REACTS, 0, PING)];
+const PASSED_ONCE: &[Row] = &[(false, PREFERRED, PING, b"", A_REACTS, 0, PING)];
 
 // The handlers `a`, which is preferred, and `b`: each passes all that it gets to the other.
-fn passed_to_each_other(alloc: Global) -> Result<Option<Other>, Fail> {
-    let mut set = looper(alloc, Code(0))?;
-    let to_b = passing_to(alloc, None, b"b", None)?;
-    add_handler(alloc, &mut set, b"a", PING, Some(to_b))?;
-    let to_a = passing_to(alloc, None, b"a", None)?;
-    add_handler(alloc, &mut set, b"b", PING, Some(to_a))?;
-    set.set_preferred(Some(1))?;
-    first_other(alloc, &set, &FilterList::new(alloc), &PASSED_ONCE)
-}
+const TO_EACH_OTHER: &[Beside] = &[
+    (b"a", PING, &[(None, false, b"b", None)]),
+    (b"b", PING, &[(None, false, b"a", None)]),
+];
 
-static BY_ITSELF: [Row; 4] = [
+const BY_ITSELF: &[Row] = &[
     (false, TO_LOOPER, PING, b"", LOST, 0, PING),
     (false, TO_A, PING, b"", SKIPPED, 0, PING),
     (false, TO_A, PONG, b"", A_REACTS, 0, PONG),
@@ -112,34 +76,79 @@ static BY_ITSELF: [Row; 4] = [
 ];
 
 // The filters of the handler that it was for do not run, and those of `a` do.
-static PASSED_TO_A: [Row; 2] = [
+const PASSED_TO_A: &[Row] = &[
     (false, TO_B, PING, b"", SKIPPED, 0, PING),
     (false, TO_B, PONG, b"", B_REACTS, 0, PONG),
 ];
 
-// The handler `a`, which skips each `PING`, and `b`, which makes a `PONG` of it; and then with a common filter that
-// passes each `PING` to `a`.
-fn with_filters_of_their_own(alloc: Global) -> Result<[Option<Other>; 2], Fail> {
-    let mut set = looper(alloc, Code(0))?;
-    let skips = filter(Some(PING), true, None);
-    add_handler(alloc, &mut set, b"a", PONG, Some(skips))?;
-    let changes = filter(Some(PING), false, Some(PONG));
-    add_handler(alloc, &mut set, b"b", PONG, Some(changes))?;
-    let mut common = FilterList::new(alloc);
-    let alone = first_other(alloc, &set, &common, &BY_ITSELF)?;
-    common.push(passing_to(alloc, Some(PING), b"a", None)?)?;
-    let passed = first_other(alloc, &set, &common, &PASSED_TO_A)?;
-    Ok([alone, passed])
-}
+// The handler `a`, which skips each `PING`, and `b`, which makes a `PONG` of it; and a common filter that passes each
+// `PING` to `a`.
+const WITH_FILTERS: &[Beside] = &[
+    (b"a", PONG, &[(Some(PING), true, b"", None)]),
+    (b"b", PONG, &[(Some(PING), false, b"", Some(PONG))]),
+];
 
-#[test]
-fn filters_of_a_handler_run_once(rt: HostRuntime) -> Result<(), Fail> {
-    let alloc = rt.alloc();
-    let [alone, passed] = with_filters_of_their_own(alloc)?;
-    let told = [passed_to_each_other(alloc)?, alone, passed];
-    assert_eq!(rt; told, [None, None, None]);
-    Ok(())
-}
+const PASSING_TO_A: &[FilterRow] = &[(Some(PING), false, b"a", None)];
+
+/// Scenes in which common filters run in order, and those of a handler once.
+pub static SCENES: [Scene; 7] = [
+    Scene {
+        label: "filters run in order",
+        own: COUNTING,
+        beside: A_AND_B,
+        changes: &[],
+        common: FILTERS_IN_ORDER,
+        rows: IN_ORDER,
+    },
+    Scene {
+        label: "passed to none",
+        own: PONGING,
+        beside: &[],
+        changes: &[],
+        common: PASSING_TO_NONE,
+        rows: NO_REFUSAL,
+    },
+    Scene {
+        label: "in the other order",
+        own: PONGING,
+        beside: &[],
+        changes: &[],
+        common: IN_THE_OTHER_ORDER,
+        rows: OTHER_ORDER,
+    },
+    Scene {
+        label: "skipped as it came",
+        own: PONGING,
+        beside: &[],
+        changes: &[],
+        common: SKIPPING_PONG,
+        rows: SKIPPED_AS_IT_CAME,
+    },
+    Scene {
+        label: "handlers pass to each other",
+        own: COUNTING,
+        beside: TO_EACH_OTHER,
+        changes: &[Change::Prefer(1)],
+        common: &[],
+        rows: PASSED_ONCE,
+    },
+    Scene {
+        label: "filters of a handler run",
+        own: COUNTING,
+        beside: WITH_FILTERS,
+        changes: &[],
+        common: &[],
+        rows: BY_ITSELF,
+    },
+    Scene {
+        label: "filters of a handler run once",
+        own: COUNTING,
+        beside: WITH_FILTERS,
+        changes: &[],
+        common: PASSING_TO_A,
+        rows: PASSED_TO_A,
+    },
+];
 
 // Whether a message is local, and whether it was dropped.
 static ORIGINS: [(bool, bool); 4] = [(true, false), (true, true), (false, false), (false, true)];
@@ -150,18 +159,27 @@ fn pong_of_each_origin(
     source: SourceIs,
     delivery: DeliveryIs,
 ) -> Result<[Told; 4], Fail> {
-    let set = looper(alloc, PONG)?;
-    let mut skipping = filter(None, true, None);
-    skipping.source = source;
-    skipping.delivery = delivery;
-    let mut common = FilterList::new(alloc);
-    common.push(skipping)?;
+    let set = looper_of(alloc, &PONGING)?;
+    let common = skipping(alloc, source, delivery)?;
     let mut told = [(LOST, 0, PONG); 4];
     for (place, origin) in told.iter_mut().zip(&ORIGINS) {
         let pong = message(alloc, PONG, b"")?;
         *place = routed_from(alloc, &set, &common, false, *origin, PREFERRED, pong)?;
     }
     Ok(told)
+}
+
+fn skipping(alloc: Global, source: SourceIs, delivery: DeliveryIs) -> Result<FilterList, Fail> {
+    let mut filters = FilterList::new(alloc);
+    filters.push(Filter {
+        what: None,
+        source,
+        delivery,
+        skip: true,
+        to: None,
+        set_what: None,
+    })?;
+    Ok(filters)
 }
 
 // What comes of a `PONG` that is skipped, or not.
@@ -199,12 +217,14 @@ static SKIPPING: [(SourceIs, DeliveryIs, [bool; 4]); 6] = [
     ),
 ];
 
-#[test]
-fn where_it_comes_from_and_how_is_asked(rt: HostRuntime) -> Result<(), Fail> {
+/// The first of these that is told otherwise: its place, what came, and what was to come.
+pub fn first_origin(alloc: Global) -> Result<Option<(usize, [Told; 4], [Told; 4])>, Fail> {
     for (place, &(source, delivery, [a, b, c, d])) in SKIPPING.iter().enumerate() {
-        let told = pong_of_each_origin(rt.alloc(), source, delivery)?;
+        let told = pong_of_each_origin(alloc, source, delivery)?;
         let wanted = [told_of(a), told_of(b), told_of(c), told_of(d)];
-        assert_eq!(rt; told, wanted, "row {place}");
+        if told != wanted {
+            return Ok(Some((place, told, wanted)));
+        }
     }
-    Ok(())
+    Ok(None)
 }

@@ -1,45 +1,19 @@
 //! Which handler takes a message, and as what.
 use super::fixture::{
-    A_REACTS, ARGV, AT_LOOPER, BUILT_IN, COUNT, DROPPED, GET, Held, LOST, Other, PING, PONG,
-    PREFERRED, QUIT, REACTS, REACTS_OTHERWISE, READY, Row, SET, SUITES, TO_A, TO_LOOPER,
-    add_handler, demo, first_unfiltered, holding, looper, looper_with, table_row,
+    A_AND_B, A_REACTS, ARGV, AT_LOOPER, BUILT_IN, Beside, COUNT, COUNTING, Change, DROPPED, GET,
+    LOST, Own, PING, PONG, PREFERRED, Property, QUIT, REACTS, REACTS_OTHERWISE, READY, Row, SET,
+    SUITES, Scene, TO_A, TO_LOOPER,
 };
 use ak_base::Code;
-use ak_filter::FilterList;
-use ak_property::PropertyTable;
-use ak_route::{
-    Route, Taker, filters_run_at_most_once, forwards_are_to_later_loopers, no_specifiers_no_steps,
-    resolved_handlers_are_there, takers_are_there, takers_lie_within,
-};
-use std::alloc::Global;
-use std::test::Fail;
-
-#[test]
-fn the_laws_of_routes_are_called() {
-    filters_run_at_most_once();
-    forwards_are_to_later_loopers();
-    no_specifiers_no_steps();
-    resolved_handlers_are_there();
-    takers_are_there();
-    takers_lie_within();
-}
+use ak_route::{Route, Taker};
 
 // Four rows, of which three have one name, and reactions on `PONG` and on `PING`.
-fn four_rows(alloc: Global) -> Result<Held, Fail> {
-    let direct: &[u32] = &[1];
-    let index: &[u32] = &[2];
-    let mut table = PropertyTable::new(alloc);
-    table.add_row(table_row(alloc, b"Title", &[], index)?)?;
-    table.add_row(table_row(alloc, b"Title", &[GET], direct)?)?;
-    table.add_row(table_row(alloc, b"Title", &[SET], direct)?)?;
-    table.add_row(table_row(alloc, b"Count", &[], &[])?)?;
-    Ok(Held {
-        table,
-        filters: FilterList::new(alloc),
-        reaction: PONG,
-        other_reaction: PING,
-    })
-}
+const FOUR_ROWS: &[Property] = &[
+    (b"Title", &[], &[2]),
+    (b"Title", &[GET], &[1]),
+    (b"Title", &[SET], &[1]),
+    (b"Count", &[], &[]),
+];
 
 // What the looper's property of that row takes, of the rows behind the first.
 const SECOND_ROW: Route = Route::Deliver {
@@ -61,7 +35,7 @@ const DELETE: Code = Code::DELETE;
 
 const CREATE: Code = Code::CREATE;
 
-static TAKEN: [Row; 19] = [
+const TAKEN: &[Row] = &[
     (false, TO_LOOPER, GET, b"T.", SECOND_ROW, 0, GET),
     (false, TO_LOOPER, SET, b"T.", THIRD_ROW, 0, SET),
     (false, TO_LOOPER, COUNT, b"T.", LOST, 0, COUNT),
@@ -84,13 +58,8 @@ static TAKEN: [Row; 19] = [
     (false, TO_LOOPER, PING, b"C.T.", REACTS_OTHERWISE, 0, PING),
 ];
 
-fn taken_by_four_rows(alloc: Global) -> Result<Option<Other>, Fail> {
-    let set = looper_with(alloc, four_rows(alloc)?)?;
-    first_unfiltered(alloc, &set, &TAKEN)
-}
-
 // With any number of specifiers.
-static WITH_ANY: [Row; 8] = [
+const WITH_ANY: &[Row] = &[
     (false, TO_LOOPER, QUIT, b"C.", BUILT_IN, 0, QUIT),
     (false, TO_LOOPER, QUIT, b"C.C.", BUILT_IN, 0, QUIT),
     (true, TO_LOOPER, READY, b"C.", BUILT_IN, 0, READY),
@@ -101,17 +70,8 @@ static WITH_ANY: [Row; 8] = [
     (true, TO_LOOPER, SUITES, b"C.C.", LOST, 0, SUITES),
 ];
 
-#[test]
-fn commands_and_forms_decide(rt: HostRuntime) -> Result<(), Fail> {
-    let alloc = rt.alloc();
-    let taken = taken_by_four_rows(alloc)?;
-    let with_any = first_unfiltered(alloc, &demo(alloc)?, &WITH_ANY)?;
-    assert_eq!(rt; [taken, with_any], [None, None]);
-    Ok(())
-}
-
 // Of a looper with `Count`, with `Suites` and with `Handler`; the last keeps what a looper would lead on.
-static WITH_COUNT: [Row; 5] = [
+const WITH_COUNT: &[Row] = &[
     (false, PREFERRED, GET, b"C.", AT_LOOPER, 0, GET),
     (false, PREFERRED, GET, b"S.", REACTS, 0, GET),
     (false, PREFERRED, QUIT, b"", REACTS_OTHERWISE, 0, QUIT),
@@ -119,51 +79,88 @@ static WITH_COUNT: [Row; 5] = [
     (false, PREFERRED, COUNT, b"H.", BUILT_IN, 0, COUNT),
 ];
 
-static WITH_SUITES: [Row; 1] = [(false, PREFERRED, GET, b"S.", AT_LOOPER, 0, GET)];
+const WITH_SUITES: &[Row] = &[(false, PREFERRED, GET, b"S.", AT_LOOPER, 0, GET)];
 
-static WITH_HANDLER: [Row; 2] = [
+const WITH_HANDLER: &[Row] = &[
     (false, PREFERRED, COUNT, b"H.", AT_LOOPER, 0, COUNT),
     (false, PREFERRED, GET, b"T.H0", AT_LOOPER, 0, GET),
 ];
 
-// At a looper with that property, and with reactions on `GET` and on `_QRQ`.
-fn with_reactions(alloc: Global, property: &[u8], rows: &[Row]) -> Result<Option<Other>, Fail> {
-    let mut held = holding(alloc, property, GET)?;
-    held.other_reaction = QUIT;
-    first_unfiltered(alloc, &looper_with(alloc, held)?, rows)
-}
+// With that property, and with reactions on `GET` and on `_QRQ`.
+const WITH_REACTIONS: [Code; 2] = [GET, QUIT];
 
-#[test]
-fn a_property_comes_first_and_what_is_built_in_last(rt: HostRuntime) -> Result<(), Fail> {
-    let alloc = rt.alloc();
-    let told = [
-        with_reactions(alloc, b"Count", &WITH_COUNT)?,
-        with_reactions(alloc, b"Suites", &WITH_SUITES)?,
-        with_reactions(alloc, b"Handler", &WITH_HANDLER)?,
-    ];
-    assert_eq!(rt; told, [None, None, None]);
-    Ok(())
-}
+const WHILE_THERE: &[Row] = &[(false, TO_A, PING, b"", A_REACTS, 0, PING)];
 
-static WHILE_THERE: [Row; 1] = [(false, TO_A, PING, b"", A_REACTS, 0, PING)];
-
-static ONCE_REMOVED: [Row; 2] = [
+const ONCE_REMOVED: &[Row] = &[
     (false, TO_A, PING, b"", DROPPED, 0, PING),
     (false, PREFERRED, GET, b"C.", AT_LOOPER, 0, GET),
 ];
 
-// The looper with `Count`, and `a` with `Title` and a reaction on `PING`, which is removed then.
-fn before_and_after_a_removal(alloc: Global) -> Result<[Option<Other>; 2], Fail> {
-    let mut set = looper(alloc, Code(0))?;
-    add_handler(alloc, &mut set, b"a", PING, None)?;
-    let before = first_unfiltered(alloc, &set, &WHILE_THERE)?;
-    set.remove(1)?;
-    let after = first_unfiltered(alloc, &set, &ONCE_REMOVED)?;
-    Ok([before, after])
-}
+// The handler `a` with `Title` and a reaction on `PING`.
+const ONLY_A: &[Beside] = &[(b"a", PING, &[])];
 
-#[test]
-fn a_removed_handler_gets_nothing(rt: HostRuntime) -> Result<(), Fail> {
-    assert_eq!(rt; before_and_after_a_removal(rt.alloc())?, [None, None]);
-    Ok(())
-}
+const WITH_COUNT_AND_REACTIONS: Own = (&[(b"Count", &[], &[])], WITH_REACTIONS);
+
+const WITH_SUITES_AND_REACTIONS: Own = (&[(b"Suites", &[], &[])], WITH_REACTIONS);
+
+const WITH_HANDLER_AND_REACTIONS: Own = (&[(b"Handler", &[], &[])], WITH_REACTIONS);
+
+/// Scenes in which commands and forms decide, a property comes first and what is built in last, and a handler is removed.
+pub static SCENES: [Scene; 7] = [
+    Scene {
+        label: "commands and forms decide",
+        own: (FOUR_ROWS, [PONG, PING]),
+        beside: &[],
+        changes: &[],
+        common: &[],
+        rows: TAKEN,
+    },
+    Scene {
+        label: "with any number of specifiers",
+        own: COUNTING,
+        beside: A_AND_B,
+        changes: &[],
+        common: &[],
+        rows: WITH_ANY,
+    },
+    Scene {
+        label: "a property comes first",
+        own: WITH_COUNT_AND_REACTIONS,
+        beside: &[],
+        changes: &[],
+        common: &[],
+        rows: WITH_COUNT,
+    },
+    Scene {
+        label: "a property of suites comes first",
+        own: WITH_SUITES_AND_REACTIONS,
+        beside: &[],
+        changes: &[],
+        common: &[],
+        rows: WITH_SUITES,
+    },
+    Scene {
+        label: "a property keeps what leads on",
+        own: WITH_HANDLER_AND_REACTIONS,
+        beside: &[],
+        changes: &[],
+        common: &[],
+        rows: WITH_HANDLER,
+    },
+    Scene {
+        label: "a handler while it is there",
+        own: COUNTING,
+        beside: ONLY_A,
+        changes: &[],
+        common: &[],
+        rows: WHILE_THERE,
+    },
+    Scene {
+        label: "a removed handler gets nothing",
+        own: COUNTING,
+        beside: ONLY_A,
+        changes: &[Change::Remove(1)],
+        common: &[],
+        rows: ONCE_REMOVED,
+    },
+];

@@ -41,10 +41,11 @@ static ENDINGS: [EndingRow; 10] = [
     ),
 ];
 
-// The place of a row, and how it ended in the place of what it tells.
-type Other = (usize, Ended);
+/// The place of a row, and how it ended in the place of what it tells.
+pub type Other = (usize, Ended);
 
-fn first_ending(alloc: Global) -> Result<Option<Other>, Fail> {
+/// The first run that ends otherwise.
+pub fn first_ending(alloc: Global) -> Result<Option<Other>, Fail> {
     for (place, &(words, read, write, status, ending, text, entries)) in ENDINGS
         .iter()
         .enumerate()
@@ -64,12 +65,6 @@ fn first_ending(alloc: Global) -> Result<Option<Other>, Fail> {
         }
     }
     Ok(None)
-}
-
-#[test]
-fn each_ending_has_its_cause(rt: HostRuntime) -> Result<(), Fail> {
-    assert_eq!(rt; first_ending(rt.alloc())?, None);
-    Ok(())
 }
 
 // What is changed, and into what.
@@ -122,8 +117,8 @@ const REFUSED: Ended = Ended {
     read_fails: false,
 };
 
-// The first one that is not refused so.
-fn first_not_refused(alloc: Global) -> Result<Option<Other>, Fail> {
+/// The first one that is not refused so.
+pub fn first_not_refused(alloc: Global) -> Result<Option<Other>, Fail> {
     for (place, &(old, new)) in REFUSALS.iter().enumerate() {
         let input = changed(alloc, old, new)?;
         let told = run_whole(alloc, input, b"refused line 0: not yet\n")?;
@@ -132,12 +127,6 @@ fn first_not_refused(alloc: Global) -> Result<Option<Other>, Fail> {
         }
     }
     Ok(None)
-}
-
-#[test]
-fn other_inputs_are_refused(rt: HostRuntime) -> Result<(), Fail> {
-    assert_eq!(rt; first_not_refused(rt.alloc())?, None);
-    Ok(())
 }
 
 const THREE: &str = "launch team 1\nreply 'RPLY' result=LONG:3 error=LONG:0\n";
@@ -166,8 +155,8 @@ static RUNS: [(&str, &str, &str); 8] = [
     ("hey demo get Count\n", "", "launch team 1\n"),
 ];
 
-// The first one that is not run so.
-fn first_not_run(alloc: Global) -> Result<Option<Other>, Fail> {
+/// The first one that is not run so.
+pub fn first_not_run(alloc: Global) -> Result<Option<Other>, Fail> {
     for (place, &(old, new, text)) in RUNS.iter().enumerate() {
         let input = changed(alloc, old, new.as_bytes())?;
         let told = run_whole(alloc, input, text.as_bytes())?;
@@ -176,12 +165,6 @@ fn first_not_run(alloc: Global) -> Result<Option<Other>, Fail> {
         }
     }
     Ok(None)
-}
-
-#[test]
-fn inputs_of_the_form_are_run(rt: HostRuntime) -> Result<(), Fail> {
-    assert_eq!(rt; first_not_run(rt.alloc())?, None);
-    Ok(())
 }
 
 fn input_of_path(alloc: Global, path: &str) -> Result<Bytes, Fail> {
@@ -205,12 +188,13 @@ static PATHS: [(&str, u8); 5] = [
     ("/", 2),
 ];
 
-#[test]
-fn a_path_begins_and_ends_as_a_path(rt: HostRuntime) -> Result<(), Fail> {
-    let alloc = rt.alloc();
-    for (path, status) in &PATHS {
-        let input = input_of_path(alloc, path)?;
-        assert_eq!(rt; status_of(alloc, input)?, *status, "{path}");
+/// The first path with which a run has another status, what that is, and what it was to be.
+pub fn first_path(alloc: Global) -> Result<Option<(&'static str, u8, u8)>, Fail> {
+    for &(path, wanted) in &PATHS {
+        let status = status_of(alloc, input_of_path(alloc, path)?)?;
+        if status != wanted {
+            return Ok(Some((path, status, wanted)));
+        }
     }
-    Ok(())
+    Ok(None)
 }

@@ -1,6 +1,6 @@
 //! An input, and how the program ends with it.
 use ak_base::{Bytes, Ending, NoMemory};
-use ak_kit::{KitEnd, kit};
+use ak_kit::{FirstRun, KitEnd, kit};
 use ak_outside::{ListSink, Source, SourceRead, TextSource};
 use ak_turn::Book;
 use std::alloc::Global;
@@ -50,11 +50,18 @@ pub struct Ended {
     pub read_fails: bool,
 }
 
+fn entries_of(run: &Option<FirstRun>) -> Option<u64> {
+    match run {
+        Some(run) => Some(run.desk.len()),
+        None => None,
+    }
+}
+
 fn ended_by(end: KitEnd, wrote: bool, read_fails: bool) -> Ended {
     Ended {
         status: end.status,
         ending: end.ending,
-        entries: end.run.map(|run| run.desk.len()),
+        entries: entries_of(&end.run),
         wrote,
         read_fails,
     }

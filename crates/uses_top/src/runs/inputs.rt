@@ -4,17 +4,11 @@ use ak_base::Bytes;
 use std::alloc::Global;
 use std::test::Fail;
 
-// With a name so long in place of `Count` where the property is described.
-fn status_of_property(alloc: Global, length: usize) -> Result<u8, Fail> {
-    let name = "n".repeat(alloc, length)?;
-    Ok(status_of(alloc, changed(alloc, "Count", name.as_bytes())?)?)
-}
-
-// The same where it is asked for.
-fn status_of_word(alloc: Global, length: usize) -> Result<u8, Fail> {
-    let name = "n".repeat(alloc, length)?;
-    let line = format!(in alloc; "{name}\n")?;
-    Ok(status_of(alloc, changed(alloc, "Count\n", line.as_bytes())?)?)
+// With a name so long, and that end, in place of what is there.
+fn status_of_name(alloc: Global, old: &str, length: usize, end: &str) -> Result<u8, Fail> {
+    let mut name = "n".repeat(alloc, length)?;
+    name.push_str(end)?;
+    Ok(status_of(alloc, changed(alloc, old, name.as_bytes())?)?)
 }
 
 // The lines of so many properties less one, and that of the script.
@@ -33,14 +27,18 @@ fn status_of_properties(alloc: Global, count: u32) -> Result<u8, Fail> {
     Ok(status_of(alloc, changed(alloc, "script\n", rows.as_slice())?)?)
 }
 
-// With a property's name, a word, and a number of properties at the limit and past it.
-fn statuses_at_limits(alloc: Global) -> Result<[(u8, u8); 3], Fail> {
+/// With the name of a property where it is described, the word by which it is asked for, and a number of properties, at the
+/// limit and past it.
+pub fn statuses_at_limits(alloc: Global) -> Result<[(u8, u8); 3], Fail> {
     Ok([
         (
-            status_of_property(alloc, 64)?,
-            status_of_property(alloc, 65)?,
+            status_of_name(alloc, "Count", 64, "")?,
+            status_of_name(alloc, "Count", 65, "")?,
         ),
-        (status_of_word(alloc, 64)?, status_of_word(alloc, 65)?),
+        (
+            status_of_name(alloc, "Count\n", 64, "\n")?,
+            status_of_name(alloc, "Count\n", 65, "\n")?,
+        ),
         (
             status_of_properties(alloc, 64)?,
             status_of_properties(alloc, 65)?,
@@ -48,26 +46,12 @@ fn statuses_at_limits(alloc: Global) -> Result<[(u8, u8); 3], Fail> {
     ])
 }
 
-#[test]
-fn names_and_properties_are_limited(rt: HostRuntime) -> Result<(), Fail> {
-    assert_eq!(rt; statuses_at_limits(rt.alloc())?, [(0, 2), (0, 2), (0, 2)]);
-    Ok(())
-}
-
-// The status, and how many entries there are.
-fn end_of_lines(alloc: Global, count: usize) -> Result<(u8, Option<u64>), Fail> {
+/// The status with so many hey lines, and how many entries there are.
+pub fn end_of_lines(alloc: Global, count: usize) -> Result<(u8, Option<u64>), Fail> {
     let lines = "hey demo get Count\n".repeat(alloc, count)?;
     let input = changed(alloc, "hey demo get Count\n", lines.as_bytes())?;
     let ended = run_whole(alloc, input, b"")?;
     Ok((ended.status, ended.entries))
-}
-
-#[test]
-fn hey_lines_are_limited(rt: HostRuntime) -> Result<(), Fail> {
-    let alloc = rt.alloc();
-    let told = [end_of_lines(alloc, 7999)?, end_of_lines(alloc, 8000)?];
-    assert_eq!(rt; told, [(0, Some(8000)), (2, None)]);
-    Ok(())
 }
 
 fn front(alloc: Global, name: &str) -> Result<Bytes, Fail> {
@@ -102,17 +86,9 @@ fn long_input(alloc: Global, last: usize) -> Result<Bytes, Fail> {
     Ok(input)
 }
 
-// How long it is, and the status.
-fn end_of_long(alloc: Global, last: usize) -> Result<(usize, u8), Fail> {
+/// How long that is, and the status.
+pub fn end_of_long(alloc: Global, last: usize) -> Result<(usize, u8), Fail> {
     let input = long_input(alloc, last)?;
     let length = input.as_slice().len();
     Ok((length, status_of(alloc, input)?))
-}
-
-#[test]
-fn the_length_is_limited(rt: HostRuntime) -> Result<(), Fail> {
-    let alloc = rt.alloc();
-    let told = [end_of_long(alloc, 18)?, end_of_long(alloc, 19)?];
-    assert_eq!(rt; told, [(1_048_576, 0), (1_048_577, 2)]);
-    Ok(())
 }

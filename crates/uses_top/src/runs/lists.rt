@@ -1,5 +1,5 @@
 //! A run tells its script and its desk's list.
-use super::fixture::{Ended, INPUT, bytes_of, run_whole};
+use super::fixture::{Ended, INPUT, bytes_of};
 use ak_base::{Bytes, Ending, NoMemory, Text, ThreadId};
 use ak_desk::{Desk, DeskEntry, DeskEvent, EntryRoute};
 use ak_kit::{FirstRun, kit};
@@ -8,22 +8,15 @@ use ak_turn::Book;
 use std::alloc::Global;
 use std::test::Fail;
 
-// The input with a line more, which asks for what is not there.
-fn with_both(alloc: Global) -> Result<Bytes, NoMemory> {
+/// The input with a line more, which asks for what is not there.
+pub fn with_both(alloc: Global) -> Result<Bytes, NoMemory> {
     let lines: &[u8] = b"hey demo get Nothing\n";
     bytes_of(alloc, &[INPUT.as_bytes(), lines])
 }
 
-/// A line of a desk's list: a message that was dispatched.
-#[derive(Clone, Copy, Debug, PartialEq)]
-struct Line {
-    stamp: u64,
-    by: ThreadId,
-    position: u64,
-    route: EntryRoute,
-    words: usize,
-    quit: bool,
-}
+/// A line of a desk's list, of a message that was dispatched: its stamp and its thread, its position, its route, how many
+/// words it has, and whether it ends the looper.
+pub type Line = (u64, ThreadId, u64, EntryRoute, usize, bool);
 
 fn line_at(desk: &Desk, place: u64) -> Result<Line, Fail> {
     let DeskEntry { stamp, by, event } = desk.entry(place)?.ok_or("no entry")?;
@@ -33,26 +26,13 @@ fn line_at(desk: &Desk, place: u64) -> Result<Line, Fail> {
             route,
             answers,
             quit,
-        } => Ok(Line {
-            stamp,
-            by,
-            position,
-            route,
-            words: answers.as_slice().len(),
-            quit,
-        }),
+        } => Ok((stamp, by, position, route, answers.as_slice().len(), quit)),
         DeskEvent::Edited { .. } => Err("an edit".into()),
     }
 }
 
 /// Whether a run has the one property, `Count` of 3, and the two words, `Count` and `Nothing`; and its desk's list.
-#[derive(Clone, Copy, Debug, PartialEq)]
-struct Listed {
-    has_its_property: bool,
-    has_its_words: bool,
-    lines: [Line; 3],
-    entries: u64,
-}
+pub type Listed = ([bool; 2], [Line; 3], u64);
 
 fn is_its_property(rows: &[(Text, i32)]) -> bool {
     match rows {
@@ -69,19 +49,20 @@ fn are_its_words(asked: &[Text]) -> bool {
 }
 
 fn listed_by(run: &FirstRun) -> Result<Listed, Fail> {
-    Ok(Listed {
-        has_its_property: is_its_property(run.rows.as_slice()),
-        has_its_words: are_its_words(run.asked.as_slice()),
-        lines: [
-            line_at(&run.desk, 0)?,
-            line_at(&run.desk, 1)?,
-            line_at(&run.desk, 2)?,
-        ],
-        entries: run.desk.len(),
-    })
+    let lines = [
+        line_at(&run.desk, 0)?,
+        line_at(&run.desk, 1)?,
+        line_at(&run.desk, 2)?,
+    ];
+    let has = [
+        is_its_property(run.rows.as_slice()),
+        are_its_words(run.asked.as_slice()),
+    ];
+    Ok((has, lines, run.desk.len()))
 }
 
-fn list_of_both(alloc: Global) -> Result<Listed, Fail> {
+/// What the run of that input has.
+pub fn list_of_both(alloc: Global) -> Result<Listed, Fail> {
     let words = [bytes_of(alloc, &[b"run".as_slice()])?];
     let mut source = TextSource::new(with_both(alloc)?, Vec::new(alloc));
     let mut sink = ListSink::new(alloc, Vec::new(alloc));
@@ -90,44 +71,28 @@ fn list_of_both(alloc: Global) -> Result<Listed, Fail> {
     listed_by(&run)
 }
 
-// The line at that place of the list.
-fn line_told(place: u64, route: EntryRoute) -> Line {
-    Line {
-        stamp: place.saturating_add(1),
-        by: ThreadId(10_000),
-        position: place,
-        route,
-        words: 0,
-        quit: false,
-    }
-}
+const BY: ThreadId = ThreadId(10_000);
 
-#[test]
-fn a_run_tells_its_script_and_its_list(rt: HostRuntime) -> Result<(), Fail> {
-    let told = Listed {
-        has_its_property: true,
-        has_its_words: true,
-        lines: [
-            line_told(0, EntryRoute::To(0)),
-            line_told(1, EntryRoute::To(0)),
-            line_told(2, EntryRoute::NotUnderstood),
-        ],
-        entries: 3,
-    };
-    assert_eq!(rt; list_of_both(rt.alloc())?, told);
-    Ok(())
-}
+/// What it has to have.
+pub const LISTED: Listed = (
+    [true, true],
+    [
+        (1, BY, 0, EntryRoute::To(0), 0, false),
+        (2, BY, 1, EntryRoute::To(0), 0, false),
+        (3, BY, 2, EntryRoute::NotUnderstood, 0, false),
+    ],
+    3,
+);
 
-#[test]
-fn a_script_is_run(rt: HostRuntime) -> Result<(), Fail> {
-    let lines: &[u8] = b"launch team 1\nreply 'RPLY' result=LONG:3 error=LONG:0\nreply 'MNOT'\n";
-    let told = Ended {
-        status: 0,
-        ending: Ending::Done,
-        entries: Some(3),
-        wrote: true,
-        read_fails: false,
-    };
-    assert_eq!(rt; run_whole(rt.alloc(), with_both(rt.alloc())?, lines)?, told);
-    Ok(())
-}
+/// What it writes.
+pub const WRITTEN: &[u8] =
+    b"launch team 1\nreply 'RPLY' result=LONG:3 error=LONG:0\nreply 'MNOT'\n";
+
+/// How it ends.
+pub const ENDED: Ended = Ended {
+    status: 0,
+    ending: Ending::Done,
+    entries: Some(3),
+    wrote: true,
+    read_fails: false,
+};
