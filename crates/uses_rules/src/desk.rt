@@ -11,7 +11,6 @@ use std::alloc::Global;
 use std::test::Fail;
 
 mod memory;
-mod moving;
 mod shared;
 
 // The looper of an application, whose first action makes a reply.
