@@ -70,8 +70,10 @@ fn add_held(
     }
 }
 
-// Adds a copy of each value that a message can hold.
-fn add_values(
+/// Adds the field of that name with a copy of each value that a message can hold, in order; none where there is
+/// no such value. The message has no field of that name and fewer than 64 fields, and the name is a word.
+/// `NoMemory` where memory ran out; then the message has some of them.
+pub fn add_values(
     alloc: Global,
     message: &mut Message,
     name: &[u8],

@@ -26,6 +26,7 @@ pub use action::{
     ReactionList,
 };
 pub use answer::{Acted, Answer, AnswerWord, Want};
+pub use building::add_values;
 pub use doing::Sending;
 pub use interp::{ANSWER_WORD_LIMIT, Interp};
 pub use laws::{

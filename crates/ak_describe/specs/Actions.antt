@@ -1,5 +1,5 @@
 -- The further words of the lines of actions, for a handler with these properties. None of what passes a limit is kept.
-use Rattle.std.specs.Prelude.{ℕ, Bool, true, false, ◌==◌, nat_le, if◌then◌else◌, List, [], ◌∷◌, ◌++◌, length, codes, Option, Some, None, option_map}
+use Rattle.std.specs.Prelude.{ℕ, Bool, true, false, ◌==◌, nat_le, if◌then◌else◌, List, [], ◌∷◌, ◌++◌, length, filter, codes, Option, Some, None, option_map}
 use Rattle.std.specs.List.{list_any}
 use Rattle.std.specs.Str.{bytes_eq}
 use Rattle.ak_base.specs.declared.app_word.AppWord.{AppWord}
@@ -22,7 +22,7 @@ use Rattle.ak_action.specs.declared.template.TemplateFault.TheVariants as fault
 use Rattle.ak_action.specs.declared.template.TemplateField.{TemplateField}
 use Rattle.ak_action.specs.Building.{field_of_values}
 use Rattle.ak_action.specs.Template.{add_fault}
-use Rattle.ak_action.specs.Values.{ValuesData}
+use Rattle.ak_action.specs.Values.{ValuesData, is_shallow}
 use Rattle.ak_describe.specs.declared.parts.PropertyParts.{PropertyParts}
 use Rattle.ak_describe.specs.Made.{values_from, one_from, number_from}
 use Rattle.ak_describe.specs.Parts.{property_named}
@@ -136,9 +136,9 @@ unfoldable pub fields_behind : List PropertyParts → Built → List (List ℕ) 
 fields_behind properties b [] = Some b
 fields_behind properties b (word ∷ words) = field_behind properties b word >>= λ more. fields_behind properties more words
 
--- ---- its length: that of the message of the written values alone
+-- ---- its length: that of the message of the written values alone, of which no message holds one that is too deep
 abbrev pub written_values : Given → List ValueData
-written_values (gets.Values v) = v.list
+written_values (gets.Values v) = filter is_shallow v.list
 written_values (gets.Field name) = []
 written_values (gets.Property name) = []
 

@@ -11,7 +11,9 @@ use crate::fault::FormFault;
 use crate::form::values::values_from;
 use crate::parts::{PropertyParts, property_named};
 use crate::words::{code_at, name_of};
-use ak_action::{Given, Template, TemplateFault, TemplateField, TemplateFields, Values};
+use ak_action::{
+    Given, Template, TemplateFault, TemplateField, TemplateFields, Values, add_values,
+};
 use ak_base::{Code, NoMemory, Text};
 use ak_flatten::{FLAT_LIMIT, flat_len};
 use ak_message::{Message, Word, split_field};
@@ -228,25 +230,7 @@ fn write_field(alloc: Global, message: &mut Message, field: &TemplateField) -> R
     ensures { OnOk result (message.new ≡ with_new message.old field.now.name (reads.written_values field.now.given)) }
 {
     match &field.given {
-        Given::Values(values) => write_values(alloc, message, field.name.as_bytes(), values),
+        Given::Values(values) => add_values(alloc, message, field.name.as_bytes(), values),
         Given::Field(_) | Given::Property(_) => Ok(()),
     }
-}
-
-// Adds a copy of each value.
-fn write_values(
-    alloc: Global,
-    message: &mut Message,
-    name: &[u8],
-    values: &Values,
-) -> Result<(), NoMemory>
-    requires { HasRoomFor message.old.fields name.now }
-    ensures { OnOk result (message.new ≡ with_new message.old name.now values.now.list) }
-{
-    let list = values.as_slice();
-    for value in list {
-        let copy = value.try_clone(alloc)?;
-        message.add_fitting(name, copy)?;
-    }
-    Ok(())
 }
