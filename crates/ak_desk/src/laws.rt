@@ -32,7 +32,7 @@ pub fn the_dispatches_are_its_own()
     ensures { law.DispatchesAreOwn }
 {}
 
-/// Of values, suites and fields that fit nothing is left out.
+/// Of the values of a reply and of suites that fit nothing is left out, and a value that fits a field is held.
 pub fn what_fits_is_told()
     ensures values { law.AllValuesAreTold }
     ensures suites { law.AllSuitesAreTold }

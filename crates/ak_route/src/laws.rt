@@ -2,7 +2,7 @@
 
 ghost use Rattle.ak_route.specs.Laws as law;
 
-/// A message settles by the filters of the handlers that it is passed to, each list once and no other. Those
+/// Behind the common filters a message settles by those of the handlers that it is passed to, each list once. Those
 /// of the handler where it stays ran. No more steps are needed than there are handlers.
 pub fn filters_run_at_most_once()
     ensures once { law.FiltersRunAtMostOnce }
@@ -20,7 +20,7 @@ pub fn takers_are_there()
     ensures { law.TakerIsThere }
 {}
 
-/// A message without specifiers that are left is for its first target, and stays as it was.
+/// A message without specifiers that are left leads to its first target, and leading leaves it as it was.
 pub fn no_specifiers_no_steps()
     ensures { law.NoSpecifiersNoSteps }
 {}
