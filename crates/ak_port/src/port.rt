@@ -169,9 +169,8 @@ fn write_once_free<R: Wait>(
 /// order, with `Closed`, `Spent`, and, where it is not to wait, `Full`; the item is given back as it was. Each
 /// of these is one entry. `NoMemory` gives the item back too, and makes none. It waits for its turn. A write
 /// that finds the port full and is to wait gives its turn back, and tries again once there is a new entry; one
-/// that is not to wait has its answer in its one turn. It
-/// copies the flat text, which stays in the history, and reserves what taking the item needs. (The Be Book, The
-/// Kernel Kit, Ports: write_port().)
+/// that is not to wait has its answer in its one turn. It copies the flat text, which stays in the history, and
+/// reserves what taking the item needs. (The Be Book, The Kernel Kit, Ports: write_port().)
 pub fn write<R: Wait>(
     port: &Port,
     rt: &R,

@@ -25,15 +25,15 @@ pub fn the_least_is_found()
     ensures { law.LeastIsFound }
 {}
 
-/// The limits of a run hold in every history, and no thread gets a looper's door twice.
+/// The limits of a run hold in every history, and no thread has two entries `Door` of a looper.
 pub fn limits_hold()
     ensures limits { law.LimitsHold }
     ensures doors { law.DoorsAreGivenOnce }
 {}
 
-/// The threads that have a part of a looper's door are main, the looper, the first looper of its team, the
-/// keeper, and just those by which the list has an entry of that door. So a thread that is none of these four
-/// is given a part where its own entries have none of that door, which its seat at the lock tells it.
+/// The threads that have a part of a looper's door that tells its threads are main, the looper, the one that the
+/// door names as its team's own, the keeper, and just those by which the list has an entry `Door` of it. A thread
+/// that is none of these four, and whose own entries have none of that door, is a stranger to it, as `grant` asks.
 pub fn holders_are_told()
     ensures holders { law.HoldersAreTold }
     ensures strangers { law.StrangersAreTold }
