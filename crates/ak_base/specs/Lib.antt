@@ -1,5 +1,7 @@
 pub mod Code
 pub mod Error
+pub mod Limits
 pub mod Number
 pub mod Text
+pub mod Thread
 pub mod Word

@@ -2,6 +2,7 @@ ghost use Rattle.std.specs.Prelude.{◌≡◌, ◌<◌, ◌≤◌, ◌^◌, ◌�
 ghost use Rattle.std.specs.Fmt.{decimal, signed_decimal};
 ghost use Rattle.std.specs.Str.Parse.{AllDigits, digits_value};
 ghost use Rattle.ak_base.specs.Number.{IsIntText, OneIntText, PrintedIntsAreRead};
+ghost use Rattle.ak_base.specs.Limits.{digits_limit};
 
 use crate::bytes::Bytes;
 use crate::no_memory::NoMemory;
@@ -56,7 +57,7 @@ fn read_below_zero(digits: &[u8]) -> Option<i128>
 
 // The number that is this much below 0. There is no `-0`.
 fn below_zero(n: u128) -> Option<i128>
-    requires { n < 10 ^ 20 }
+    requires { n < 10 ^ digits_limit }
     ensures found { IfSome result (λ z. (0 < n) × (z ≡ neg_ℤ (pos n))) }
     ensures none { IfNone result (n ≡ 0) }
 {
@@ -72,9 +73,9 @@ fn read_from_zero(digits: &[u8]) -> Option<i128>
 
 // The number that at most 20 digits without a leading zero write.
 fn read_digits(b: &[u8]) -> Option<u128>
-    ensures found { IfSome result (λ n. (b.now ≡ decimal n) × (length b.now ≤ 20)) }
-    ensures below { IfSome result (λ n. n < 10 ^ 20) }
-    ensures none { IfNone result ((n : ℕ) → b.now ≡ decimal n → length b.now ≤ 20 → ⊥) }
+    ensures found { IfSome result (λ n. (b.now ≡ decimal n) × (length b.now ≤ digits_limit)) }
+    ensures below { IfSome result (λ n. n < 10 ^ digits_limit) }
+    ensures none { IfNone result ((n : ℕ) → b.now ≡ decimal n → length b.now ≤ digits_limit → ⊥) }
 {
     if b.is_empty() || b.len() > DIGITS_LIMIT || has_leading_zero(b) {
         return None;
@@ -91,9 +92,9 @@ fn has_leading_zero(b: &[u8]) -> bool
 
 // The number that the digits write, leading zeros or not.
 fn value_of_digits(b: &[u8]) -> Option<u128>
-    requires { length b.now ≤ 20 }
+    requires { length b.now ≤ digits_limit }
     ensures found { IfSome result (λ n. AllDigits 10 b.now × (n ≡ digits_value 10 b.now)) }
-    ensures below { IfSome result (λ n. n < 10 ^ 20) }
+    ensures below { IfSome result (λ n. n < 10 ^ digits_limit) }
     ensures none { IfNone result (¬ (AllDigits 10 b.now)) }
 {
     let mut n = 0;

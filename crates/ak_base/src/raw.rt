@@ -1,5 +1,6 @@
 ghost use Rattle.std.specs.Prelude.{◌≡◌, ◌<◌, ◌≤◌, ◌↔◌, length, IfOk, IsErrOf};
 ghost use Rattle.ak_base.specs.declared.raw.TheConstants.{RAW_LIMIT};
+ghost use Rattle.ak_base.specs.Limits.{raw_limit};
 
 use crate::no_memory::NoMemory;
 use std::alloc::{AllocError, Global};
@@ -51,7 +52,7 @@ impl Raw {
     /// The raw value of these bytes. The faults are tested in the order of `RawFault`. The bytes are copied.
     pub fn from_bytes(alloc: Global, b: &[u8]) -> Result<Raw, RawFault>
         ensures ok { IfOk result (λ r. r ≡ b.now) }
-        ensures limit { RAW_LIMIT ≡ 1024 }
+        ensures limit { RAW_LIMIT ≡ raw_limit }
         ensures too_long { IsErrOf result RawFault.TooLong ↔ (RAW_LIMIT < length b.now) }
     {
         if b.len() > RAW_LIMIT {

@@ -1,5 +1,6 @@
 ghost use Rattle.std.specs.Prelude.{◌≡◌, ◌<◌, ◌≤◌, ◌↔◌, length, Contains, IsUtf8, IfOk, IsErrOf};
 ghost use Rattle.ak_base.specs.declared.text.TheConstants.{TEXT_LIMIT};
+ghost use Rattle.ak_base.specs.Limits.{text_limit};
 
 use crate::no_memory::NoMemory;
 use std::alloc::{AllocError, Global};
@@ -56,7 +57,7 @@ impl Text {
     pub fn from_bytes(alloc: Global, b: &[u8]) -> Result<Text, TextFault>
         ensures ok { IfOk result (λ t. t ≡ b.now) }
         ensures is_text { IfOk result (λ _. IsText b.now) }
-        ensures limit { TEXT_LIMIT ≡ 1024 }
+        ensures limit { TEXT_LIMIT ≡ text_limit }
         ensures too_long { IsErrOf result TextFault.TooLong ↔ (TEXT_LIMIT < length b.now) }
         ensures not_utf8 { IsErrOf result TextFault.NotUtf8 ↔ ((length b.now ≤ TEXT_LIMIT) × (¬ (IsUtf8 b.now))) }
         ensures zero { IsErrOf result TextFault.Zero
