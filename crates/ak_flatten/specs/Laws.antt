@@ -9,13 +9,14 @@ use Rattle.ak_flatten.specs.declared.fault.UnflattenFault.TheVariants as fault
 use Rattle.ak_flatten.specs.Popped.{IsUnpopped, unpopped}
 use Rattle.ak_flatten.specs.Reading.{read_message}
 use Rattle.ak_flatten.specs.Spelling.{spelling}
+use Rattle.ak_flatten.specs.Limits.{flat_limit}
 
 -- the bytes are the flat text of the message
 pub record Spells (bytes : List ℕ) (m : MessageData) : Type 0 where
   pub whole : IsWhole m
   pub unpopped : IsUnpopped m
   pub spelled : bytes ≡ spelling m
-  pub limit : length bytes ≤ 4096
+  pub limit : length bytes ≤ flat_limit
 
 -- the first fault of bytes, none of a flat text
 abbrev pub first_fault : List ℕ → Option FlatFault
@@ -43,4 +44,4 @@ SpelledOrFaulty =
 
 -- what is written of a message that is not too long spells the message with nothing popped
 abbrev pub WrittenIsRead : Type 0
-WrittenIsRead = (m : MessageData) → IsWhole m → length (spelling m) ≤ 4096 → Spells (spelling m) (unpopped m)
+WrittenIsRead = (m : MessageData) → IsWhole m → length (spelling m) ≤ flat_limit → Spells (spelling m) (unpopped m)

@@ -4,6 +4,7 @@ use Rattle.std.specs.Int.{Width, w8, w16, w32, w64, byte_len, from_be_bytes, cas
 use Rattle.std.specs.List.{list_any}
 use Rattle.std.specs.Str.{bytes_eq, is_utf8}
 use Rattle.ak_base.specs.Word.{is_word}
+use Rattle.ak_base.specs.Limits.{word_limit}
 use Rattle.ak_message.specs.declared.address.Address.{Address}
 use Rattle.ak_message.specs.declared.address.Target.{Target}
 use Rattle.ak_message.specs.declared.address.Target.TheVariants as target
@@ -12,10 +13,12 @@ use Rattle.ak_message.specs.declared.kind.Kind.TheVariants as k
 use Rattle.ak_message.specs.Kind.{kind_of_code}
 use Rattle.ak_message.specs.Message.{ValueData, bool_value, int8_value, int16_value, int32_value, int64_value, uint8_value, uint16_value, uint32_value, uint64_value, text_value, message_value, messenger_value, raw_value, FieldData, MessageData, value_of_message}
 use Rattle.ak_message.specs.Fields.{field_named}
+use Rattle.ak_message.specs.Limits.{field_limit, depth_limit}
 use Rattle.ak_flatten.specs.declared.fault.FlatFault.{FlatFault}
 use Rattle.ak_flatten.specs.declared.fault.FlatKind.{FlatKind}
 use Rattle.ak_flatten.specs.declared.fault.FlatKind.TheVariants as fault
 use Rattle.ak_flatten.specs.Format.{magic, is_length}
+use Rattle.ak_flatten.specs.Limits.{flat_limit}
 
 -- what is still to be read of the bytes, or of the value that is read, and where that begins
 pub record Left : Type 0 where
@@ -57,7 +60,7 @@ magic_at left = do
 unfoldable pub field_count_at : Left → Read ℕ
 field_count_at left = do
   count ← number_at w32 left
-  where_true (nat_le count.0 64) fault.FieldCount left count
+  where_true (nat_le count.0 field_limit) fault.FieldCount left count
 
 abbrev pub kind_or_fault : Option Kind → Left → Left → Read Kind
 kind_or_fault None left _ = fault_at fault.BadType left
@@ -71,7 +74,7 @@ kind_at left = do
 unfoldable pub name_len_at : Left → Read ℕ
 name_len_at left = do
   len ← number_at w8 left
-  where_true (nat_le 1 len.0 && nat_le len.0 64) fault.BadName left len
+  where_true (nat_le 1 len.0 && nat_le len.0 word_limit) fault.BadName left len
 
 -- a name that no earlier field has
 unfoldable pub name_at : List FieldData → Left → Read (List ℕ)
@@ -181,5 +184,5 @@ message_from (suc levels) left = do
 -- ---- all the bytes
 unfoldable pub read_message : List ℕ → Result MessageData FlatFault
 read_message bytes =
-    if nat_le (length bytes) 4096 then message_from 16 (record { place = 0; bytes = bytes })
-    else Err (record { place = 4096; kind = fault.TooLong })
+    if nat_le (length bytes) flat_limit then message_from depth_limit (record { place = 0; bytes = bytes })
+    else Err (record { place = flat_limit; kind = fault.TooLong })

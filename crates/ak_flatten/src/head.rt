@@ -4,17 +4,18 @@ ghost use Rattle.std.specs.Prelude.{◌≡◌, ◌≤◌, true, false, is_some, 
 ghost use Rattle.ak_base.specs.Word as word;
 ghost use Rattle.ak_message.specs.Kind.{kind_of_code};
 ghost use Rattle.ak_message.specs.Fields.{field_named};
+ghost use Rattle.ak_message.specs.Limits.{field_limit};
 ghost use Rattle.ak_flatten.specs.Format.{is_length};
 ghost use Rattle.ak_flatten.specs.Reading as reads;
 ghost use Rattle.ak_flatten.specs.Seen.{Reads, left_of};
 
 use crate::fault::{FlatFault, FlatKind};
 use crate::input::Input;
-use ak_base::is_word;
+use ak_base::{TEXT_LIMIT, WORD_LIMIT, is_word};
 use ak_message::{Address, FIELD_LIMIT, FindFault, Kind, Message, Target};
 
 // The longest text and the longest raw value.
-const BYTES_LIMIT: u16 = 1024;
+const BYTES_LIMIT: u16 = TEXT_LIMIT as u16;
 
 #[tactic(auto, unfolding(crate::specs::Reading::magic_at))]
 fn magic(input: Input) -> Result<Input, FlatFault>
@@ -30,7 +31,7 @@ fn magic(input: Input) -> Result<Input, FlatFault>
 #[tactic(auto, unfolding(crate::specs::Reading::field_count_at))]
 fn field_count(input: Input) -> Result<(u32, Input), FlatFault>
     ensures reads { Reads (λ x. (x.0, left_of x.1)) result (reads.field_count_at (left_of input.entry)) }
-    ensures count { IfOk result (λ x. x.0 ≤ 64) }
+    ensures count { IfOk result (λ x. x.0 ≤ field_limit) }
 {
     let (count, rest) = input.number32()?;
     if count > FIELD_LIMIT as u32 {
@@ -43,7 +44,7 @@ fn field_count(input: Input) -> Result<(u32, Input), FlatFault>
 #[tactic(auto, unfolding(crate::specs::Reading::opening_at))]
 pub(crate) fn opening(input: Input) -> Result<((u32, u32), Input), FlatFault>
     ensures reads { Reads (λ x. (x.0, left_of x.1)) result (reads.opening_at (left_of input.entry)) }
-    ensures count { IfOk result (λ x. x.0.1 ≤ 64) }
+    ensures count { IfOk result (λ x. x.0.1 ≤ field_limit) }
 {
     let rest = magic(input)?;
     let (what, rest) = rest.number32()?;
@@ -89,7 +90,7 @@ fn name_len(input: Input) -> Result<(u8, Input), FlatFault>
     ensures { Reads (λ x. (x.0, left_of x.1)) result (reads.name_len_at (left_of input.entry)) }
 {
     let (len, rest) = input.number8()?;
-    if len < 1 || len > 64 {
+    if len < 1 || len > WORD_LIMIT as u8 {
         return Err(input.fault(FlatKind::BadName));
     }
     Ok((len, rest))

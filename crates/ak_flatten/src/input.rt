@@ -1,4 +1,5 @@
 ghost use Rattle.std.specs.Prelude.{◌+◌, ◌≤◌, length};
+ghost use Rattle.ak_flatten.specs.Limits.{flat_limit};
 
 use crate::fault::{FlatFault, FlatKind};
 
@@ -7,7 +8,7 @@ use crate::fault::{FlatFault, FlatKind};
 pub(crate) struct Input<'a> {
     pub place: u32,
     pub bytes: &'a [u8],
-    pub ghost within: { place + length bytes.now ≤ 4096 },
+    pub ghost within: { place + length bytes.now ≤ flat_limit },
 }
 
 impl<'a> Input<'a> {

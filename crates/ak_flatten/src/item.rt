@@ -4,6 +4,7 @@ ghost use Rattle.ak_flatten.specs.Laws.{first_fault};
 ghost use Rattle.ak_flatten.specs.Item.{message_of, item_fault, IsItem, IsItemFault, spelled};
 ghost use Rattle.ak_flatten.specs.Popped.{unpopped};
 ghost use Rattle.ak_flatten.specs.Spelling.{spelling};
+ghost use Rattle.ak_flatten.specs.Limits.{flat_limit};
 
 use crate::fault::{FlattenFault, ItemFault, UnflattenFault};
 use crate::reading::unflatten;
@@ -80,7 +81,7 @@ impl Item {
           popped = m.now.popped;
           flat = spelling m.now;
         }) }
-        ensures too_long { IsErrOf result FlattenFault.TooLong ↔ (4096 < length (spelling m.now)) }
+        ensures too_long { IsErrOf result FlattenFault.TooLong ↔ (flat_limit < length (spelling m.now)) }
         ensures message { IfOk result (λ item. message_of item ≡ record (unpopped m.now) { popped = m.now.popped }) }
     {
         let flat = flatten(alloc, m)?;

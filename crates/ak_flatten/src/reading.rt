@@ -2,9 +2,11 @@
 
 ghost use Rattle.std.specs.Prelude.{◌≡◌, ◌+◌, ◌<◌, ◌≤◌, length, true, false, is_some, Some, Ok, Err, IfOk, IfErr};
 ghost use Rattle.ak_base.specs.Word as word;
+ghost use Rattle.ak_base.specs.Limits.{text_limit, raw_limit};
 ghost use Rattle.ak_message.specs.Fields.{field_named};
 ghost use Rattle.ak_message.specs.Message.{MessageData, kind_of, depth_of, depth_of_value};
 ghost use Rattle.ak_message.specs.Seen.{value_of};
+ghost use Rattle.ak_message.specs.Limits.{field_limit, depth_limit};
 ghost use Rattle.ak_flatten.specs.Building.{fields_added, field_added, values_added};
 ghost use Rattle.ak_flatten.specs.Format.{is_length};
 ghost use Rattle.ak_flatten.specs.declared.fault.FlatFault.{FlatFault};
@@ -48,7 +50,7 @@ fn read(alloc: Global, bytes: &[u8]) -> Result<Message, UnflattenFault>
 // ---- values that are no message
 
 fn text(alloc: Global, input: Input) -> Result<Text, UnflattenFault>
-    requires { length input.bytes.now ≤ 1024 }
+    requires { length input.bytes.now ≤ text_limit }
     ensures { Gives (λ t. t) result (reads.text_from (left_of input.entry)) }
 {
     match Text::from_bytes(alloc, input.bytes) {
@@ -62,7 +64,7 @@ fn text(alloc: Global, input: Input) -> Result<Text, UnflattenFault>
 }
 
 fn raw(alloc: Global, bytes: &[u8]) -> Result<Raw, NoMemory>
-    requires { length bytes.now ≤ 1024 }
+    requires { length bytes.now ≤ raw_limit }
     ensures { IfOk result (λ r. r ≡ bytes.now) }
 {
     match Raw::from_bytes(alloc, bytes) {
@@ -92,7 +94,7 @@ fn bool_of(input: Input) -> Result<bool, FlatFault>
 #[cycle(messages)]
 #[tactic(auto, unfolding(crate::specs::Reading::message_from))]
 fn message(alloc: Global, levels: u32, input: Input) -> Result<Message, UnflattenFault>
-    requires { levels ≤ 16 }
+    requires { levels ≤ depth_limit }
     ensures reads { Gives (λ m. m) result (reads.message_from levels (left_of input.entry)) }
     ensures depth { IfOk result (λ m. depth_of m ≤ levels) }
 {
@@ -123,7 +125,7 @@ fn fields<'a>(
     input: Input<'a>,
 ) -> Result<(Message, Input<'a>), UnflattenFault>
     requires levels { levels ≤ 15 }
-    requires room { length message.fields + count ≤ 64 }
+    requires room { length message.fields + count ≤ field_limit }
     requires depth { depth_of message ≤ levels + 1 }
     ensures reads { Gives (λ x. (x.0, left_of x.1)) result (fields_added (reads.message_from levels) message count (left_of input.entry)) }
     ensures depth { IfOk result (λ x. depth_of x.0 ≤ levels + 1) }
@@ -146,7 +148,7 @@ fn field<'a>(
     input: Input<'a>,
 ) -> Result<(Message, Input<'a>), UnflattenFault>
     requires levels { levels ≤ 15 }
-    requires room { length message.fields < 64 }
+    requires room { length message.fields < field_limit }
     requires depth { depth_of message ≤ levels + 1 }
     ensures reads { Gives (λ x. (x.0, left_of x.1)) result (field_added (reads.message_from levels) message (left_of input.entry)) }
     ensures depth { IfOk result (λ x. depth_of x.0 ≤ levels + 1) }
@@ -169,7 +171,7 @@ fn values<'a>(
     input: Input<'a>,
 ) -> Result<(Message, Input<'a>), UnflattenFault>
     requires levels { levels ≤ 15 }
-    requires room { length message.fields < 64 }
+    requires room { length message.fields < field_limit }
     requires word { word.is_word name.now ≡ true }
     requires new { is_some (field_named message.fields name.now) ≡ false }
     requires depth { depth_of message ≤ levels + 1 }

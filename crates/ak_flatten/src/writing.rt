@@ -1,6 +1,9 @@
 ghost use Rattle.std.specs.Prelude.{◌≡◌, ◌++◌, ◌<◌, ◌≤◌, ◌↔◌, length, IfOk, IsErrOf, OnOk};
+ghost use Rattle.ak_base.specs.Limits.{word_limit};
 ghost use Rattle.ak_message.specs.Seen.{value_of, field_ref_of};
+ghost use Rattle.ak_message.specs.Limits.{value_limit};
 ghost use Rattle.ak_flatten.specs.Spelling.{spelling, opening_bytes, field_bytes, head_bytes, sized_bytes, value_bytes, address_bytes};
+ghost use Rattle.ak_flatten.specs.Limits.{flat_limit};
 
 use crate::fault::FlattenFault;
 use crate::length::flat_len;
@@ -16,7 +19,7 @@ pub const FLAT_LIMIT: usize = 4096;
 /// BMessage: Flatten().)
 pub fn flatten(alloc: Global, message: &Message) -> Result<Bytes, FlattenFault>
     ensures ok { IfOk result (λ bytes. bytes ≡ spelling message.now) }
-    ensures too_long { IsErrOf result FlattenFault.TooLong ↔ (4096 < length (spelling message.now)) }
+    ensures too_long { IsErrOf result FlattenFault.TooLong ↔ (flat_limit < length (spelling message.now)) }
 {
     let len = flat_len(message);
     if len > FLAT_LIMIT as u64 {
@@ -29,7 +32,7 @@ pub fn flatten(alloc: Global, message: &Message) -> Result<Bytes, FlattenFault>
 
 #[cycle(messages)]
 fn put_message(out: &mut Bytes, message: &Message) -> Result<(), NoMemory>
-    requires { length (spelling message.now) ≤ 4096 }
+    requires { length (spelling message.now) ≤ flat_limit }
     ensures { OnOk result (out.new ≡ out.old ++ spelling message.now) }
 {
     let count = message.count_names();
@@ -54,9 +57,9 @@ fn put_opening(out: &mut Bytes, what: Code, count: u32) -> Result<(), NoMemory>
 
 #[cycle(messages)]
 fn put_field(out: &mut Bytes, field: &FieldRef) -> Result<(), NoMemory>
-    requires name { length field.now.name.now ≤ 64 }
-    requires values { length field.now.values.now ≤ 255 }
-    requires short { length (field_bytes (field_ref_of field.now)) ≤ 4096 }
+    requires name { length field.now.name.now ≤ word_limit }
+    requires values { length field.now.values.now ≤ value_limit }
+    requires short { length (field_bytes (field_ref_of field.now)) ≤ flat_limit }
     ensures { OnOk result (out.new ≡ out.old ++ field_bytes (field_ref_of field.now)) }
 {
     put_head(out, field)?;
@@ -69,8 +72,8 @@ fn put_field(out: &mut Bytes, field: &FieldRef) -> Result<(), NoMemory>
 // What stands before the values.
 #[tactic(auto, using(crate::proofs::Heads::letters))]
 fn put_head(out: &mut Bytes, field: &FieldRef) -> Result<(), NoMemory>
-    requires name { length field.now.name.now ≤ 64 }
-    requires values { length field.now.values.now ≤ 255 }
+    requires name { length field.now.name.now ≤ word_limit }
+    requires values { length field.now.values.now ≤ value_limit }
     ensures { OnOk result (out.new ≡ out.old ++ head_bytes field.now.kind field.now.name.now (length field.now.values.now)) }
 {
     out.extend(&field.kind.code().0.to_be_bytes())?;
@@ -82,7 +85,7 @@ fn put_head(out: &mut Bytes, field: &FieldRef) -> Result<(), NoMemory>
 
 #[cycle(messages)]
 fn put_value(out: &mut Bytes, value: &Value) -> Result<(), NoMemory>
-    requires { length (value_bytes (value_of value.now)) ≤ 4096 }
+    requires { length (value_bytes (value_of value.now)) ≤ flat_limit }
     ensures { OnOk result (out.new ≡ out.old ++ sized_bytes (value_of value.now)) }
 {
     // The length is written over once the value stands, so that none is computed twice.
@@ -97,7 +100,7 @@ fn put_value(out: &mut Bytes, value: &Value) -> Result<(), NoMemory>
 // A value without its length.
 #[cycle(messages)]
 fn put_bytes(out: &mut Bytes, value: &Value) -> Result<(), NoMemory>
-    requires { length (value_bytes (value_of value.now)) ≤ 4096 }
+    requires { length (value_bytes (value_of value.now)) ≤ flat_limit }
     ensures { OnOk result (out.new ≡ out.old ++ value_bytes (value_of value.now)) }
 {
     match value {

@@ -15,6 +15,7 @@ use Rattle.ak_message.specs.declared.fault.RemoveFault.{RemoveFault}
 use Rattle.ak_message.specs.declared.fault.RemoveFault.TheVariants as removal
 use Rattle.ak_message.specs.Kind.{is_same_kind}
 use Rattle.ak_message.specs.Message.{ValueData, FieldData, MessageData, kind_of, depth_of, depth_of_value}
+use Rattle.ak_message.specs.Limits.{field_limit, value_limit, depth_limit}
 
 abbrev pub is_named : List ℕ → FieldData → Bool
 is_named name f = bytes_eq f.name name
@@ -37,13 +38,13 @@ added (f ∷ fs) name value = if is_named name f then with_value f value ∷ fs 
 
 -- of so many fields, with this one of the name
 abbrev pub place_fault : ℕ → Option FieldData → Kind → Option AddFault
-place_fault count None kind = if nat_lt count 64 then None else Some add.FieldLimit
+place_fault count None kind = if nat_lt count field_limit then None else Some add.FieldLimit
 place_fault count (Some f) kind =
-    if is_same_kind f.kind kind then (if nat_lt (length f.values) 255 then None else Some add.FieldLimit)
+    if is_same_kind f.kind kind then (if nat_lt (length f.values) value_limit then None else Some add.FieldLimit)
     else Some add.BadType
 
 abbrev pub depth_fault : ValueData → Option AddFault
-depth_fault value = if nat_lt (depth_of_value value) 16 then None else Some add.TooDeep
+depth_fault value = if nat_lt (depth_of_value value) depth_limit then None else Some add.TooDeep
 
 -- the first fault, or else the second one
 abbrev pub or_fault : Option AddFault → Option AddFault → Option AddFault
@@ -111,7 +112,7 @@ abbrev pub replace_fault_in : Option FieldData → ℕ → ValueData → Option 
 replace_fault_in None index value = Some replace.NameNotFound
 replace_fault_in (Some f) index value =
     if is_same_kind f.kind (kind_of value) then
-    (if nat_lt index (length f.values) then (if nat_lt (depth_of_value value) 16 then None else Some replace.TooDeep)
+    (if nat_lt index (length f.values) then (if nat_lt (depth_of_value value) depth_limit then None else Some replace.TooDeep)
     else Some replace.BadIndex)
     else Some replace.BadType
 
@@ -158,7 +159,7 @@ name_fault fields name = name_fault_in (field_named fields name)
 pub record IsField (f : FieldData) : Type 0 where
   pub word : IsTrue (is_word f.name)
   pub filled : 0 < length f.values
-  pub limit : length f.values ≤ 255
+  pub limit : length f.values ≤ value_limit
   pub same_kind : All (λ v. kind_of v ≡ f.kind) f.values
 
 -- how many values stand in the field `specifiers` of messages
@@ -173,9 +174,9 @@ pub record IsMessage (m : MessageData) : Type 0 where
   pub code : m.what < 2 ^ 32
   pub every_field : All IsField m.fields
   pub names_differ : AllPairs (λ f g. f.name ≢ g.name) m.fields
-  pub limit : length m.fields ≤ 64
+  pub limit : length m.fields ≤ field_limit
   pub popped_within : m.popped ≤ specifier_count m.fields
-  pub depth_within : depth_of m ≤ 16
+  pub depth_within : depth_of m ≤ depth_limit
 
 -- the message with the fields that are left: no more specifiers are popped than there are
 abbrev pub with_fields_left : MessageData → List FieldData → MessageData

@@ -3,6 +3,7 @@ use Rattle.std.specs.Prelude.{◌≡◌, ℕ, ◌^◌, ◌<◌, ℤ, unsigned_ab
 use Rattle.std.specs.List.{flat_map}
 use Rattle.std.specs.Fmt.{signed_decimal}
 use Rattle.ak_base.specs.Code.{hex_of}
+use Rattle.ak_base.specs.Limits.{digits_limit}
 use Rattle.ak_message.specs.MessageText.{quoted}
 use Rattle.ak_message.specs.Payload.{int_within, raw_from, unquoted}
 
@@ -12,7 +13,7 @@ pub record IntIsRead (low high : ℤ) (text : List ℕ) (z : ℤ) : Type 0 where
   pub all : text ≡ signed_decimal z → int_le low z ≡ true → int_le z high ≡ true → int_within low high text ≡ Some z
 
 abbrev pub IntsAreRead : Type 0
-IntsAreRead = (low high : ℤ) (text : List ℕ) (z : ℤ) → unsigned_abs low < 10 ^ 20 → unsigned_abs high < 10 ^ 20 → IntIsRead low high text z
+IntsAreRead = (low high : ℤ) (text : List ℕ) (z : ℤ) → unsigned_abs low < 10 ^ digits_limit → unsigned_abs high < 10 ^ digits_limit → IntIsRead low high text z
 
 -- raw bytes, two digits each
 pub record RawIsRead (text bytes : List ℕ) : Type 0 where

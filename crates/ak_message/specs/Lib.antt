@@ -4,6 +4,7 @@ pub mod Finds
 pub mod InputText
 pub mod Inside
 pub mod Kind
+pub mod Limits
 pub mod LineSeen
 pub mod Lines
 pub mod Marks

@@ -9,6 +9,7 @@ use Rattle.ak_message.specs.declared.lines.InputLines.{InputLines}
 use Rattle.ak_message.specs.declared.lines.LineFault.{LineFault}
 use Rattle.ak_message.specs.Marks.{is_blank}
 use Rattle.ak_message.specs.Words.{line_words}
+use Rattle.ak_message.specs.Limits.{input_limit}
 
 -- the pieces between the LFs
 abbrev pub pieces_of : List ℕ → List (List ℕ)
@@ -51,7 +52,7 @@ line_at place input = count_by (λ b. b == 10) (take place input) + 1
 
 -- an input has at most 1,048,576 bytes; a longer one is refused at the line of the first byte more
 abbrev pub too_long : List ℕ → Option ℕ
-too_long input = if nat_le (length input) 1048576 then None else Some (line_at 1048576 input)
+too_long input = if nat_le (length input) input_limit then None else Some (line_at input_limit input)
 
 -- the pieces of an input, with a LF between each two, are the input
 abbrev pub PiecesAreTheInput : Type 0

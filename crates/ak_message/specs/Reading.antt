@@ -5,6 +5,7 @@ use Rattle.std.specs.List.{list_any, starts_with}
 use Rattle.std.specs.Str.{bytes_eq, is_utf8}
 use Rattle.ak_base.specs.Code.{may_all_be_quoted}
 use Rattle.ak_base.specs.Word.{is_word}
+use Rattle.ak_base.specs.Limits.{text_limit, raw_limit}
 use Rattle.ak_message.specs.declared.kind.Kind.{Kind}
 use Rattle.ak_message.specs.declared.kind.Kind.TheVariants as k
 use Rattle.ak_message.specs.declared.pieces.Separator.TheVariants as by
@@ -15,6 +16,7 @@ use Rattle.ak_message.specs.Message.{ValueData, bool_value, int8_value, int16_va
 use Rattle.ak_message.specs.Payload.{where_true, kind_before, bool_from, int_within, uint_within, address_from, raw_from, unquoted}
 use Rattle.ak_message.specs.Pieces.{pieces_of, braced}
 use Rattle.ak_message.specs.Words.{◌>>=◌}
+use Rattle.ak_message.specs.Limits.{value_limit, depth_limit}
 
 -- a kind, and the value where it passes no limit
 pub record Got : Type 0 where
@@ -36,7 +38,7 @@ over kind = record { kind = kind; value = None }
 -- a text has no zero byte, and quotes hold none
 abbrev pub text_kept : List ℕ → Option Got
 text_kept bytes =
-    if nat_le (length bytes) 1024 then where_true (not (list_any (λ b. b == 0) bytes)) (got (text_value bytes))
+    if nat_le (length bytes) text_limit then where_true (not (list_any (λ b. b == 0) bytes)) (got (text_value bytes))
     else Some (over k.Text)
 
 -- a text, where it is not too long
@@ -45,7 +47,7 @@ text_got None = over k.Text
 text_got (Some bytes) = got (text_value bytes)
 
 abbrev pub raw_within : List ℕ → Got
-raw_within bytes = if nat_le (length bytes) 1024 then got (raw_value bytes) else over k.Raw
+raw_within bytes = if nat_le (length bytes) raw_limit then got (raw_value bytes) else over k.Raw
 
 abbrev pub text_of : List ℕ → Option Got
 text_of bytes = if is_utf8 bytes then text_kept bytes else None
@@ -104,7 +106,7 @@ plain_from text = value_with (λ _. None) text
 abbrev pub joined : Option (List ValueData) → Option ValueData → Option (List ValueData)
 joined None v = None
 joined (Some vs) None = None
-joined (Some vs) (Some v) = if nat_lt (length vs) 255 then Some (vs ++ v ∷ []) else None
+joined (Some vs) (Some v) = if nat_lt (length vs) value_limit then Some (vs ++ v ∷ []) else None
 
 abbrev pub first_values : Got → GotValues
 first_values v = record { kind = v.kind; values = joined (Some []) v.value }
@@ -221,7 +223,7 @@ message_from (suc levels) text = braced text >>= λ body. words_of body >>= λ w
 
 -- ---- what stands in an input
 abbrev pub read_value : List ℕ → Option Got
-read_value text = value_with (message_from 16) text
+read_value text = value_with (message_from depth_limit) text
 
 abbrev pub read_values : List ℕ → Option GotValues
 read_values text = values_with (message_from 15) text

@@ -6,6 +6,7 @@ ghost use Rattle.ak_base.specs.declared.ending.RefusalKind.{RefusalKind};
 ghost use Rattle.ak_message.specs.declared.line.Word.{Word};
 ghost use Rattle.ak_message.specs.Lines as reads;
 ghost use Rattle.ak_message.specs.LineSeen.{SplitsInput, IsFaultOf};
+ghost use Rattle.ak_message.specs.Limits.{input_limit};
 
 use crate::line::Line;
 use crate::marks::is_blank;
@@ -77,14 +78,14 @@ pub fn pieces_are_the_input()
 
 // How many LFs, and one: the number of the line that the byte behind these stands in.
 fn line_behind(front: &[u8]) -> u32
-    requires { length front.now ≤ 1048576 }
+    requires { length front.now ≤ input_limit }
     ensures { result ≡ count_by (λ b. b == 10) front.now + 1 }
 {
     front.iter().filter(|b| **b == b'\n').count() as u32 + 1
 }
 
 fn lines_of(alloc: Global, input: &[u8]) -> Result<InputLines, LinesFault>
-    requires { length input.now ≤ 1048576 }
+    requires { length input.now ≤ input_limit }
     ensures lines { IfOk result (λ lines. reads.lines_of input.now ≡ lines) }
     ensures only { OnErr result (result ≡ Err LinesFault.NoMemory) }
 {

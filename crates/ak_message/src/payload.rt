@@ -1,6 +1,7 @@
 //! Reads the values that are no message, from their texts.
 
 ghost use Rattle.std.specs.Prelude.{◌≡◌, ◌<◌, ◌≤◌, ◌^◌, ◌&&◌, ◌≤ℤ◌, pos, negsuc, unsigned_abs, int_le, length, IfSome};
+ghost use Rattle.ak_base.specs.Limits.{digits_limit};
 ghost use Rattle.ak_message.specs.Kind.{kind_of_code};
 ghost use Rattle.ak_message.specs.InputText.{IntsAreRead};
 ghost use Rattle.ak_message.specs.Payload as reads;
@@ -72,8 +73,8 @@ fn within(number: i128, low: i128, high: i128) -> Option<i128>
 
 // The number that the text writes, in this range.
 fn int_within(text: &[u8], low: i128, high: i128) -> Option<i128>
-    requires low { unsigned_abs low < 10 ^ 20 }
-    requires high { unsigned_abs high < 10 ^ 20 }
+    requires low { unsigned_abs low < 10 ^ digits_limit }
+    requires high { unsigned_abs high < 10 ^ digits_limit }
     ensures number { result ≡ reads.int_within low high text.now }
     ensures low { IfSome result (λ z. low ≤ℤ z) }
     ensures high { IfSome result (λ z. z ≤ℤ high) }

@@ -6,6 +6,7 @@ ghost use Rattle.ak_message.specs.Reading as reads;
 ghost use Rattle.ak_message.specs.Seen.{value_of};
 ghost use Rattle.ak_message.specs.Kind.{is_same_kind};
 ghost use Rattle.ak_message.specs.Payload.{kind_before};
+ghost use Rattle.ak_message.specs.Limits.{depth_limit};
 
 use crate::fault::AddFault;
 use crate::kind::Kind;
@@ -259,7 +260,7 @@ fn raw_value(alloc: Global, text: &[u8]) -> Result<ReadValue, ParseFault>
 
 #[cycle(values)]
 fn value(alloc: Global, levels: u32, text: &[u8]) -> Result<ReadValue, ParseFault>
-    requires { levels ≤ 16 }
+    requires { levels ≤ depth_limit }
     ensures { Gives got_of result (reads.value_with (reads.message_from levels) text.now) }
 {
     match payload::kind_before(text) {
@@ -275,7 +276,7 @@ fn payload_value(
     kind: Kind,
     text: &[u8],
 ) -> Result<ReadValue, ParseFault>
-    requires { levels ≤ 16 }
+    requires { levels ≤ depth_limit }
     ensures { Gives got_of result (reads.payload_from (reads.message_from levels) kind text.now) }
 {
     if kind == Kind::Message {
@@ -293,7 +294,7 @@ fn payload_value(
 #[cycle(values)]
 #[tactic(auto, unfolding(crate::specs::Reading::message_from))]
 fn message(alloc: Global, levels: u32, text: &[u8]) -> Result<ReadValue, ParseFault>
-    requires { levels ≤ 16 }
+    requires { levels ≤ depth_limit }
     ensures { Gives got_of result (reads.message_from levels text.now) }
 {
     let Some(body) = braced(text) else {

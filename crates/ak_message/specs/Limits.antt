@@ -1,0 +1,18 @@
+-- The limits of messages, and of the inputs that they are read in.
+use Rattle.std.specs.Prelude.{ℕ}
+
+-- the most fields of a message
+abbrev pub field_limit : ℕ
+field_limit = 64
+
+-- the most values of a field
+abbrev pub value_limit : ℕ
+value_limit = 255
+
+-- how many messages may stand in one another, the outer one counted
+abbrev pub depth_limit : ℕ
+depth_limit = 16
+
+-- the longest input, in bytes
+abbrev pub input_limit : ℕ
+input_limit = 1048576
