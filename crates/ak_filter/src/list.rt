@@ -1,5 +1,6 @@
 ghost use Rattle.std.specs.Prelude.{◌≡◌, ◌++◌, ◌∷◌, [], ◌≤◌, ◌↔◌, length, IfOk, OnOk, OnErr, IsErrOf};
 ghost use Rattle.ak_filter.specs.declared.list.TheConstants.{FILTER_LIMIT};
+ghost use Rattle.ak_filter.specs.Limits.{filter_limit};
 
 use crate::filter::Filter;
 use ak_base::NoMemory;
@@ -39,12 +40,13 @@ pub struct FilterList {
 impl Model for FilterList {
     ghost use Rattle.std.specs.Prelude.{◌≤◌, List, length};
     ghost use Rattle.ak_filter.specs.declared.filter.Filter.{Filter};
+    ghost use Rattle.ak_filter.specs.Limits.{filter_limit};
 
     ghost Value = { List Filter };
 
     ghost view = { λ l. l.filters.items };
 
-    ghost invariant = { λ l. length l.filters.items ≤ 32 };
+    ghost invariant = { λ l. length l.filters.items ≤ filter_limit };
 }
 
 impl FilterList {
@@ -60,8 +62,8 @@ impl FilterList {
     /// Adds a filter at the end. `FilterLimit` at 32 filters. An `Err` changes nothing, and the filter is
     /// dropped. `NoMemory` where memory ran out. (The Be Book, The Application Kit, BHandler: AddFilter().)
     pub fn push(&mut self, f: Filter) -> Result<(), FilterFault>
-        ensures limit { FILTER_LIMIT ≡ 32 }
-        ensures filter_limit { IsErrOf result FilterFault.FilterLimit ↔ (length self.old ≡ 32) }
+        ensures limit { FILTER_LIMIT ≡ filter_limit }
+        ensures full { IsErrOf result FilterFault.FilterLimit ↔ (length self.old ≡ filter_limit) }
         ensures ok { OnOk result (self.new ≡ self.old ++ f ∷ []) }
         ensures err { OnErr result (self.new ≡ self.old) }
     {
@@ -83,7 +85,7 @@ impl FilterList {
     /// The filters in their order. Takes no memory.
     pub fn as_slice(&self) -> &[Filter]
         ensures value { result.now ≡ self.now }
-        ensures limit { length self.now ≤ 32 }
+        ensures limit { length self.now ≤ filter_limit }
     {
         self.filters.as_slice()
     }

@@ -4,6 +4,7 @@ use Rattle.std.specs.List.{list_any, filter}
 use Rattle.ak_handler.specs.declared.fault.HandlerFault.{HandlerFault}
 use Rattle.ak_handler.specs.declared.fault.HandlerFault.TheVariants as fault
 use Rattle.ak_handler.specs.Handlers.{HandlerData, HandlersData, has_token, handler_of, token_named, chain_from}
+use Rattle.ak_handler.specs.Limits.{handler_limit}
 
 -- the other one in place of that token
 abbrev pub unless : ℕ → Option ℕ → Option ℕ → Option ℕ
@@ -37,7 +38,7 @@ module _ {R : Type 0} where
   abbrev pub add_fault : HandlersData R → List ℕ → Option HandlerFault
   add_fault s name =
       if is_some (token_named s.list name) then Some fault.NameInUse
-      else if nat_lt (length s.list) 64 && nat_lt s.next_token (2 ^ 64 - 1) then None
+      else if nat_lt (length s.list) handler_limit && nat_lt s.next_token (2 ^ 64 - 1) then None
       else Some fault.HandlerLimit
 
   abbrev pub with_handler : HandlersData R → List ℕ → R → HandlersData R

@@ -3,6 +3,7 @@ use Rattle.std.specs.Prelude.{◌≡◌, ◌≢◌, ℕ, suc, zero, ◌^◌, ◌
 use Rattle.std.specs.List.{position, slice_get}
 use Rattle.std.specs.Str.{bytes_eq}
 use Rattle.std.specs.Coded.{Coded, code_by, coded×, coded_list, coded_option, coded_ℕ}
+use Rattle.ak_handler.specs.Limits.{handler_limit}
 
 -- one handler: its token, its name, the token of its next handler or none, and what it holds
 pub record HandlerData (R : Type 0) : Type 0 where
@@ -71,7 +72,7 @@ module _ {R : Type 0} where
 
   pub record IsHandlers (s : HandlersData R) : Type 0 where
     pub looper : BeginsWithLooper s.list
-    pub limit : length s.list ≤ 64
+    pub limit : length s.list ≤ handler_limit
     pub tokens_rise : AllPairs (λ a b. a.token < b.token) s.list
     pub tokens_below : All (λ h. h.token < s.next_token) s.list
     pub next_token : s.next_token < 2 ^ 64

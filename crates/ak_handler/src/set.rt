@@ -4,6 +4,7 @@ ghost use Rattle.std.specs.Borrow.{sem};
 ghost use Rattle.ak_handler.specs.Changes.{looper_alone, content_of, from_rows, numbered_rows};
 ghost use Rattle.ak_handler.specs.Handlers.{handler_of, next_in, place_of, token_at, token_named};
 ghost use Rattle.ak_handler.specs.Rows.{handler_seen};
+ghost use Rattle.ak_handler.specs.Limits.{handler_limit};
 
 use crate::rows::{Row, Rows};
 use ak_base::{NoMemory, Text};
@@ -173,7 +174,7 @@ impl<R: Drop> HandlerSet<R> {
     pub(crate) fn place(&self, token: u64) -> Option<usize>
         ensures place { result ≡ place_of self.now.list token }
         ensures found { is_some result ≡ is_some (handler_of self.now.list token) }
-        ensures within { IfSome result (λ place. (place < length self.now.list) × (place < 64)) }
+        ensures within { IfSome result (λ place. (place < length self.now.list) × (place < handler_limit)) }
     {
         self.rows.place(token)
     }

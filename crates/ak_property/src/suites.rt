@@ -1,6 +1,8 @@
 ghost use Rattle.std.specs.Prelude.{◌≡◌, ◌≤◌, ◌<◌, ◌++◌, None, length, codes, IfOk, OnOk};
 ghost use Rattle.ak_message.specs.Fields.{field_named};
+ghost use Rattle.ak_message.specs.Limits.{field_limit, value_limit};
 ghost use Rattle.ak_property.specs.Suites.{suites_reply, texts_field, names_of};
+ghost use Rattle.ak_property.specs.Limits.{told_suite_limit};
 
 use crate::table::{PropertyRow, PropertyTable};
 use ak_base::{Code, NoMemory, Text};
@@ -17,7 +19,7 @@ pub fn suite_message(
     table: &PropertyTable,
 ) -> Result<Message, NoMemory>
     requires some { 1 ≤ length suites.now }
-    requires limit { length suites.now ≤ 19 }
+    requires limit { length suites.now ≤ told_suite_limit }
     ensures { IfOk result (λ m. m ≡ suites_reply suites.now table.now) }
 {
     let mut reply = Message::with_capacity(alloc, Code::REPLY, 3)?;
@@ -30,8 +32,8 @@ pub fn suite_message(
 // Adds the suites behind the fields.
 fn add_suites(reply: &mut Message, suites: &[Text]) -> Result<(), NoMemory>
     requires new { field_named reply.old.fields (codes "suites") ≡ None }
-    requires room { length reply.old.fields < 64 }
-    requires limit { length suites.now ≤ 255 }
+    requires room { length reply.old.fields < field_limit }
+    requires limit { length suites.now ≤ value_limit }
     ensures { OnOk result (reply.new ≡ record reply.old { fields = reply.old.fields ++ texts_field (codes "suites") suites.now }) }
 {
     for suite in suites {
@@ -43,8 +45,8 @@ fn add_suites(reply: &mut Message, suites: &[Text]) -> Result<(), NoMemory>
 // Adds the names of the rows behind the fields.
 fn add_names(reply: &mut Message, rows: &[PropertyRow]) -> Result<(), NoMemory>
     requires new { field_named reply.old.fields (codes "properties") ≡ None }
-    requires room { length reply.old.fields < 64 }
-    requires limit { length rows.now ≤ 255 }
+    requires room { length reply.old.fields < field_limit }
+    requires limit { length rows.now ≤ value_limit }
     ensures { OnOk result (reply.new ≡ record reply.old { fields = reply.old.fields ++ texts_field (codes "properties") (names_of rows.now) }) }
 {
     for row in rows {

@@ -1,6 +1,7 @@
 ghost use Rattle.std.specs.Prelude.{◌≡◌, ◌++◌, ◌∷◌, [], ◌<◌, ◌≤◌, ◌↔◌, length, IfOk, IfSome, OnOk, OnErr, IsErrOf};
 ghost use Rattle.ak_property.specs.declared.table.TheConstants.{ROW_LIMIT};
 ghost use Rattle.ak_property.specs.Table.{allows, codes_of, fits, match_of};
+ghost use Rattle.ak_property.specs.Limits.{row_limit};
 
 use ak_base::{Code, Items, NoMemory, Text};
 use ak_message::Kind;
@@ -55,12 +56,13 @@ pub struct PropertyTable {
 impl Model for PropertyTable {
     ghost use Rattle.std.specs.Prelude.{◌≤◌, List, length};
     ghost use Rattle.ak_property.specs.declared.table.PropertyRow.{PropertyRow};
+    ghost use Rattle.ak_property.specs.Limits.{row_limit};
 
     ghost Value = { List PropertyRow };
 
     ghost view = { λ t. t.rows.items };
 
-    ghost invariant = { λ t. length t.rows.items ≤ 64 };
+    ghost invariant = { λ t. length t.rows.items ≤ row_limit };
 }
 
 impl PropertyTable {
@@ -76,8 +78,8 @@ impl PropertyTable {
     /// Adds a row at the end. `RowLimit` at 64 rows. An `Err` changes nothing, and the row is dropped.
     /// `NoMemory` where memory ran out.
     pub fn add_row(&mut self, row: PropertyRow) -> Result<(), RowFault>
-        ensures limit { ROW_LIMIT ≡ 64 }
-        ensures row_limit { IsErrOf result RowFault.RowLimit ↔ (length self.old ≡ 64) }
+        ensures limit { ROW_LIMIT ≡ row_limit }
+        ensures full { IsErrOf result RowFault.RowLimit ↔ (length self.old ≡ row_limit) }
         ensures ok { OnOk result (self.new ≡ self.old ++ row ∷ []) }
         ensures err { OnErr result (self.new ≡ self.old) }
     {
@@ -95,7 +97,7 @@ impl PropertyTable {
     /// BPropertyInfo: FindMatch().)
     pub fn find_match(&self, what: Code, index: u32, form: u32, name: &Text) -> Option<usize>
         ensures value { result ≡ match_of self.now what.0 index form name.now }
-        ensures within { IfSome result (λ place. place < 64) }
+        ensures within { IfSome result (λ place. place < row_limit) }
     {
         self.rows
             .iter()
@@ -113,7 +115,7 @@ impl PropertyTable {
     /// The rows in order. Takes no memory.
     pub fn as_slice(&self) -> &[PropertyRow]
         ensures value { result.now ≡ self.now }
-        ensures limit { length self.now ≤ 64 }
+        ensures limit { length self.now ≤ row_limit }
     {
         self.rows.as_slice()
     }

@@ -2,6 +2,7 @@
 
 ghost use Rattle.std.specs.Prelude.{◌≡◌, ◌<◌, IfSome};
 ghost use Rattle.ak_message.specs.Specifier.{specifier_of};
+ghost use Rattle.ak_property.specs.Limits.{row_limit};
 ghost use Rattle.ak_route.specs.Matching.{row_match, is_last_direct, gets_built_in, counts_built_in, is_built_in_name, table_matches};
 
 use ak_base::Code;
@@ -12,7 +13,7 @@ use ak_specifier::left;
 /// The row of the table that fits the current specifier.
 pub(crate) fn row_match(table: &PropertyTable, m: &Message, s: SpecifierRef<'_>) -> Option<usize>
     ensures value { result ≡ row_match table.now m.now (specifier_of s.entry) }
-    ensures within { IfSome result (λ place. place < 64) }
+    ensures within { IfSome result (λ place. place < row_limit) }
 {
     table.find_match(m.what(), left(m).saturating_sub(1), s.at.form(), s.property)
 }

@@ -1,4 +1,5 @@
 ghost use Rattle.std.specs.Prelude.{◌≡◌, ◌≤◌, [], length};
+ghost use Rattle.ak_base.specs.Limits.{app_looper_limit};
 
 use ak_base::Text;
 use std::marker::Model;
@@ -38,19 +39,20 @@ pub struct Place<'a> {
 
 impl<'a> Model for Place<'a> {
     ghost use Rattle.std.specs.Prelude.{◌≤◌, ℕ, List, length};
+    ghost use Rattle.ak_base.specs.Limits.{app_looper_limit};
 
     ghost Value = { List (List ℕ) };
 
     ghost view = { λ p. p.loopers.now };
 
-    ghost invariant = { λ p. length p.loopers.now ≤ 8 };
+    ghost invariant = { λ p. length p.loopers.now ≤ app_looper_limit };
 }
 
 impl<'a> Place<'a> {
     /// An application's own looper, with the names of the application's loopers in their order, at most 8.
     /// Without names it is as any other looper. Takes no memory.
     pub fn own(loopers: &'a [Text]) -> Place<'a>
-        requires { length loopers.now ≤ 8 }
+        requires { length loopers.now ≤ app_looper_limit }
         ensures { result ≡ loopers.entry.now }
     {
         Place { loopers }
@@ -66,7 +68,7 @@ impl<'a> Place<'a> {
     /// The names of the application's loopers, for its own looper.
     pub(crate) fn loopers(&self) -> &[Text]
         ensures value { result.now ≡ self.now }
-        ensures limit { length self.now ≤ 8 }
+        ensures limit { length self.now ≤ app_looper_limit }
     {
         self.loopers
     }

@@ -3,6 +3,7 @@
 ghost use Rattle.std.specs.Prelude.{◌≡◌, ◌≢◌, ◌≤◌, codes, length};
 ghost use Rattle.std.specs.List.{position};
 ghost use Rattle.std.specs.Str.{bytes_eq};
+ghost use Rattle.ak_base.specs.Limits.{app_looper_limit};
 ghost use Rattle.ak_message.specs.Specifier.{specifier_of};
 ghost use Rattle.ak_specifier.specs.Current.{current_of, left_of, popped_once};
 ghost use Rattle.ak_route.specs.Handlers.{handlers_seen, row_of};
@@ -43,7 +44,7 @@ pub(crate) fn resolve<R: HandlerRow + Drop>(
     loopers: &[Text],
     token: u64,
 ) -> Destination
-    requires { length loopers.now ≤ 8 }
+    requires { length loopers.now ≤ app_looper_limit }
     ensures { record { place = destination_of result; message = m.new }
         ≡ resolve (handlers_seen R.told set.now) loopers.now m.old first token }
 {
@@ -61,7 +62,7 @@ fn follow<R: HandlerRow + Drop>(
     loopers: &[Text],
     mut token: u64,
 ) -> Destination
-    requires { length loopers.now ≤ 8 }
+    requires { length loopers.now ≤ app_looper_limit }
     ensures { record { place = destination_of result; message = m.new }
         ≡ resolve_from (handlers_seen R.told set.now) loopers.now (left_of m.old) m.old token }
 {
@@ -136,7 +137,7 @@ fn next_step<R: HandlerRow + Drop>(
     loopers: &[Text],
     token: u64,
 ) -> Step
-    requires { length loopers.now ≤ 8 }
+    requires { length loopers.now ≤ app_looper_limit }
     ensures { step_of result ≡ step (handlers_seen R.told set.now) loopers.now m.now token }
 {
     let Ok(specifier) = current(m) else {
@@ -181,7 +182,7 @@ fn handler_step<R: HandlerRow + Drop>(
 }
 
 fn looper_step(loopers: &[Text], m: &Message, specifier: SpecifierRef<'_>) -> Step
-    requires { length loopers.now ≤ 8 }
+    requires { length loopers.now ≤ app_looper_limit }
     ensures { step_of result ≡ looper_step loopers.now m.now (specifier_of specifier.entry) }
 {
     let place = match specifier.at {
@@ -203,7 +204,7 @@ fn looper_named(loopers: &[Text], name: &Text) -> Option<usize>
 
 // The first one is the looper that is asked.
 fn looper_at(count: usize, place: Option<usize>) -> Step
-    requires { count ≤ 8 }
+    requires { count ≤ app_looper_limit }
     ensures { step_of result ≡ looper_if_there count place }
 {
     match place {

@@ -7,6 +7,7 @@ use Rattle.ak_message.specs.Message.{ValueData, kind_of}
 use Rattle.ak_message.specs.MessageCode.{coded_value}
 use Rattle.ak_value.specs.declared.fault.ElementFault.{ElementFault}
 use Rattle.ak_value.specs.declared.fault.ElementFault.TheVariants as fault
+use Rattle.ak_value.specs.Limits.{element_limit, id_limit}
 
 pub record ElementData : Type 0 where
   pub name : List ℕ
@@ -24,10 +25,10 @@ abbrev pub IdsRise : List ElementData → ℕ → Type 0
 IdsRise list next_id = AllPairs (λ a b. a.id < b.id) list × All (λ e. (1 ≤ e.id) × (e.id < next_id)) list
 
 pub record IsElements (e : ElementsData) : Type 0 where
-  pub limit : length e.list ≤ 64
+  pub limit : length e.list ≤ element_limit
   pub same_kind : All (λ x. kind_of x.value ≡ e.kind) e.list
   pub ids : IdsRise e.list e.next_id
-  pub next_id : (1 ≤ e.next_id) × (e.next_id ≤ 2147483647)
+  pub next_id : (1 ≤ e.next_id) × (e.next_id ≤ id_limit)
 
 -- numbered in order from an id on
 abbrev pub numbered : ℕ → List (List ℕ × ValueData) → List ElementData
@@ -41,7 +42,7 @@ described kind xs = record { kind = kind; list = numbered 1 xs; next_id = length
 -- ---- one more element
 -- there are fewer than 64 elements, and an id is left
 abbrev pub has_room : ElementsData → Bool
-has_room e = nat_lt (length e.list) 64 && nat_lt e.next_id 2147483647
+has_room e = nat_lt (length e.list) element_limit && nat_lt e.next_id id_limit
 
 -- another kind, and then that there is no room
 abbrev pub add_fault : ElementsData → Kind → Option ElementFault

@@ -2,4 +2,5 @@ pub mod Access
 pub mod Choice
 pub mod Elements
 pub mod Laws
+pub mod Limits
 pub mod Seen

@@ -3,6 +3,7 @@ ghost use Rattle.ak_message.specs.Message.{kind_of};
 ghost use Rattle.ak_message.specs.Seen.{value_of};
 ghost use Rattle.ak_value.specs.Elements.{described, has_room, add_fault, with_last, first_value, set_first_fault, with_first};
 ghost use Rattle.ak_value.specs.Seen.{element_of, elements_of_list, pairs_of};
+ghost use Rattle.ak_value.specs.Limits.{element_limit};
 
 use crate::fault::ElementFault;
 use ak_base::{NoMemory, Text};
@@ -53,7 +54,7 @@ impl Elements {
     /// The elements of these names and values, at most 64 and each of that kind, with the ids 1, 2 and so
     /// on. An element without a name has the empty one. `NoMemory` where memory ran out.
     pub fn new(alloc: Global, kind: Kind, list: Vec<(Text, Value)>) -> Result<Elements, NoMemory>
-        requires limit { length list.items ≤ 64 }
+        requires limit { length list.items ≤ element_limit }
         requires same_kind { All (λ x. kind_of (value_of x.1) ≡ kind) list.items }
         ensures { IfOk result (λ e. e ≡ described kind (pairs_of list.items)) }
     {
@@ -125,7 +126,7 @@ impl Elements {
     /// How many there are. Takes no memory.
     pub fn len(&self) -> u32
         ensures value { result ≡ length self.now.list }
-        ensures limit { length self.now.list ≤ 64 }
+        ensures limit { length self.now.list ≤ element_limit }
     {
         self.list.len() as u32
     }
