@@ -5,6 +5,7 @@ ghost use Rattle.ak_flatten.specs.Item.{spelled};
 ghost use Rattle.ak_flatten.specs.Laws.{Spells};
 ghost use Rattle.ak_flatten.specs.Spelling.{spelling};
 ghost use Rattle.ak_turn.specs.Seats.{KnowsWhole};
+ghost use Rattle.ak_flatten.specs.Limits.{flat_limit};
 ghost use Rattle.ak_port.specs.PortCalls.{by_number, CanTake, IsAtPort};
 ghost use Rattle.ak_port.specs.ReplySeats.{maker_of, MayCancel, MayTake};
 ghost use Rattle.ak_port.specs.SeatKept.{KeepsSeat};
@@ -191,7 +192,7 @@ pub fn ask<R: Wait>(
     requires popped { e.popped ≤ specifier_count m.now.fields }
     requires back { e.back ≡ None }
     ensures answered { AskTells (item_in e Duty.None m.now) h.old.clock h.new.clock h.old.book_seat h.new.book_seat seat.old seat.new result }
-    ensures too_long { IsErrOf result SendFault.TooLong ↔ (4096 < length (spelling m.now)) }
+    ensures too_long { IsErrOf result SendFault.TooLong ↔ (flat_limit < length (spelling m.now)) }
     ensures message { IfOk result (λ reply. reply.message ≡ spelled reply.flat) }
     ensures spells { IfOk result (λ reply. Spells reply.flat reply.message) }
     ensures port { IsAtPort seat.old → IsAtPort seat.new }

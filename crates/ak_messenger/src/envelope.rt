@@ -1,6 +1,7 @@
 ghost use Rattle.std.specs.Prelude.{◌≡◌, ◌≤◌, ◌<◌, ◌↔◌, length, IfOk, IsErrOf};
 ghost use Rattle.ak_message.specs.Fields.{specifier_count};
 ghost use Rattle.ak_flatten.specs.Spelling.{spelling};
+ghost use Rattle.ak_flatten.specs.Limits.{flat_limit};
 
 use ak_flatten::{Duty, FlattenFault, Item};
 use ak_message::{Address, Message, Target};
@@ -40,7 +41,7 @@ impl Envelope {
     pub(crate) fn item(&self, alloc: Global, duty: Duty, m: &Message) -> Result<Item, FlattenFault>
         requires { self.now.popped ≤ specifier_count m.now.fields }
         ensures ok { IfOk result (λ item. item ≡ item_in self.now duty m.now) }
-        ensures too_long { IsErrOf result FlattenFault.TooLong ↔ (4096 < length (spelling m.now)) }
+        ensures too_long { IsErrOf result FlattenFault.TooLong ↔ (flat_limit < length (spelling m.now)) }
     {
         let item = Item::new(alloc, self.target, self.team, self.dropped, duty, m)?;
         Ok(item.with_popped(self.popped))

@@ -3,6 +3,7 @@ ghost use Rattle.ak_base.specs.declared.thread.ThreadId.{ThreadId};
 ghost use Rattle.ak_message.specs.Fields.{specifier_count};
 ghost use Rattle.ak_flatten.specs.Spelling.{spelling};
 ghost use Rattle.ak_turn.specs.Seats.{KnowsWhole};
+ghost use Rattle.ak_flatten.specs.Limits.{flat_limit};
 ghost use Rattle.ak_port.specs.PortCalls.{by_number, CanTake, HasAnswered, IsAtPort};
 ghost use Rattle.ak_port.specs.SeatKept.{KeepsSeat};
 ghost use Rattle.ak_messenger.specs.Sends.{post_answer, post_event, IfReached};
@@ -51,7 +52,7 @@ pub fn post<R: Wait>(
     requires thread { seat.old.thread ≡ h.old.clock.thread.0 }
     requires popped { e.popped ≤ specifier_count m.now.fields }
     ensures answered { HasAnswered (post_event e m.now result) h.old.clock h.new.clock seat.old seat.new }
-    ensures too_long { IsErrOf result SendFault.TooLong ↔ (4096 < length (spelling m.now)) }
+    ensures too_long { IsErrOf result SendFault.TooLong ↔ (flat_limit < length (spelling m.now)) }
     ensures unsent { IsErrOf result SendFault.TooLong → seat.new ≡ seat.old }
     ensures would_block { IsErrOf result SendFault.WouldBlock → how ≡ How.NoWait }
     ensures port { IsAtPort seat.old → IsAtPort seat.new }

@@ -1,3 +1,4 @@
+pub mod Limits
 pub mod PortCalls
 pub mod PortInside
 pub mod PortLaws

@@ -1,5 +1,6 @@
 -- What contracts see of the entries and slots as a reply book keeps them.
 use Rattle.std.specs.Prelude.{◌≡◌, ℕ, ◌+◌, ◌*◌, ◌≤◌, Bool, true, false, List, length, take, drop, map, count_by, All, Some, slice_get, slice_set}
+use Rattle.ak_flatten.specs.Limits.{flat_limit}
 use Rattle.ak_port.specs.declared.reply_entry.ReplyEntry.{ReplyEntry}
 use Rattle.ak_port.specs.declared.reply_entry.ReplyEvent.{ReplyEvent}
 use Rattle.ak_port.specs.declared.reply_entry.ReplyEvent.TheVariants as event
@@ -87,4 +88,4 @@ pub record Told (store : List ℕ) (entries : List Kept) (slots : List Slot) (wa
 -- there is memory for two entries more of each open slot and one of each filled one, and for 4,096 bytes of each open one
 pub record HasRoom (len cap bytes bytes_cap waiting filled : ℕ) : Type 0 where
   pub for_entries : len + (2 * waiting + filled) ≤ cap
-  pub for_bytes : bytes + 4096 * waiting ≤ bytes_cap
+  pub for_bytes : bytes + flat_limit * waiting ≤ bytes_cap

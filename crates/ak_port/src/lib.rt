@@ -17,7 +17,8 @@ mod reply_laws;
 mod reply_slot;
 mod taker_laws;
 
-pub use port::{CAPACITY_LIMIT, LIFE_LIMIT, Port, close, make, take, write, write_at_turn};
+pub use ak_base::CAPACITY_LIMIT;
+pub use port::{LIFE_LIMIT, Port, close, make, take, write, write_at_turn};
 pub use port_book::PortBook;
 pub use port_entry::{CloseAnswer, How, PortEntry, PortEvent, TakeAnswer, WriteAnswer};
 pub use port_laws::{

@@ -8,18 +8,17 @@ ghost use Rattle.ak_port.specs.PortMachine.{last_taken, pending_count, refusal_o
 ghost use Rattle.ak_port.specs.PortCalls.{by_number, clock_after, close_entry, making, stamp_number, take_count, take_event, write_entry, CanTake, GivesBack, HasAnswered, HasAnsweredAtTurn, HasEntered, HasLooked, IfRefused, IfRest, IfTook, IsAtPort, IsFull};
 ghost use Rattle.ak_port.specs.SeatKept.{KeepsSeat};
 ghost use Rattle.ak_base.specs.declared.thread.ThreadId.{ThreadId};
+ghost use Rattle.ak_base.specs.Limits.{capacity_limit};
+ghost use Rattle.ak_port.specs.Limits.{life_limit};
 
 use crate::port_book::PortBook;
 use crate::port_entry::{CloseAnswer, How, TakeAnswer, WriteAnswer};
-use ak_base::{NoMemory, ThreadId};
+use ak_base::{CAPACITY_LIMIT, NoMemory, ThreadId};
 use ak_flatten::{Item, Taken};
 use ak_turn::{Clock, Seat, Turn, TurnLock};
 use std::alloc::Global;
 use std::collections::VecDeque;
 use std::sync::{Arc, Wait};
-
-/// The most items that a port holds at a time.
-pub const CAPACITY_LIMIT: u32 = 1000;
 
 /// The most items that a port accepts in all.
 pub const LIFE_LIMIT: u32 = 8192;
@@ -44,7 +43,7 @@ pub fn make(
     requires capacity { (1 ≤ capacity) × (capacity ≤ CAPACITY_LIMIT) }
     requires life { (1 ≤ life) × (life ≤ LIFE_LIMIT) }
     requires time { clock.old.time < 2 ^ 63 }
-    ensures limits { (CAPACITY_LIMIT ≡ 1000) × (LIFE_LIMIT ≡ 8192) }
+    ensures limits { (CAPACITY_LIMIT ≡ capacity_limit) × (LIFE_LIMIT ≡ life_limit) }
     ensures made { IfOk result (λ made. made.1 ≡ first_seat (arc_value made.0) taker (making clock.old capacity life ∷ []) (0 ∷ []) clock.old.thread.0) }
     ensures port { IfOk result (λ made. IsAtPort made.1) }
     ensures taking { IfOk result (λ made. CanTake taker capacity made.1) }

@@ -1,9 +1,11 @@
 ghost use Rattle.std.specs.Prelude.{◌≡◌, ◌+◌, ◌∷◌, ◌++◌, [], ◌<◌, ◌≤◌, ◌^◌, false, true, min, take, drop, length, IfOk, IfErr, IfSome, IfNone, OnErr, None, Some, vec_len, vec_capacity};
 ghost use Rattle.std.specs.VecDeque.{deque_len, deque_capacity};
+ghost use Rattle.ak_base.specs.Limits.{capacity_limit};
 ghost use Rattle.ak_turn.specs.Lines.{last_stamp_of};
 ghost use Rattle.ak_port.specs.PortInside.{one_unless};
 ghost use Rattle.ak_port.specs.PortMachine.{numbered, last_taken, pending_count, refusal_of, refused_event, state_of, write_event, LacksItems, LacksRoom};
 ghost use Rattle.ak_port.specs.PortCalls.{clock_after, entry_now, making, stamp_number, GivesBack, HasAdded, IfTook, IsFull, IsPortBook, refused_answer, take_count, take_event, write_entry};
+ghost use Rattle.ak_port.specs.Limits.{life_limit};
 
 use crate::port_entry::{PortEntry, PortEvent, Refusal, TakeAnswer, WriteAnswer};
 use ak_base::{NoMemory, ThreadId};
@@ -182,8 +184,8 @@ impl PortBook {
         taker: ThreadId,
         clock: &Clock,
     ) -> Result<PortBook, NoMemory>
-        requires capacity { capacity ≤ 1000 }
-        requires life { life ≤ 8192 }
+        requires capacity { capacity ≤ capacity_limit }
+        requires life { life ≤ life_limit }
         requires time { clock.now.time < 2 ^ 63 }
         ensures { IfOk result (λ port. port ≡ record { taker = taker; entries = making clock.now capacity life ∷ [] }) }
     {

@@ -1,5 +1,6 @@
 ghost use Rattle.std.specs.Prelude.{◌≡◌, ◌+◌, ◌*◌, ◌-◌, ◌<◌, ◌≤◌, ◌^◌, ◌↔◌, [], ◌∷◌, ◌++◌, length, IsNone, None, Some, IfOk, IfErr, IfNone, IfSome, IsSome, IsTrue, OnOk, OnErr, option_map, slice_get, unwrap_or, vec_len, vec_capacity, max};
 ghost use Rattle.ak_turn.specs.Lines.{last_stamp_of};
+ghost use Rattle.ak_flatten.specs.Limits.{flat_limit};
 ghost use Rattle.ak_port.specs.ReplyKept.{entry_seen, IsMoved, IsWithin};
 ghost use Rattle.ak_port.specs.Reply.{IsFlatText, IsLegal, FillsWith, IsFilled, IsSettled, none_text, open_stage, slots_after};
 
@@ -7,7 +8,7 @@ use crate::reply_entry::{CancelAnswer, FillAnswer, ReplyEntry, ReplyEvent};
 use crate::reply_kept::{Kept, KeptEvent, Range};
 use crate::reply_slot::{Progress, Slot};
 use ak_base::{Bytes, Code, NoMemory, ThreadId};
-use ak_flatten::flatten;
+use ak_flatten::{FLAT_LIMIT, flatten};
 use ak_message::Message;
 use ak_turn::{Book, Clock};
 use std::alloc::Global;
@@ -148,19 +149,19 @@ fn make_room(
     none: &[u8],
 ) -> Result<Bytes, NoMemory>
     requires entries { vec_len entries.old + (2 * waiting + filled) ≤ vec_capacity entries.old }
-    requires bytes { vec_len store.old + 4096 * waiting ≤ vec_capacity store.old }
+    requires bytes { vec_len store.old + flat_limit * waiting ≤ vec_capacity store.old }
     ensures entries { (entries.new.items ≡ entries.old.items) × (vec_len entries.new ≡ vec_len entries.old) }
     ensures bytes { (store.new.items ≡ store.old.items) × (vec_len store.new ≡ vec_len store.old) }
     ensures slots { (slots.new.items ≡ slots.old.items) × (vec_len slots.new ≡ vec_len slots.old) }
     ensures entries_grow { vec_capacity entries.old ≤ vec_capacity entries.new }
     ensures bytes_grow { vec_capacity store.old ≤ vec_capacity store.new }
     ensures entries_room { OnOk result (vec_len entries.new + (2 * waiting + filled + 3) ≤ vec_capacity entries.new) }
-    ensures bytes_room { OnOk result (vec_len store.new + 4096 * (waiting + 1) ≤ vec_capacity store.new) }
+    ensures bytes_room { OnOk result (vec_len store.new + flat_limit * (waiting + 1) ≤ vec_capacity store.new) }
     ensures slots_room { OnOk result (vec_len slots.new < vec_capacity slots.new) }
     ensures copy { IfOk result (λ bytes. bytes ≡ none.now) }
 {
     entries.reserve(2 * waiting + filled + 3)?;
-    store.reserve(4096 * (waiting + 1))?;
+    store.reserve(FLAT_LIMIT * (waiting + 1))?;
     slots.reserve(1)?;
     Ok(copy_of(*slots.allocator(), none)?)
 }

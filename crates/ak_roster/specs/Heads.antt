@@ -4,15 +4,17 @@ use Rattle.std.specs.List.{list_any, position}
 use Rattle.std.specs.Str.{bytes_eq}
 use Rattle.ak_base.specs.declared.app_word.AppWord.{AppWord}
 use Rattle.ak_base.specs.declared.app_word.AppWord.TheVariants as word
+use Rattle.ak_base.specs.Limits.{app_looper_limit}
 use Rattle.ak_roster.specs.declared.head.AppHead.{AppHead}
 use Rattle.ak_roster.specs.declared.head.Mode.{Mode}
 use Rattle.ak_roster.specs.declared.head.Mode.TheVariants as mode
 use Rattle.ak_roster.specs.declared.team.Running.{Running}
+use Rattle.ak_roster.specs.Limits.{app_limit}
 
 -- at most 16 applications are described, each with 1 to 8 loopers
 pub record IsHeads (heads : List AppHead) : Type 0 where
-  pub limit : length heads ≤ 16
-  pub loopers : All (λ head. (1 ≤ head.loopers) × (head.loopers ≤ 8)) heads
+  pub limit : length heads ≤ app_limit
+  pub loopers : All (λ head. (1 ≤ head.loopers) × (head.loopers ≤ app_looper_limit)) heads
 
 abbrev pub is_slash : ℕ → Bool
 is_slash byte = byte == 47

@@ -1,5 +1,6 @@
 -- The roster's book as the code holds it, and what contracts see of it.
 use Rattle.std.specs.Prelude.{◌≡◌, ◌⊎◌, ◌≤◌, ℕ, ◌+◌, List, [], ◌∷◌, ◌++◌, length, map, take, drop, Option}
+use Rattle.ak_base.specs.Limits.{looper_limit}
 use Rattle.ak_roster.specs.declared.head.AppHead.{AppHead}
 use Rattle.ak_roster.specs.declared.team.Running.{Running}
 use Rattle.ak_roster.specs.declared.entry.RosterEntry.{RosterEntry}
@@ -10,6 +11,7 @@ use Rattle.ak_roster.specs.declared.entry.LaunchOutcome.{LaunchOutcome}
 use Rattle.ak_roster.specs.declared.entry.LaunchOutcome.TheVariants as launch
 use Rattle.ak_roster.specs.Machine.{loopers_at}
 use Rattle.ak_roster.specs.Roster.{RosterData, IsRoster, state}
+use Rattle.ak_roster.specs.Limits.{team_limit}
 
 pub record Kept (D : Type 0) : Type 0 where
   pub heads : List AppHead
@@ -59,8 +61,8 @@ pub record IsSound {D O : Type 0} (object : D → Option O) (threads : D → Opt
   pub teams : kept.teams ≡ (state (roster_seen object kept)).teams
   pub loopers : kept.loopers ≡ length (state (roster_seen object kept)).loopers
   pub room : length kept.entries + length kept.running ≤ kept.room
-  pub few_teams : kept.teams ≤ 16
-  pub few_loopers : kept.loopers ≤ 32
+  pub few_teams : kept.teams ≤ team_limit
+  pub few_loopers : kept.loopers ≤ looper_limit
   pub all_doors : length (kept.taken ++ kept.doors) ≡ kept.loopers
   -- they are taken once
   pub once : (kept.taken ≡ []) ⊎ (kept.doors ≡ [])

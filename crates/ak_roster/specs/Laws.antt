@@ -1,7 +1,9 @@
 -- What holds of all histories of the roster.
-use Rattle.std.specs.Prelude.{◌≡◌, ◌≢◌, ◌<◌, ◌≤◌, ◌⊎◌, ◌↔◌, ◌+◌, ℕ, false, IsTrue, List, [], ◌∷◌, ◌++◌, length, All, AllPairs, Any, Contains, IfSome, MatchOption, Some, slice_get}
+use Rattle.std.specs.Prelude.{◌≡◌, ◌≢◌, ◌<◌, ◌≤◌, ◌⊎◌, ◌↔◌, ℕ, false, IsTrue, List, [], ◌∷◌, ◌++◌, length, All, AllPairs, Any, Contains, IfSome, MatchOption, Some, slice_get}
 use Rattle.std.specs.List.{flat_map, list_any}
 use Rattle.ak_base.specs.declared.app_word.AppWord.{AppWord}
+use Rattle.ak_base.specs.Limits.{looper_limit}
+use Rattle.ak_base.specs.Thread.{main_thread, looper_thread, keeper_thread}
 use Rattle.ak_roster.specs.declared.head.AppHead.{AppHead}
 use Rattle.ak_roster.specs.declared.head.Mode.{Mode}
 use Rattle.ak_roster.specs.declared.head.Mode.TheVariants as mode
@@ -16,6 +18,7 @@ use Rattle.ak_roster.specs.Heads.{last_part, team_fits, team_for}
 use Rattle.ak_roster.specs.Machine.{IsHistory, LooperData, RosterState, runs_team, state_of}
 use Rattle.ak_roster.specs.Roster.{IsStranger, holders}
 use Rattle.ak_turn.specs.Lines.{made_by}
+use Rattle.ak_roster.specs.Limits.{team_limit}
 
 -- ---- an answer is a function of what stands before it: where two histories have the same beginning, and then the same question, they have
 -- the same answer
@@ -87,8 +90,8 @@ LeastIsFound =
 
 -- ---- never more than 16 teams are started, nor more than 32 loopers
 pub record IsWithinLimits (s : RosterState) : Type 0 where
-  pub teams : s.teams ≤ 16
-  pub loopers : length s.loopers ≤ 32
+  pub teams : s.teams ≤ team_limit
+  pub loopers : length s.loopers ≤ looper_limit
 
 abbrev pub LimitsHold : Type 0
 LimitsHold = (heads : List AppHead) (entries : List RosterEntry) → IsHistory heads entries → IsWithinLimits (state_of heads entries)
@@ -106,7 +109,7 @@ TookDoor entries number thread = Any (λ (entry : RosterEntry). (entry.by.0 ≡ 
 
 abbrev pub IsHolder : List RosterEntry → ℕ → LooperData → ℕ → Type 0
 IsHolder entries number looper thread =
-    (thread ≡ 0) ⊎ ((thread ≡ 10000 + number) ⊎ ((thread ≡ 10000 + looper.own) ⊎ ((thread ≡ 20000) ⊎ TookDoor entries number thread)))
+    (thread ≡ main_thread) ⊎ ((thread ≡ looper_thread number) ⊎ ((thread ≡ looper_thread looper.own) ⊎ ((thread ≡ keeper_thread) ⊎ TookDoor entries number thread)))
 
 abbrev pub HoldersAreTold : Type 0
 HoldersAreTold =
@@ -115,10 +118,10 @@ HoldersAreTold =
 
 -- so a thread that is none of the four, and whose own entries have none of that door, has no part
 pub record IsNoneOfFour (thread number : ℕ) (looper : LooperData) : Type 0 where
-  pub not_main : thread ≢ 0
-  pub not_looper : thread ≢ 10000 + number
-  pub not_own : thread ≢ 10000 + looper.own
-  pub not_keeper : thread ≢ 20000
+  pub not_main : thread ≢ main_thread
+  pub not_looper : thread ≢ looper_thread number
+  pub not_own : thread ≢ looper_thread looper.own
+  pub not_keeper : thread ≢ keeper_thread
 
 abbrev pub StrangersAreTold : Type 0
 StrangersAreTold =

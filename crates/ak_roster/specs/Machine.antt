@@ -2,6 +2,7 @@
 use Rattle.std.specs.Prelude.{◌≡◌, ◌<◌, ℕ, zero, suc, ◌+◌, Bool, not, ◌==◌, ◌&&◌, nat_lt, nat_le, IsTrue, List, [], ◌∷◌, ◌++◌, length, filter, replicate, Contains, Option, None, Some, option_map, unwrap_or, slice_get, if◌then◌else◌}
 use Rattle.std.specs.List.{list_any}
 use Rattle.ak_base.specs.declared.app_word.AppWord.{AppWord}
+use Rattle.ak_base.specs.Limits.{looper_limit}
 use Rattle.ak_turn.specs.Lines.{last_stamp_of}
 use Rattle.ak_roster.specs.declared.head.AppHead.{AppHead}
 use Rattle.ak_roster.specs.declared.team.Running.{Running}
@@ -13,6 +14,7 @@ use Rattle.ak_roster.specs.declared.entry.LaunchOutcome.TheVariants as launch
 use Rattle.ak_roster.specs.declared.entry.FindOutcome.{FindOutcome}
 use Rattle.ak_roster.specs.declared.entry.FindOutcome.TheVariants as outcome
 use Rattle.ak_roster.specs.Heads.{excluder, first_fit, team_for}
+use Rattle.ak_roster.specs.Limits.{team_limit}
 
 -- a looper that was started: the first looper of its team, the thread that launched it, and the threads that got its door since
 pub record LooperData : Type 0 where
@@ -31,7 +33,7 @@ start = record { running = []; teams = 0; loopers = [] }
 
 -- at most 16 teams are started, with at most 32 loopers together
 abbrev pub has_room : ℕ → ℕ → AppHead → Bool
-has_room teams loopers head = nat_lt teams 16 && nat_le (loopers + head.loopers) 32
+has_room teams loopers head = nat_lt teams team_limit && nat_le (loopers + head.loopers) looper_limit
 
 -- ---- what a launch is answered
 abbrev pub unless_excluded : Option Running → LaunchOutcome → LaunchOutcome

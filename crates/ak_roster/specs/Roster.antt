@@ -1,6 +1,7 @@
 -- What contracts see of the roster's book.
 use Rattle.std.specs.Prelude.{◌≡◌, ℕ, suc, ◌+◌, max, List, [], ◌∷◌, ◌++◌, length, map, Contains, Option, None, Some, IfSome, slice_get, slice_set, ◌↔◌}
 use Rattle.std.specs.List.{flat_map}
+use Rattle.ak_base.specs.Thread.{main_thread, looper_thread, keeper_thread}
 use Rattle.ak_turn.specs.declared.clock.Clock.{Clock}
 use Rattle.ak_turn.specs.Lines.{last_stamp_of}
 use Rattle.ak_roster.specs.declared.head.AppHead.{AppHead}
@@ -44,7 +45,7 @@ module _ {O : Type 0} where
 -- the threads that have a part of what the door of looper L leads to: main, looper L, the first looper of its team, the keeper of the
 -- doors, and those that got the door since
 abbrev pub holders : ℕ → LooperData → List ℕ
-holders number looper = 0 ∷ (10000 + number) ∷ (10000 + looper.own) ∷ 20000 ∷ looper.given
+holders number looper = main_thread ∷ looper_thread number ∷ looper_thread looper.own ∷ keeper_thread ∷ looper.given
 
 -- the same threads, in whatever order
 abbrev pub AreSame : List ℕ → List ℕ → Type 0
@@ -53,7 +54,7 @@ AreSame threads others = (thread : ℕ) → Contains threads thread ↔ Contains
 module _ {D : Type 0} (threads : D → Option (List ℕ)) where
   -- a door that tells its threads tells just those, and main has launched its looper
   abbrev pub IsKept : ℕ → D → LooperData → Type 0
-  IsKept number door looper = IfSome (threads door) (λ told. AreSame told (holders number looper) × (looper.starter ≡ 0))
+  IsKept number door looper = IfSome (threads door) (λ told. AreSame told (holders number looper) × (looper.starter ≡ main_thread))
 
   -- so is each of the doors of the loopers from that number on
   abbrev pub AreKept : ℕ → List D → List LooperData → Type 0

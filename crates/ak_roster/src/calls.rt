@@ -1,11 +1,13 @@
 //! Decisions on launches, look-ups, and the ends of teams.
 ghost use Rattle.std.specs.Prelude.{◌≡◌, ◌<◌, ◌≤◌, ◌+◌, ◌^◌, [], length, if◌then◌else◌, IsTrue, IsFalse, OnOk, OnErr, vec_len, vec_capacity, max, filter, not, ◌++◌, ◌∷◌};
 ghost use Rattle.std.specs.List.{list_any};
+ghost use Rattle.ak_base.specs.Limits.{looper_limit};
 ghost use Rattle.ak_roster.specs.Answers.{answer_of, decision_of, OnDecision, OnFound, OnRefusal, UnlessFound, UnlessRefusal};
 ghost use Rattle.ak_roster.specs.Heads.{excluder, team_for};
 ghost use Rattle.ak_roster.specs.Machine.{after, find_of, has_room, launch_of, launch_at, outcome_found, runs_team, IsLegal};
 ghost use Rattle.ak_roster.specs.Kept.{count_of};
 ghost use Rattle.ak_roster.specs.Roster.{Enters, IsAtRest, Stays, last_stamp, state};
+ghost use Rattle.ak_roster.specs.Limits.{team_limit};
 
 use crate::answer::{Decision, FindAnswer};
 use crate::book::RosterBook;
@@ -14,8 +16,8 @@ use crate::fit::{excluder, first_fit, team_for};
 use crate::grant::Grant;
 use crate::head::AppHead;
 use crate::room::{push_reserved, reserve_after};
-use crate::team::{LOOPER_LIMIT, Running, TEAM_LIMIT};
-use ak_base::{AppWord, NoMemory};
+use crate::team::{Running, TEAM_LIMIT};
+use ak_base::{AppWord, LOOPER_LIMIT, NoMemory};
 use ak_turn::{Book, Clock};
 
 impl<D: Grant> RosterBook<D> {
@@ -142,8 +144,8 @@ impl<D: Grant> RosterBook<D> {
 
 // What a launch comes to that no team keeps from starting.
 fn next_outcome(teams: u32, loopers: u32, place: u32, head: &AppHead) -> LaunchOutcome
-    requires teams { teams ≤ 16 }
-    requires loopers { loopers ≤ 32 }
+    requires teams { teams ≤ team_limit }
+    requires loopers { loopers ≤ looper_limit }
     ensures { result ≡ (if has_room teams loopers head.now then LaunchOutcome.Started place (teams + 1) loopers else LaunchOutcome.Limit) }
 {
     if teams >= TEAM_LIMIT || head.loopers > LOOPER_LIMIT - loopers {

@@ -17,6 +17,7 @@ mod laws;
 mod room;
 mod team;
 
+pub use ak_base::LOOPER_LIMIT;
 pub use answer::{Decision, FindAnswer, Launched};
 pub use book::RosterBook;
 pub use entry::{FindOutcome, LaunchOutcome, RosterEntry, RosterEvent, RosterLine};
@@ -26,4 +27,4 @@ pub use laws::{
     answers_follow, holders_are_told, last_parts_are_so, limits_hold, modes_hold, no_team_returns,
     the_least_is_found,
 };
-pub use team::{LOOPER_LIMIT, Running, TEAM_LIMIT};
+pub use team::{APP_LIMIT, Running, TEAM_LIMIT};

@@ -1,8 +1,8 @@
 /// How many launches may start in a run.
 pub const TEAM_LIMIT: u32 = 16;
 
-/// How many loopers may be started in a run.
-pub const LOOPER_LIMIT: u32 = 32;
+/// How many applications may be described.
+pub const APP_LIMIT: usize = 16;
 
 /// A team that runs.
 #[derive(Clone, Copy, Debug, PartialEq, Eq)]
