@@ -163,7 +163,7 @@ plans_are_whole-proof parts e =
     record {
       looper_first = looper.0;
       some_handler = looper.1;
-      handler_limit = leb-true _ _ t.limit;
+      few_handlers = leb-true _ _ t.limit;
       capacity_least = leb-true _ _ capacity.0;
       capacity_most = leb-true _ _ capacity.1;
       names_are_words = All-list_all (λ row. is_word row.name) parts.rows t.words;
@@ -173,7 +173,7 @@ plans_are_whole-proof parts e =
           (All-list_all (λ row. may_be parts.rows row.next) parts.rows named_all.0);
       preferred_is_there = named parts.rows parts.preferred named_all.1;
       handlers_open = handlers_open parts t;
-      suite_limit =
+      few_suites =
           All-weaker (λ row. nat_le (length row.suites) 16 ≡ true) (λ row. length row.suites ≤ 16) (λ row. leb-true (length row.suites) 16) parts.rows
           (All-list_all (λ row. nat_le (length row.suites) 16) parts.rows t.suites);
       tables_are_whole =

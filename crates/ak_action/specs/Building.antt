@@ -3,6 +3,7 @@ use Rattle.std.specs.Prelude.{◌≡◌, ℕ, ◌<◌, nat_lt, true, IsTrue, if�
 use Rattle.ak_base.specs.Word.{is_word}
 use Rattle.ak_message.specs.Fields.{field_named, first_named, added, add_fault}
 use Rattle.ak_message.specs.Message.{ValueData, FieldData, MessageData, kind_of, depth_of_value}
+use Rattle.ak_message.specs.Limits.{field_limit, depth_limit}
 use Rattle.ak_action.specs.declared.row.DeskRow.{DeskRow}
 use Rattle.ak_action.specs.declared.template.Given.{Given}
 use Rattle.ak_action.specs.declared.template.Given.TheVariants as given
@@ -20,7 +21,7 @@ first_given row m (given.Property name) = first_of row name
 -- a value that is there, and that a message can hold
 abbrev pub held : Option ValueData → List ValueData
 held None = []
-held (Some v) = if nat_lt (depth_of_value v) 16 then v ∷ [] else []
+held (Some v) = if nat_lt (depth_of_value v) depth_limit then v ∷ [] else []
 
 -- the values of a field, of which those that no message can hold are left out
 abbrev pub given_values : DeskRow → MessageData → Given → List ValueData
@@ -45,7 +46,7 @@ built row m t = record { what = t.what.0; fields = built_fields row m t.fields; 
 pub record HasRoomFor (fields : List FieldData) (name : List ℕ) : Type 0 where
   pub word : IsTrue (is_word name)
   pub new : field_named fields name ≡ None
-  pub limit : length fields < 64
+  pub limit : length fields < field_limit
 
 abbrev pub with_new : MessageData → List ℕ → List ValueData → MessageData
 with_new m name values = record m { fields = m.fields ++ field_of_values name values }

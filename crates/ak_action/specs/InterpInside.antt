@@ -4,6 +4,7 @@ use Rattle.ak_action.specs.declared.interp.Interp.TheInside.{Inside}
 use Rattle.ak_action.specs.declared.interp.Stage.{Stage}
 use Rattle.ak_action.specs.declared.interp.Stage.TheVariants as stage
 use Rattle.ak_action.specs.Interp.{InterpData}
+use Rattle.ak_action.specs.Limits.{action_limit, answer_word_limit}
 
 abbrev pub interp_inside : Inside → InterpData
 interp_inside i =
@@ -20,10 +21,10 @@ interp_inside i =
 
 -- of the action at the place and each one after it, less the word that it has already
 abbrev pub HasRoomAt : Stage → ℕ → ℕ → Type 0
-HasRoomAt stage.Ready place room = (place ≤ 16) × (32 ≤ room + 2 * place)
-HasRoomAt (stage.Finding _ _) place room = (place < 16) × (32 ≤ room + 2 * place)
-HasRoomAt (stage.Found _ _ _) place room = (place < 16) × (32 ≤ room + 2 * place + 1)
-HasRoomAt (stage.Sent _) place room = (place < 16) × (32 ≤ room + 2 * place + 1)
+HasRoomAt stage.Ready place room = (place ≤ action_limit) × (answer_word_limit ≤ room + 2 * place)
+HasRoomAt (stage.Finding _ _) place room = (place < action_limit) × (answer_word_limit ≤ room + 2 * place)
+HasRoomAt (stage.Found _ _ _) place room = (place < action_limit) × (answer_word_limit ≤ room + 2 * place + 1)
+HasRoomAt (stage.Sent _) place room = (place < action_limit) × (answer_word_limit ≤ room + 2 * place + 1)
 HasRoomAt stage.Ended place room = Unit {0}
 
 abbrev pub HasRoom : Inside → Type 0

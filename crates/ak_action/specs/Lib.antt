@@ -6,6 +6,7 @@ pub mod Interp
 pub mod InterpCode
 pub mod InterpInside
 pub mod Laws
+pub mod Limits
 pub mod Number
 pub mod Opening
 pub mod OpeningInside

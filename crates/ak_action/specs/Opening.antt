@@ -2,6 +2,7 @@
 use Rattle.std.specs.Prelude.{◌≡◌, ◌≢◌, ℕ, ◌+◌, ◌-◌, ◌≤◌, Bool, true, List, [], ◌∷◌, length, AllPairs, Option, Some, IsTrue, option_and_then, slice_get}
 use Rattle.std.specs.List.{list_all, list_any}
 use Rattle.std.specs.Str.{bytes_eq}
+use Rattle.ak_base.specs.Limits.{app_looper_limit, looper_limit}
 use Rattle.ak_handler.specs.Changes.{from_rows}
 use Rattle.ak_handler.specs.Handlers.{HandlersData}
 use Rattle.ak_action.specs.declared.action.Action.{Action}
@@ -63,9 +64,9 @@ knows_loopers names rows = list_all (row_knows_loopers names) rows
 -- the looper is the one of its name in the application, whose loopers' names, at most 8, differ, and whose numbers are below 32; its
 -- actions name these alone
 pub record FitsPlace (parts : PlanParts) (looper first : ℕ) (names : List (List ℕ)) : Type 0 where
-  pub some : length names ≤ 8
+  pub some : length names ≤ app_looper_limit
   pub differ : AllPairs (λ a b. a ≢ b) names
-  pub numbers : first + length names ≤ 32
+  pub numbers : first + length names ≤ looper_limit
   pub at : first ≤ looper
   pub named : slice_get names (looper - first) ≡ Some parts.name
   pub known : IsTrue (knows_loopers names parts.rows)

@@ -3,9 +3,11 @@ use Rattle.std.specs.Prelude.{◌≡◌, ℕ, zero, suc, ◌==◌, nat_le, Bool,
 use Rattle.std.specs.List.{position, list_all, list_any}
 use Rattle.std.specs.Str.{bytes_eq}
 use Rattle.ak_base.specs.Word.{is_word}
+use Rattle.ak_base.specs.Limits.{capacity_limit}
 use Rattle.ak_message.specs.declared.kind.Kind.{Kind}
 use Rattle.ak_message.specs.declared.kind.Kind.TheVariants as k
 use Rattle.ak_message.specs.Kind.{is_same_kind}
+use Rattle.ak_handler.specs.Limits.{handler_limit}
 use Rattle.ak_property.specs.declared.table.PropertyRow.{PropertyRow}
 use Rattle.ak_value.specs.Elements.{ElementsData}
 use Rattle.ak_action.specs.declared.action.Action.{Action}
@@ -21,6 +23,7 @@ use Rattle.ak_action.specs.declared.template.Given.{Given}
 use Rattle.ak_action.specs.declared.template.Given.TheVariants as given
 use Rattle.ak_action.specs.declared.template.Template.{Template}
 use Rattle.ak_action.specs.Number.{number_kind}
+use Rattle.ak_action.specs.Limits.{suite_limit}
 
 -- ---- the looper
 abbrev pub is_looper : PlanRow → List ℕ → Bool
@@ -147,8 +150,8 @@ fits_actions row = list_all (fits_reaction row) row.reactions
 abbrev pub looper_fault : PlanParts → List PlanRow → Option PlanFault
 looper_fault parts rows =
     if begin_with_looper rows parts.name then
-    (if nat_le 1 parts.capacity && nat_le parts.capacity 1000 then
-    (if nat_le (length rows) 64 then None else Some fault.HandlerLimit)
+    (if nat_le 1 parts.capacity && nat_le parts.capacity capacity_limit then
+    (if nat_le (length rows) handler_limit then None else Some fault.HandlerLimit)
     else Some fault.BadCapacity)
     else Some fault.BadLooper
 
@@ -163,7 +166,7 @@ names_fault parts rows =
     else Some fault.BadName
 
 abbrev pub suites_fit : List PlanRow → Bool
-suites_fit rows = list_all (λ row. nat_le (length row.suites) 16) rows
+suites_fit rows = list_all (λ row. nat_le (length row.suites) suite_limit) rows
 
 abbrev pub tables_fit : List PlanRow → Bool
 tables_fit rows = list_all fits_table rows

@@ -8,6 +8,7 @@ use Rattle.ak_action.specs.declared.interp.Stage.TheVariants as stage
 use Rattle.ak_action.specs.declared.state.DeskState.{DeskState}
 use Rattle.ak_action.specs.Doing.{doing_of}
 use Rattle.ak_action.specs.Interp.{InterpData, Carried, goes, wants, carried, hear_of_team}
+use Rattle.ak_action.specs.Limits.{action_limit}
 
 -- ---- where an action's last word is still to be said
 abbrev pub IsGoing : Stage → Type 0
@@ -18,7 +19,7 @@ IsGoing (stage.Sent _) = Unit {0}
 IsGoing stage.Ended = ⊥
 
 pub record IsInAction (i : InterpData) : Type 0 where
-  pub place : i.place < 16
+  pub place : i.place < action_limit
   pub going : IsGoing i.stage
 
 abbrev pub IsFinding : Stage → Type 0

@@ -7,6 +7,7 @@ use Rattle.ak_message.specs.declared.message.Value.{Value}
 use Rattle.ak_message.specs.Message.{ValueData, kind_of, depth_of_value}
 use Rattle.ak_message.specs.MessageCode.{coded_value}
 use Rattle.ak_message.specs.Seen.{value_of}
+use Rattle.ak_message.specs.Limits.{value_limit, depth_limit}
 use Rattle.ak_action.specs.declared.values.Values.TheInside.{Inside}
 use Rattle.ak_action.specs.declared.values.ValuesFault.{ValuesFault}
 use Rattle.ak_action.specs.declared.values.ValuesFault.TheVariants as fault
@@ -19,9 +20,9 @@ pub record ValuesData : Type 0 where
 -- as one that is set
 pub record AreValues (v : ValuesData) : Type 0 where
   pub filled : 1 ≤ length v.list
-  pub limit : length v.list ≤ 255
+  pub limit : length v.list ≤ value_limit
   pub same_kind : All (λ x. kind_of x ≡ v.kind) v.list
-  pub shallow : All (λ x. depth_of_value x < 16) (drop 1 v.list)
+  pub shallow : All (λ x. depth_of_value x < depth_limit) (drop 1 v.list)
 
 abbrev pub one_value : ValueData → ValuesData
 one_value x = record { kind = kind_of x; list = x ∷ [] }
@@ -31,15 +32,15 @@ with_last v x = record { kind = v.kind; list = v.list ++ x ∷ [] }
 
 -- a message can hold it
 abbrev pub is_shallow : ValueData → Bool
-is_shallow x = nat_lt (depth_of_value x) 16
+is_shallow x = nat_lt (depth_of_value x) depth_limit
 
 -- why a value is not taken
 abbrev pub depth_fault : ValueData → Option ValuesFault
-depth_fault x = if nat_lt (depth_of_value x) 16 then None else Some fault.TooDeep
+depth_fault x = if nat_lt (depth_of_value x) depth_limit then None else Some fault.TooDeep
 
 abbrev pub push_fault : ValuesData → ValueData → Option ValuesFault
 push_fault v x =
-    if is_same_kind v.kind (kind_of x) then (if nat_lt (length v.list) 255 then depth_fault x else Some fault.ValueLimit)
+    if is_same_kind v.kind (kind_of x) then (if nat_lt (length v.list) value_limit then depth_fault x else Some fault.ValueLimit)
     else Some fault.BadType
 
 -- ---- as the code holds them

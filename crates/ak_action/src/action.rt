@@ -1,4 +1,5 @@
 ghost use Rattle.std.specs.Prelude.{◌≡◌, ◌++◌, ◌∷◌, [], ◌≤◌, ◌↔◌, length, IfOk, IsErrOf, OnOk, OnErr};
+ghost use Rattle.ak_action.specs.Limits.{action_limit, reaction_limit};
 
 use crate::number::Number;
 use crate::template::{Given, Template};
@@ -107,6 +108,7 @@ impl Model for ActionList {
     ghost use Rattle.std.specs.Coded.{coded_list};
     ghost use Rattle.ak_action.specs.contracts.action.Action.{the_row};
     ghost use Rattle.ak_action.specs.declared.action.Action.{Action};
+    ghost use Rattle.ak_action.specs.Limits.{action_limit};
 
     ghost Value = { List Action };
 
@@ -114,7 +116,7 @@ impl Model for ActionList {
 
     ghost view = { λ l. l.list.items };
 
-    ghost invariant = { λ l. length l.list.items ≤ 16 };
+    ghost invariant = { λ l. length l.list.items ≤ action_limit };
 }
 
 /// What a handler does on messages of that code. Of several on one code the first counts.
@@ -186,7 +188,7 @@ impl ActionList {
     /// Adds an action at the end. `ActionLimit` at 16 actions. An `Err` changes nothing, and the action is
     /// dropped. `NoMemory` where memory ran out.
     pub fn push(&mut self, action: Action) -> Result<(), ActionFault>
-        ensures limit { IsErrOf result ActionFault.ActionLimit ↔ (length self.old ≡ 16) }
+        ensures limit { IsErrOf result ActionFault.ActionLimit ↔ (length self.old ≡ action_limit) }
         ensures ok { OnOk result (self.new ≡ self.old ++ action ∷ []) }
         ensures err { OnErr result (self.new ≡ self.old) }
     {
@@ -200,7 +202,7 @@ impl ActionList {
     /// The actions in order. Takes no memory.
     pub fn as_slice(&self) -> &[Action]
         ensures value { result.now ≡ self.now }
-        ensures limit { length self.now ≤ 16 }
+        ensures limit { length self.now ≤ action_limit }
     {
         self.list.as_slice()
     }
@@ -260,6 +262,7 @@ impl Model for ReactionList {
     ghost use Rattle.std.specs.Coded.{coded_list};
     ghost use Rattle.ak_action.specs.contracts.action.Reaction.{the_row};
     ghost use Rattle.ak_action.specs.declared.action.Reaction.{Reaction};
+    ghost use Rattle.ak_action.specs.Limits.{reaction_limit};
 
     ghost Value = { List Reaction };
 
@@ -267,7 +270,7 @@ impl Model for ReactionList {
 
     ghost view = { λ l. l.list.items };
 
-    ghost invariant = { λ l. length l.list.items ≤ 64 };
+    ghost invariant = { λ l. length l.list.items ≤ reaction_limit };
 }
 
 impl ReactionList {
@@ -283,7 +286,7 @@ impl ReactionList {
     /// Adds a reaction at the end. `ReactionLimit` at 64 reactions. An `Err` changes nothing, and the
     /// reaction is dropped. `NoMemory` where memory ran out.
     pub fn push(&mut self, reaction: Reaction) -> Result<(), ReactionFault>
-        ensures limit { IsErrOf result ReactionFault.ReactionLimit ↔ (length self.old ≡ 64) }
+        ensures limit { IsErrOf result ReactionFault.ReactionLimit ↔ (length self.old ≡ reaction_limit) }
         ensures ok { OnOk result (self.new ≡ self.old ++ reaction ∷ []) }
         ensures err { OnErr result (self.new ≡ self.old) }
     {
@@ -297,7 +300,7 @@ impl ReactionList {
     /// The reactions in order. Takes no memory.
     pub fn as_slice(&self) -> &[Reaction]
         ensures value { result.now ≡ self.now }
-        ensures limit { length self.now ≤ 64 }
+        ensures limit { length self.now ≤ reaction_limit }
     {
         self.list.as_slice()
     }

@@ -25,6 +25,7 @@ pub use action::{
     ACTION_LIMIT, Action, ActionFault, ActionList, Dest, REACTION_LIMIT, Reaction, ReactionFault,
     ReactionList,
 };
+pub use ak_base::CAPACITY_LIMIT;
 pub use answer::{Acted, Answer, AnswerWord, Want};
 pub use building::add_values;
 pub use doing::Sending;
@@ -34,9 +35,7 @@ pub use laws::{
     words_replay,
 };
 pub use number::Number;
-pub use plan::{
-    CAPACITY_LIMIT, LooperPlan, PlanFault, PlanParts, PlanRow, SUITE_LIMIT, plans_are_whole,
-};
+pub use plan::{LooperPlan, PlanFault, PlanParts, PlanRow, SUITE_LIMIT, plans_are_whole};
 pub use properties::ElementsList;
 pub use row::DeskRow;
 pub use state::DeskState;

@@ -3,8 +3,9 @@ ghost use Rattle.ak_action.specs.Plan.{IsPlan, plan_fault, looper_fault, names_f
 
 use crate::action::ReactionList;
 use crate::properties::ElementsList;
-use ak_base::{Items, NoMemory, Text};
+use ak_base::{CAPACITY_LIMIT, Items, NoMemory, Text};
 use ak_filter::FilterList;
+use ak_handler::HANDLER_LIMIT;
 use ak_property::PropertyTable;
 use std::alloc::Global;
 use std::marker::Model;
@@ -16,9 +17,6 @@ mod whole;
 
 pub(crate) use rows::{next_place, place_named};
 pub use whole::plans_are_whole;
-
-/// The greatest capacity of a port, in items.
-pub const CAPACITY_LIMIT: u32 = 1_000;
 
 /// How many suites of its own a handler may have.
 pub const SUITE_LIMIT: usize = 16;
@@ -174,7 +172,7 @@ impl PlanParts {
         if self.capacity < 1 || self.capacity > CAPACITY_LIMIT {
             return Some(PlanFault::BadCapacity);
         }
-        if rows.len() > 64 {
+        if rows.len() > HANDLER_LIMIT {
             return Some(PlanFault::HandlerLimit);
         }
         None

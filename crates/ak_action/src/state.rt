@@ -1,6 +1,7 @@
 ghost use Rattle.std.specs.Prelude.{◌≡◌, ◌+◌, ◌<◌, ◌≤◌, length, IfSome};
 ghost use Rattle.std.specs.List.{position};
 ghost use Rattle.std.specs.Str.{bytes_eq};
+ghost use Rattle.ak_base.specs.Limits.{app_looper_limit, looper_limit};
 
 use crate::row::DeskRow;
 use ak_base::{Items, Text};
@@ -27,9 +28,9 @@ pub struct DeskState {
     /// Its common filters.
     pub common: FilterList,
     // The numbers of its application's loopers are below 32.
-    ghost numbers: { first + length names ≤ 32 },
+    ghost numbers: { first + length names ≤ looper_limit },
     // Of an application there are at most 8.
-    ghost some_loopers: { length names ≤ 8 },
+    ghost some_loopers: { length names ≤ app_looper_limit },
 }
 
 impl DeskState {

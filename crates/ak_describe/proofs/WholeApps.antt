@@ -93,7 +93,7 @@ module _ (s : State) (h : Held s) (good : All (IsGood s.apps) s.names) (i : ℕ)
         path_is = app_is.path_is;
         signature_is = app_is.signature_is;
         some_looper = omega (arith, filled, length-loopers);
-        looper_limit = omega (arith, app_is.few, length-loopers);
+        few_loopers = omega (arith, app_is.few, length-loopers);
         names_are_words = subst (λ (ns : List (List ℕ)). All (λ (name : List ℕ). IsTrue (is_word name)) ns) (sym (names-are a.loopers)) (All-map (λ (name : List ℕ). IsTrue (is_word name)) name_of a.loopers app_is.words);
         names_differ = differ;
         own_capacity = own_large a.loopers app_is.own;
@@ -120,7 +120,7 @@ heads_are : (apps : List AppText) → length apps ≤ 16 → All IsWholeApp apps
 heads_are apps few each =
     record {
       limit = omega (arith, few, length-map apps head_of);
-      loopers = All-map (λ (head : AppHead). (1 ≤ head.loopers) × (head.loopers ≤ 8)) head_of apps (λ i d lt. let a = each i d lt in (a.some_looper, a.looper_limit));
+      loopers = All-map (λ (head : AppHead). (1 ≤ head.loopers) × (head.loopers ≤ 8)) head_of apps (λ i d lt. let a = each i d lt in (a.some_looper, a.few_loopers));
     }
 
 whole : (s : State) → Held s → All (IsGood s.apps) s.names → ((i : ℕ) (a : AppData) → slice_get s.apps i ≡ Some a → 1 ≤ length a.loopers) → AreWholeApps (described s.apps)

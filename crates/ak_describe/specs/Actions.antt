@@ -10,6 +10,7 @@ use Rattle.ak_message.specs.Payload.{where_true}
 use Rattle.ak_message.specs.Reading.{field_split}
 use Rattle.ak_message.specs.Words.{◌>>=◌}
 use Rattle.ak_flatten.specs.Spelling.{spelling}
+use Rattle.ak_flatten.specs.Limits.{flat_limit}
 use Rattle.ak_action.specs.declared.action.Action.{Action}
 use Rattle.ak_action.specs.declared.action.Action.TheVariants as action
 use Rattle.ak_action.specs.declared.action.Dest.{Dest}
@@ -151,7 +152,7 @@ written what fields = record { what = what.0; fields = written_fields fields; po
 
 -- at most 4,096 bytes of flat text
 abbrev pub short_template : Code → List TemplateField → Option Template
-short_template what fields = where_true (nat_le (length (spelling (written what fields))) 4096) (record { what = what; fields = fields })
+short_template what fields = where_true (nat_le (length (spelling (written what fields))) flat_limit) (record { what = what; fields = fields })
 
 abbrev pub nothing_built : Built
 nothing_built = record { names = []; fields = Some [] }

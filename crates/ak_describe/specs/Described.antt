@@ -1,10 +1,12 @@
 -- What the parts of applications come to.
 use Rattle.std.specs.Prelude.{◌≤◌, List, length, map, All}
 use Rattle.ak_property.specs.declared.table.PropertyRow.{PropertyRow}
+use Rattle.ak_property.specs.Limits.{row_limit}
 use Rattle.ak_value.specs.Elements.{ElementsData}
 use Rattle.ak_action.specs.declared.plan.PlanParts.{PlanParts}
 use Rattle.ak_action.specs.declared.plan.PlanRow.{PlanRow}
 use Rattle.ak_action.specs.Plan.{IsPlan}
+use Rattle.ak_action.specs.Limits.{reaction_limit}
 use Rattle.ak_describe.specs.declared.described.AppText.{AppText}
 use Rattle.ak_describe.specs.declared.parts.PropertyParts.{PropertyParts}
 use Rattle.ak_describe.specs.Parts.{RowData, LooperData, AppData}
@@ -47,8 +49,8 @@ described apps = map app_text apps
 -- ---- with which nothing is wrong
 -- so many can be kept as lists of their kind
 pub record HasRoom (r : RowData) : Type 0 where
-  pub properties : length r.properties ≤ 64
-  pub reactions : length r.reactions ≤ 64
+  pub properties : length r.properties ≤ row_limit
+  pub reactions : length r.reactions ≤ reaction_limit
 
 pub record IsWhole (l : LooperData) : Type 0 where
   pub rows : All HasRoom l.rows

@@ -3,6 +3,7 @@
 use Rattle.std.specs.Prelude.{ℕ, Bool, true, false, ◌&&◌, if◌then◌else◌, List, [], codes, Option, Some, None}
 use Rattle.std.specs.Str.{bytes_eq}
 use Rattle.ak_base.specs.declared.code.Code.{Code}
+use Rattle.ak_base.specs.Limits.{capacity_limit}
 use Rattle.ak_filter.specs.declared.filter.DeliveryIs.{DeliveryIs}
 use Rattle.ak_filter.specs.declared.filter.DeliveryIs.TheVariants as ways
 use Rattle.ak_filter.specs.declared.filter.Filter.{Filter}
@@ -18,6 +19,7 @@ use Rattle.ak_describe.specs.declared.form.heads.LooperForm.{LooperForm}
 use Rattle.ak_describe.specs.declared.form.property.PropertyForm.{PropertyForm}
 use Rattle.ak_describe.specs.Made.{quoted_from, value_of_kind}
 use Rattle.ak_describe.specs.Words.{first_of, behind, ends, name_at, code_at, code_of, mode_of, kind_of, number_within, is_path, is_signature, some_behind}
+use Rattle.ak_describe.specs.Limits.{usual_capacity, form_limit}
 
 -- ---- heads
 -- `PATH SIGNATURE MODE`
@@ -35,7 +37,7 @@ unfoldable pub capacity_at : ℕ → List (List ℕ) → Option ℕ
 capacity_at least words = do
   number ← first_of words
   last ← where_true (ends number.1) number.0
-  number_within last least 1000
+  number_within last least capacity_limit
 
 abbrev pub capacity_behind : ℕ → Option (List (List ℕ)) → Option ℕ
 capacity_behind least None = None
@@ -43,7 +45,7 @@ capacity_behind least (Some words) = capacity_at least words
 
 -- 100 where nothing is said
 unfoldable pub capacity_from : ℕ → List (List ℕ) → Option ℕ
-capacity_from least words = if ends words then Some 100 else capacity_behind least (behind words (codes "capacity"))
+capacity_from least words = if ends words then Some usual_capacity else capacity_behind least (behind words (codes "capacity"))
 
 -- `NAME` or `NAME capacity NUMBER`
 unfoldable pub looper_form : ℕ → List (List ℕ) → Option LooperForm
@@ -136,7 +138,7 @@ kind_at words = first_of words >>= λ word. kind_of word.0 >>= λ kind. Some (ki
 
 -- a form of specifiers
 abbrev pub form_of : List ℕ → Option ℕ
-form_of word = number_within word 1 7
+form_of word = number_within word 1 form_limit
 
 abbrev pub commands_at : List (List ℕ) → Option (List Code × List (List ℕ))
 commands_at words = some_behind code_of words (behind words (codes "commands"))

@@ -8,6 +8,7 @@ use Rattle.ak_base.specs.Word.{is_word}
 use Rattle.ak_base.specs.declared.app_word.AppWord.{AppWord}
 use Rattle.ak_base.specs.declared.app_word.AppWord.TheVariants as app
 use Rattle.ak_base.specs.declared.code.Code.{Code}
+use Rattle.ak_base.specs.Limits.{capacity_limit}
 use Rattle.ak_filter.specs.declared.filter.DeliveryIs.{DeliveryIs}
 use Rattle.ak_filter.specs.declared.filter.DeliveryIs.TheVariants as ways
 use Rattle.ak_filter.specs.declared.filter.Filter.{Filter}
@@ -32,6 +33,8 @@ use Rattle.ak_action.specs.Number.{number_value}
 use Rattle.ak_action.specs.Values.{one_value}
 use Rattle.ak_roster.specs.declared.head.Mode.{Mode}
 use Rattle.ak_roster.specs.declared.head.Mode.TheVariants as mode
+use Rattle.ak_message.specs.Limits.{field_limit}
+use Rattle.ak_flatten.specs.Limits.{flat_limit}
 use Rattle.ak_describe.specs.declared.form.heads.AppForm.{AppForm}
 use Rattle.ak_describe.specs.declared.form.heads.LooperForm.{LooperForm}
 use Rattle.ak_describe.specs.declared.form.property.PropertyForm.{PropertyForm}
@@ -40,6 +43,7 @@ use Rattle.ak_describe.specs.Actions.{written}
 use Rattle.ak_describe.specs.Made.{is_short}
 use Rattle.ak_describe.specs.Parts.{property_named}
 use Rattle.ak_describe.specs.Words.{is_path, is_signature, is_app_name}
+use Rattle.ak_describe.specs.Limits.{usual_capacity, form_limit}
 
 -- ---- words
 abbrev pub IsName : List ℕ → List ℕ → Type 0
@@ -88,7 +92,7 @@ pub record SaysApp (words : List (List ℕ)) (f : AppForm) : Type 0 where
 -- `NAME [capacity N]`: 100 where nothing is said
 abbrev pub IsCapacity : ℕ → ℕ → List (List ℕ) → Type 0
 IsCapacity least n words =
-    ((words ≡ []) × (n ≡ 100)) ⊎ ((word : List ℕ) × (words ≡ codes "capacity" ∷ word ∷ []) × WritesNumber least 1000 word n)
+    ((words ≡ []) × (n ≡ usual_capacity)) ⊎ ((word : List ℕ) × (words ≡ codes "capacity" ∷ word ∷ []) × WritesNumber least capacity_limit word n)
 
 pub record SaysLooper (least : ℕ) (words : List (List ℕ)) (f : LooperForm) : Type 0 where
   pub part : List (List ℕ)
@@ -146,7 +150,7 @@ pub record SaysProperty (words : List (List ℕ)) (p : PropertyForm) : Type 0 wh
   pub name_is : is_word p.name ≡ true
   pub kind_is : p.kind ≢ k.Message
   pub commands_are : AreParts (codes "commands") WritesCode p.commands command_part
-  pub forms_are : AreParts (codes "forms") (WritesNumber 1 7) p.forms form_part
+  pub forms_are : AreParts (codes "forms") (WritesNumber 1 form_limit) p.forms form_part
   pub usage_is : IsTextPart (codes "usage") p.usage usage_part
 
 -- a name and a value, where neither passes a limit
@@ -228,7 +232,7 @@ all_fields (f ∷ fs) = onto_field f (all_fields fs)
 
 -- at most 64 fields, and 4,096 bytes of the message of the written values alone
 abbrev pub is_small : Code → List TemplateField → Bool
-is_small what fields = nat_le (length fields) 64 && nat_le (length (spelling (written what fields))) 4096
+is_small what fields = nat_le (length fields) field_limit && nat_le (length (spelling (written what fields))) flat_limit
 
 abbrev pub small_template : Code → Option (List TemplateField) → Option Template
 small_template what None = None

@@ -2,6 +2,7 @@
 use Rattle.std.specs.Prelude.{ℕ, zero, suc, Bool, true, false, ◌&&◌, ◌==◌, if◌then◌else◌, List, [], ◌∷◌, length, replicate, slice_get, slice_set, Option, None, Some, unwrap_or}
 use Rattle.ak_base.specs.declared.ending.RefusalKind.{RefusalKind}
 use Rattle.ak_base.specs.declared.ending.RefusalKind.TheVariants as refusal
+use Rattle.ak_handler.specs.Limits.{handler_limit}
 use Rattle.ak_describe.specs.declared.named.Named.{Named}
 use Rattle.ak_describe.specs.declared.named.Need.{Need}
 use Rattle.ak_describe.specs.declared.named.Need.TheVariants as needs
@@ -12,7 +13,7 @@ use Rattle.ak_describe.specs.Second.{unknown, order_fault, first_fit, or_next}
 
 -- no handler is led on yet: each leads to the looper, whose place is 0
 abbrev pub chains_of : ℕ → ℕ → Chains
-chains_of app looper = record { app = app; looper = looper; next = replicate 64 0 }
+chains_of app looper = record { app = app; looper = looper; next = replicate handler_limit 0 }
 
 -- begun anew at another looper
 abbrev pub entered : Chains → ℕ → ℕ → Chains

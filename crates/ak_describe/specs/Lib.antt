@@ -9,6 +9,7 @@ pub mod Grammar
 pub mod Keyword
 pub mod Laws
 pub mod Led
+pub mod Limits
 pub mod Made
 pub mod Named
 pub mod Parts

@@ -10,6 +10,7 @@ use Rattle.ak_message.specs.Payload.{where_true}
 use Rattle.ak_message.specs.Reading as reading
 use Rattle.ak_message.specs.Words.{◌>>=◌}
 use Rattle.ak_flatten.specs.Spelling.{value_bytes}
+use Rattle.ak_flatten.specs.Limits.{flat_limit}
 use Rattle.ak_action.specs.declared.number.Number.{Number}
 use Rattle.ak_action.specs.Number.{number_of, number_kind}
 use Rattle.ak_action.specs.Values.{ValuesData, one_value, with_last, depth_fault, push_fault}
@@ -88,7 +89,7 @@ values_from text = option_map (λ (g : reading.GotValues). g.values) (reading.re
 -- ---- one value alone, of any kind
 -- whether it is no message of over 4,096 bytes
 abbrev pub is_short : ValueData → Bool
-is_short (message_value what fields popped) = nat_le (length (value_bytes (message_value what fields popped))) 4096
+is_short (message_value what fields popped) = nat_le (length (value_bytes (message_value what fields popped))) flat_limit
 is_short (bool_value _) = true
 is_short (int8_value _) = true
 is_short (int16_value _) = true

@@ -3,14 +3,20 @@ use Rattle.std.specs.Prelude.{ℕ, ◌+◌, ◌-◌, ◌^◌, min, Bool, true, f
 use Rattle.ak_base.specs.declared.ending.RefusalKind.{RefusalKind}
 use Rattle.ak_base.specs.declared.ending.RefusalKind.TheVariants as refusal
 use Rattle.ak_base.specs.declared.code.Code.{Code}
+use Rattle.ak_base.specs.Limits.{app_looper_limit}
+use Rattle.ak_roster.specs.Limits.{app_limit}
 use Rattle.ak_message.specs.declared.line.Line.{Line}
 use Rattle.ak_message.specs.Message.{ValueData, kind_of}
+use Rattle.ak_filter.specs.Limits.{filter_limit}
+use Rattle.ak_handler.specs.Limits.{handler_limit}
+use Rattle.ak_property.specs.Limits.{row_limit}
 use Rattle.ak_action.specs.declared.action.Action.{Action}
 use Rattle.ak_action.specs.declared.action.Action.TheVariants as action
 use Rattle.ak_action.specs.declared.action.Reaction.{Reaction}
 use Rattle.ak_value.specs.declared.fault.ElementFault.{ElementFault}
 use Rattle.ak_value.specs.declared.fault.ElementFault.TheVariants as fault
 use Rattle.ak_value.specs.Elements.{described, add_fault, with_last}
+use Rattle.ak_action.specs.Limits.{action_limit, reaction_limit, suite_limit}
 use Rattle.ak_describe.specs.declared.form.heads.AppForm.{AppForm}
 use Rattle.ak_describe.specs.declared.form.heads.LooperForm.{LooperForm}
 use Rattle.ak_describe.specs.declared.form.property.PropertyForm.{PropertyForm}
@@ -160,12 +166,12 @@ next_line r words = or_bad (only_name words) (λ name. Ok (record r { next = Som
 
 abbrev pub suite_line : RowData → List (List ℕ) → Result (RowData × Option Need) RefusalKind
 suite_line r words =
-    or_bad (only_name words) (λ name. judged false (nat_lt (length r.suites) 16) (record r { suites = r.suites ++ name ∷ [] }, None))
+    or_bad (only_name words) (λ name. judged false (nat_lt (length r.suites) suite_limit) (record r { suites = r.suites ++ name ∷ [] }, None))
 
 -- there is room where there are not 32 filters
 abbrev pub filter_line : RowData → List (List ℕ) → Result (RowData × Option Need) RefusalKind
 filter_line r words =
-    or_bad (filter_form words) (λ f. judged false (not (length r.filters == 32)) (record r { filters = r.filters ++ f ∷ [] }, need_of_filter f))
+    or_bad (filter_form words) (λ f. judged false (not (length r.filters == filter_limit)) (record r { filters = r.filters ++ f ∷ [] }, need_of_filter f))
 
 -- a property without elements
 abbrev pub new_property : PropertyForm → List ℕ → PropertyParts
@@ -177,7 +183,7 @@ new_property p usage =
 
 abbrev pub property_added : RowData → PropertyForm → Option (List ℕ) → Result (RowData × Option Need) RefusalKind
 property_added r p usage =
-    or_limit usage (λ text. judged false (nat_lt (length r.properties) 64) (record r { properties = r.properties ++ new_property p text ∷ [] }, None))
+    or_limit usage (λ text. judged false (nat_lt (length r.properties) row_limit) (record r { properties = r.properties ++ new_property p text ∷ [] }, None))
 
 abbrev pub property_line : RowData → List (List ℕ) → Result (RowData × Option Need) RefusalKind
 property_line r words =
@@ -211,7 +217,7 @@ new_reaction what = record { what = what; actions = [] }
 
 abbrev pub reaction_line : RowData → List (List ℕ) → Result (RowData × Option Need) RefusalKind
 reaction_line r words =
-    or_bad (only_code words) (λ what. judged (has_reaction r.reactions what.0) (nat_lt (length r.reactions) 64) (record r { reactions = r.reactions ++ new_reaction what ∷ [] }, None))
+    or_bad (only_code words) (λ what. judged (has_reaction r.reactions what.0) (nat_lt (length r.reactions) reaction_limit) (record r { reactions = r.reactions ++ new_reaction what ∷ [] }, None))
 
 -- an action alone, as `drop` and `quit` are
 abbrev pub bare : Action → List (List ℕ) → Option (Option Action)
@@ -244,7 +250,7 @@ action_from properties key.On words = Err refusal.UnknownLine
 -- there is room where there are not 16 actions
 abbrev pub with_action : Action → Reaction → Result (Reaction × Option Need) RefusalKind
 with_action a reaction =
-    judged false (not (length reaction.actions == 16)) (record reaction { actions = reaction.actions ++ a ∷ [] }, need_of_action a)
+    judged false (not (length reaction.actions == action_limit)) (record reaction { actions = reaction.actions ++ a ∷ [] }, need_of_action a)
 
 abbrev pub action_added : RowData → Action → Result (RowData × Option Need) RefusalKind
 action_added r a =
@@ -273,11 +279,11 @@ prefer_line l words = or_bad (only_name words) (λ name. Ok (record l { preferre
 
 abbrev pub common_line : LooperData → List (List ℕ) → Result (LooperData × Option Need) RefusalKind
 common_line l words =
-    or_bad (filter_form words) (λ f. judged false (not (length l.common == 32)) (record l { common = l.common ++ f ∷ [] }, need_of_filter f))
+    or_bad (filter_form words) (λ f. judged false (not (length l.common == filter_limit)) (record l { common = l.common ++ f ∷ [] }, need_of_filter f))
 
 abbrev pub handler_line : LooperData → List (List ℕ) → Result (LooperData × Option Need) RefusalKind
 handler_line l words =
-    or_bad (only_name words) (λ name. judged (is_some (row_named l.rows name)) (nat_lt (length l.rows) 64) (record l { rows = l.rows ++ opened name ∷ [] }, None))
+    or_bad (only_name words) (λ name. judged (is_some (row_named l.rows name)) (nat_lt (length l.rows) handler_limit) (record l { rows = l.rows ++ opened name ∷ [] }, None))
 
 -- and those of its last handler
 abbrev pub in_last_row : LooperData → Keyword → List (List ℕ) → Result (LooperData × Option Need) RefusalKind
@@ -302,14 +308,14 @@ new_looper form =
 
 abbrev pub looper_line : AppData → List (List ℕ) → Result (AppData × Option Need) RefusalKind
 looper_line a words =
-    or_bad (looper_form (least_capacity a) words) (λ form. judged (is_some (looper_named a.loopers form.name)) (nat_lt (length a.loopers) 8) (record a { loopers = a.loopers ++ new_looper form ∷ [] }, None))
+    or_bad (looper_form (least_capacity a) words) (λ form. judged (is_some (looper_named a.loopers form.name)) (nat_lt (length a.loopers) app_looper_limit) (record a { loopers = a.loopers ++ new_looper form ∷ [] }, None))
 
 abbrev pub new_app : AppForm → AppData
 new_app form = record { path = form.path; signature = form.signature; mode = form.mode; loopers = [] }
 
 abbrev pub app_line : List AppData → List (List ℕ) → Result (List AppData × Option Need) RefusalKind
 app_line apps words =
-    or_bad (app_form words) (λ form. judged (has_path apps form.path) (nat_lt (length apps) 16) (apps ++ new_app form ∷ [], None))
+    or_bad (app_form words) (λ form. judged (has_path apps form.path) (nat_lt (length apps) app_limit) (apps ++ new_app form ∷ [], None))
 
 abbrev pub in_last_looper : AppData → Keyword → List (List ℕ) → Result (AppData × Option Need) RefusalKind
 in_last_looper a keyword words =

@@ -1,13 +1,20 @@
 -- What each line says, and what lines describe: all lines by what each of them says, from nothing on, with nothing against any.
 use Rattle.std.specs.Prelude.{◌≡◌, ◌≢◌, ℕ, ◌-◌, ◌<◌, ◌≤◌, true, false, ◌⊎◌, List, [], ◌∷◌, ◌++◌, length, slice_set, codes, Any, Option, Some, None}
 use Rattle.ak_base.specs.declared.code.Code.{Code}
+use Rattle.ak_base.specs.Limits.{app_looper_limit}
+use Rattle.ak_roster.specs.Limits.{app_limit}
 use Rattle.ak_filter.specs.declared.filter.Filter.{Filter}
 use Rattle.ak_message.specs.Message.{ValueData}
+use Rattle.ak_filter.specs.Limits.{filter_limit}
+use Rattle.ak_handler.specs.Limits.{handler_limit}
+use Rattle.ak_property.specs.Limits.{row_limit}
 use Rattle.ak_action.specs.declared.action.Action.{Action}
 use Rattle.ak_action.specs.declared.action.Action.TheVariants as action
 use Rattle.ak_action.specs.declared.action.Reaction.{Reaction}
 use Rattle.ak_action.specs.declared.template.Template.{Template}
 use Rattle.ak_value.specs.Elements.{with_last}
+use Rattle.ak_value.specs.Limits.{element_limit}
+use Rattle.ak_action.specs.Limits.{action_limit, reaction_limit, suite_limit}
 use Rattle.ak_describe.specs.declared.form.heads.AppForm.{AppForm}
 use Rattle.ak_describe.specs.declared.form.heads.LooperForm.{LooperForm}
 use Rattle.ak_describe.specs.declared.form.property.PropertyForm.{PropertyForm}
@@ -211,19 +218,19 @@ IsThere (Some x) = Unit {0}
 
 -- there is room for what the line says, and it passes no limit itself
 abbrev pub IsWithin : State → Form → Type 0
-IsWithin s (says_app f) = length s.apps < 16
-IsWithin s (says_looper f) = length (loopers_in (last_item s.apps)) < 8
+IsWithin s (says_app f) = length s.apps < app_limit
+IsWithin s (says_looper f) = length (loopers_in (last_item s.apps)) < app_looper_limit
 IsWithin s says_hook = Unit {0}
 IsWithin s (says_prefer name) = Unit {0}
-IsWithin s (says_common f) = LooperHas (open_looper s.apps) (λ l. length l.common < 32)
-IsWithin s (says_handler name) = LooperHas (open_looper s.apps) (λ l. length l.rows < 64)
+IsWithin s (says_common f) = LooperHas (open_looper s.apps) (λ l. length l.common < filter_limit)
+IsWithin s (says_handler name) = LooperHas (open_looper s.apps) (λ l. length l.rows < handler_limit)
 IsWithin s (says_next name) = Unit {0}
-IsWithin s (says_suite name) = RowHas (open_row s) (λ r. length r.suites < 16)
-IsWithin s (says_filter f) = RowHas (open_row s) (λ r. length r.filters < 32)
-IsWithin s (says_property p) = IsThere p.usage × RowHas (open_row s) (λ r. length r.properties < 64)
-IsWithin s (says_element e) = IsThere e × PropertyHas (last_item (open_properties s)) (λ p. length p.elements.list < 64)
-IsWithin s (says_on code) = RowHas (open_row s) (λ r. length r.reactions < 64)
-IsWithin s (says_action a) = IsThere a × ReactionHas (last_item (reactions_in (open_row s))) (λ r. length r.actions < 16)
+IsWithin s (says_suite name) = RowHas (open_row s) (λ r. length r.suites < suite_limit)
+IsWithin s (says_filter f) = RowHas (open_row s) (λ r. length r.filters < filter_limit)
+IsWithin s (says_property p) = IsThere p.usage × RowHas (open_row s) (λ r. length r.properties < row_limit)
+IsWithin s (says_element e) = IsThere e × PropertyHas (last_item (open_properties s)) (λ p. length p.elements.list < element_limit)
+IsWithin s (says_on code) = RowHas (open_row s) (λ r. length r.reactions < reaction_limit)
+IsWithin s (says_action a) = IsThere a × ReactionHas (last_item (reactions_in (open_row s))) (λ r. length r.actions < action_limit)
 
 -- ---- what the line adds
 abbrev pub changed : {A : Type 0} → (A → A) → List A → Option A → List A

@@ -1,7 +1,9 @@
 //! What the parts of applications come to, once nothing is wrong with them.
 
 ghost use Rattle.std.specs.Prelude.{◌≡◌, ◌≤◌, ◌<◌, [], ◌∷◌, ◌++◌, length, All, IfOk, OnOk};
+ghost use Rattle.ak_property.specs.Limits.{row_limit};
 ghost use Rattle.ak_action.specs.Plan.{IsPlan};
+ghost use Rattle.ak_action.specs.Limits.{reaction_limit};
 ghost use Rattle.ak_describe.specs.Described as reads;
 ghost use Rattle.ak_describe.specs.Seen.{app_data, apps_data, looper_data, loopers_data, row_data, rows_data};
 
@@ -152,7 +154,7 @@ fn tables(
     alloc: Global,
     properties: Vec<PropertyParts>,
 ) -> Result<(PropertyTable, ElementsList), NoMemory>
-    requires { length properties.items ≤ 64 }
+    requires { length properties.items ≤ row_limit }
     ensures table { IfOk result (λ x. x.0 ≡ reads.table_of properties.items) }
     ensures elements { IfOk result (λ x. x.1 ≡ reads.elements_of properties.items) }
 {
@@ -168,7 +170,7 @@ fn tables(
 
 // One row more, of which there are fewer than 64.
 fn add_row(table: &mut PropertyTable, row: PropertyRow) -> Result<(), NoMemory>
-    requires { length table.old < 64 }
+    requires { length table.old < row_limit }
     ensures { OnOk result (table.new ≡ table.old ++ row ∷ []) }
 {
     match table.add_row(row) {
@@ -182,7 +184,7 @@ fn add_row(table: &mut PropertyTable, row: PropertyRow) -> Result<(), NoMemory>
 
 // The reactions, of which there are at most 64.
 fn reaction_list(alloc: Global, reactions: Vec<Reaction>) -> Result<ReactionList, NoMemory>
-    requires { length reactions.items ≤ 64 }
+    requires { length reactions.items ≤ reaction_limit }
     ensures { IfOk result (λ list. list ≡ reactions.items) }
 {
     let mut list = ReactionList::new(alloc);
@@ -194,7 +196,7 @@ fn reaction_list(alloc: Global, reactions: Vec<Reaction>) -> Result<ReactionList
 
 // One reaction more, of which there are fewer than 64.
 fn add_reaction(list: &mut ReactionList, reaction: Reaction) -> Result<(), NoMemory>
-    requires { length list.old < 64 }
+    requires { length list.old < reaction_limit }
     ensures { OnOk result (list.new ≡ list.old ++ reaction ∷ []) }
 {
     match list.push(reaction) {

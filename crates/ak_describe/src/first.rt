@@ -12,19 +12,14 @@ use crate::form::heads::{app_form, looper_form};
 use crate::keyword::{After, Keyword, keyword_of};
 use crate::named::{Named, Need};
 use crate::parts::{AppParts, LooperParts, RowParts};
-use ak_base::{NoMemory, RefusalKind};
+use ak_base::{APP_LOOPER_LIMIT, NoMemory, RefusalKind};
 use ak_filter::FilterList;
 use ak_message::{Line, Word};
+use ak_roster::APP_LIMIT;
 use std::alloc::Global;
 
 mod looper;
 mod row;
-
-/// How many applications may be described.
-pub const APP_LIMIT: usize = 16;
-
-/// How many loopers an application may have.
-pub const APP_LOOPER_LIMIT: usize = 8;
 
 /// What the lines say so far. The last application is open.
 #[derive(Drop)]

@@ -23,10 +23,11 @@ mod parts;
 mod second;
 mod words;
 
+pub use ak_base::APP_LOOPER_LIMIT;
 use ak_message::Line;
+pub use ak_roster::APP_LIMIT;
 pub use described::AppText;
 pub use fault::DescribeFault;
-pub use first::{APP_LIMIT, APP_LOOPER_LIMIT};
 pub use laws::{
     described_or_faulty, descriptions_are_read, descriptions_are_whole, names_have_places,
 };

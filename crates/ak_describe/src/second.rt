@@ -11,6 +11,7 @@ use crate::fault::DescribeFault;
 use crate::named::{Named, Need};
 use crate::parts::{AppParts, LooperParts};
 use ak_base::{AppWord, RefusalKind};
+use ak_handler::HANDLER_LIMIT;
 
 /// The first fault in the order of the lines.
 #[tactic(auto, unfolding(crate::specs::Led::led_fault))]
@@ -136,7 +137,7 @@ fn last_part(path: &[u8]) -> &[u8]
 struct Chains {
     app: usize,
     looper: usize,
-    next: [usize; 64],
+    next: [usize; HANDLER_LIMIT],
 }
 
 impl Chains {
@@ -146,7 +147,7 @@ impl Chains {
         Chains {
             app,
             looper,
-            next: [0; 64],
+            next: [0; HANDLER_LIMIT],
         }
     }
 

@@ -2,6 +2,7 @@ ghost use Rattle.std.specs.Prelude.{◌≡◌, ◌<◌, Some};
 ghost use Rattle.ak_action.specs.Acts.{error_of, taken_in};
 ghost use Rattle.ak_action.specs.Interp.{hear_of_send};
 ghost use Rattle.ak_action.specs.Steps.{IsInAction, IsFinding, team_heard};
+ghost use Rattle.ak_action.specs.Limits.{action_limit};
 
 use super::{Interp, Stage};
 use crate::answer::{Answer, AnswerWord};
@@ -15,7 +16,7 @@ impl Interp {
     // The answer to the question for a running application.
     pub(super) fn hear_of_team(&mut self, a: Answer)
         requires finding { IsFinding self.old.stage }
-        requires place { self.old.place < 16 }
+        requires place { self.old.place < action_limit }
         ensures { self.new ≡ team_heard self.old.stage self.old a }
     {
         match a {
@@ -36,7 +37,7 @@ impl Interp {
     // The answer to a send.
     pub(super) fn hear_of_send(&mut self, state: &mut DeskState, how: Sending, a: Answer)
         requires sent { self.old.stage ≡ Stage.Sent how }
-        requires place { self.old.place < 16 }
+        requires place { self.old.place < action_limit }
         ensures { hear_of_send how self.old state.old a ≡ record { interp = self.new; state = state.new } }
     {
         match a {

@@ -5,6 +5,7 @@ ghost use Rattle.ak_action.specs.Doing.{row_of};
 ghost use Rattle.ak_action.specs.DoingSeen.{doing_seen};
 ghost use Rattle.ak_action.specs.Interp.{nexted, failed, carried, go_on, actions_of, out_of_memory, past};
 ghost use Rattle.ak_action.specs.Steps.{IsInAction, carried_as, stepped};
+ghost use Rattle.ak_action.specs.Limits.{action_limit};
 
 use super::{Interp, Stage};
 use crate::action::Action;
@@ -89,7 +90,7 @@ impl Interp {
     // What is wanted then. `None` where the next action is ready.
     fn carry_out(&mut self, state: &mut DeskState, doing: Doing) -> Option<Want>
         requires ready { self.old.stage ≡ Stage.Ready }
-        requires place { self.old.place < 16 }
+        requires place { self.old.place < action_limit }
         ensures { carried (doing_seen doing) self.old state.old ≡ carried_as result self.new state.new }
     {
         match doing {
@@ -169,7 +170,7 @@ fn action_at(
 ) -> Option<(&DeskRow, &Action)>
     ensures action { option_map (λ x. x.1.now) result ≡ slice_get (actions_of state.now token reaction) place }
     ensures row { IfSome result (λ x. row_of state.now token ≡ x.0.now) }
-    ensures limit { OnSome result (place < 16) }
+    ensures limit { OnSome result (place < action_limit) }
 {
     let row = state.handlers.by_token(token)?;
     let reaction = row.reactions.as_slice().get(reaction as usize)?;

@@ -13,11 +13,9 @@ use crate::keyword::Keyword;
 use crate::named::{Need, need_of_filter};
 use crate::parts::{LooperParts, RowParts};
 use crate::words::only_name;
+use ak_handler::HANDLER_LIMIT;
 use ak_message::Word;
 use std::alloc::Global;
-
-// How many handlers a looper may have, itself included.
-const HANDLER_LIMIT: usize = 64;
 
 impl LooperParts {
     /// Whether a line that begins so, and that is of a looper or a handler, may stand behind its lines.
