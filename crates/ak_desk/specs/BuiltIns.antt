@@ -10,6 +10,7 @@ use Rattle.ak_route.specs.Matching.{is_code}
 use Rattle.ak_specifier.specs.Current.{current_of}
 use Rattle.ak_action.specs.declared.state.DeskState.{DeskState}
 use Rattle.ak_action.specs.Doing.{row_of}
+use Rattle.ak_action.specs.Limits.{suite_limit}
 use Rattle.ak_desk.specs.Place.{is_own}
 use Rattle.ak_desk.specs.Replies.{none_reply, value_reply}
 
@@ -21,7 +22,7 @@ looper_suites s token = if token == 0 then codes "suite/vnd.Be-looper" ∷ appli
 
 -- its own, of more than 16 the first 16, and those of what it is; no plan has more
 abbrev pub suites_of : DeskState → ℕ → List (List ℕ)
-suites_of s token = take 16 (row_of s token).suites ++ codes "suite/vnd.Be-handler" ∷ looper_suites s token
+suites_of s token = take suite_limit (row_of s token).suites ++ codes "suite/vnd.Be-handler" ∷ looper_suites s token
 
 abbrev pub suites_told : DeskState → ℕ → MessageData
 suites_told s token = suites_reply (suites_of s token) (row_of s token).table

@@ -4,6 +4,7 @@ use Rattle.ak_base.specs.declared.error.KitError.TheVariants as error
 use Rattle.ak_flatten.specs.Item.{ItemData}
 use Rattle.ak_flatten.specs.Spelling.{spelling}
 use Rattle.ak_message.specs.Message.{MessageData}
+use Rattle.ak_flatten.specs.Limits.{flat_limit}
 use Rattle.ak_route.specs.declared.outcome.Route.{Route}
 use Rattle.ak_route.specs.declared.outcome.Route.TheVariants as route
 use Rattle.ak_route.specs.declared.outcome.Taker.{Taker}
@@ -134,7 +135,7 @@ dispatch_of s item answers memory = by_route s (routed_of s item).message (route
 
 -- ---- the reply as it is sent: an error where its flat text is too long
 abbrev pub fitting : MessageData → MessageData
-fitting reply = if nat_lt 4096 (length (spelling reply)) then error_reply error.TooLong else reply
+fitting reply = if nat_lt flat_limit (length (spelling reply)) then error_reply error.TooLong else reply
 
 -- ---- the route as an entry tells it
 abbrev pub entry_route : DeskState → Route → EntryRoute

@@ -1,13 +1,15 @@
 -- What holds of all desks.
-use Rattle.std.specs.Prelude.{◌≡◌, ℕ, ◌+◌, ◌<◌, ◌≤◌, Bool, false, List, [], ◌∷◌, ◌++◌, length, codes, All, Option, None, Some}
+use Rattle.std.specs.Prelude.{◌≡◌, ℕ, ◌<◌, ◌≤◌, Bool, false, List, [], ◌∷◌, ◌++◌, length, codes, All, Option, None, Some}
 use Rattle.ak_base.specs.declared.error.KitError.{KitError}
 use Rattle.ak_base.specs.declared.error.KitError.TheVariants as error
+use Rattle.ak_base.specs.Thread.{looper_thread}
 use Rattle.ak_flatten.specs.Item.{ItemData}
 use Rattle.ak_message.specs.declared.kind.Kind.{Kind}
 use Rattle.ak_message.specs.Message.{FieldData, MessageData, ValueData, depth_of_value, kind_of}
 use Rattle.ak_turn.specs.declared.clock.Clock.{Clock}
 use Rattle.ak_turn.specs.Lines.{made_by}
 use Rattle.ak_turn.specs.Seats.{IsGiven, at_leisure, entered_by}
+use Rattle.ak_message.specs.Limits.{value_limit, depth_limit}
 use Rattle.ak_action.specs.declared.answer.Answer.{Answer}
 use Rattle.ak_action.specs.declared.answer.Want.{Want}
 use Rattle.ak_action.specs.declared.state.DeskState.{DeskState}
@@ -16,6 +18,7 @@ use Rattle.ak_action.specs.Doing.{row_of}
 use Rattle.ak_handler.specs.declared.fault.HandlerFault.{HandlerFault}
 use Rattle.ak_action.specs.declared.answer.AnswerWord.{AnswerWord}
 use Rattle.ak_action.specs.declared.answer.AnswerWord.TheVariants as word
+use Rattle.ak_action.specs.Limits.{suite_limit}
 use Rattle.ak_desk.specs.declared.entry.DeskEvent.TheVariants as event
 use Rattle.ak_desk.specs.declared.entry.Edit.{Edit}
 use Rattle.ak_desk.specs.declared.entry.EditAnswer.TheVariants as answered
@@ -131,7 +134,7 @@ abbrev pub DispatchesAreOwn : Type 0
 DispatchesAreOwn =
     (looper : ℕ) (s : DeskState) (lines : List LineData) (t : DeskState)
     → Replays looper 0 s lines t
-    → (dispatches lines ≡ dispatches (made_by by_number (10000 + looper) lines)) × (gave_up lines ≡ gave_up (made_by by_number (10000 + looper) lines))
+    → (dispatches lines ≡ dispatches (made_by by_number (looper_thread looper) lines)) × (gave_up lines ≡ gave_up (made_by by_number (looper_thread looper) lines))
 
 -- ---- a turn of the looper's own thread
 -- a message that is begun and ended between `lock` and `finish` is dispatched there, by what those two say of the seats
@@ -156,15 +159,15 @@ result_of (v ∷ vs) = (record { name = codes "result"; kind = kind_of v; values
 -- of at most 255 values of one kind, none too deep for a message, a reply has all, in order
 abbrev pub AllValuesAreTold : Type 0
 AllValuesAreTold =
-    (kind : Kind) (vs : List ValueData) → length vs ≤ 255 → All (λ v. kind_of v ≡ kind) vs → All (λ v. depth_of_value v < 16) vs
+    (kind : Kind) (vs : List ValueData) → length vs ≤ value_limit → All (λ v. kind_of v ≡ kind) vs → All (λ v. depth_of_value v < depth_limit) vs
     → values_reply (Some vs) ≡ reply_with (result_of vs ++ error_field error.Ok ∷ [])
 
 -- of at most 16 suites all are told, before those of what the handler is
 abbrev pub AllSuitesAreTold : Type 0
 AllSuitesAreTold =
-    (s : DeskState) (token : ℕ) → length (row_of s token).suites ≤ 16
+    (s : DeskState) (token : ℕ) → length (row_of s token).suites ≤ suite_limit
     → suites_of s token ≡ (row_of s token).suites ++ codes "suite/vnd.Be-handler" ∷ looper_suites s token
 
 -- a value that is not too deep for a message is held
 abbrev pub ShallowIsHeld : Type 0
-ShallowIsHeld = (v : ValueData) → depth_of_value v < 16 → held (Some v) ≡ v ∷ []
+ShallowIsHeld = (v : ValueData) → depth_of_value v < depth_limit → held (Some v) ≡ v ∷ []

@@ -1,6 +1,7 @@
 -- The machine of a desk: which entry may follow, and what it makes of the handlers.
 use Rattle.std.specs.Prelude.{◌≡◌, ℕ, ◌+◌, ◌<◌, Bool, true, false, List, [], ◌∷◌, All, Option, None, Some}
 use Rattle.std.specs.List.{list_any}
+use Rattle.ak_base.specs.Thread.{looper_thread}
 use Rattle.ak_handler.specs.declared.fault.HandlerFault.{HandlerFault}
 use Rattle.ak_handler.specs.declared.fault.HandlerFault.TheVariants as fault
 use Rattle.ak_handler.specs.Handlers.{HandlersData}
@@ -100,7 +101,7 @@ EventStep n s (event.Edited e answer) item t = (item ≡ None) × ((edit_of s.ha
 
 -- a dispatch is by the looper's own thread
 abbrev pub IsBy : ℕ → ℕ → DeskEvent → Type 0
-IsBy looper by (event.Dispatched _ _ _ _) = by ≡ 10000 + looper
+IsBy looper by (event.Dispatched _ _ _ _) = by ≡ looper_thread looper
 IsBy looper by (event.Edited _ _) = Unit {0}
 
 pub record DeskStep (looper n : ℕ) (s : DeskState) (line : LineData) (t : DeskState) : Type 0 where

@@ -2,22 +2,22 @@
 
 ghost use Rattle.std.specs.Prelude.{◌≡◌, ◌≤◌, take, length, IfOk};
 ghost use Rattle.ak_message.specs.Message.{MessageData};
+ghost use Rattle.ak_handler.specs.Limits.{handler_limit};
 ghost use Rattle.ak_action.specs.Doing.{row_of};
 ghost use Rattle.ak_specifier.specs.Current.{current_of};
+ghost use Rattle.ak_property.specs.Limits.{told_suite_limit};
+ghost use Rattle.ak_action.specs.Limits.{suite_limit};
 ghost use Rattle.ak_desk.specs.BuiltIns.{suites_of, suites_told, messenger_told, name_told, count_told, asked_told, counted_told, property_asked, built_in_reply, built_in_quits};
 ghost use Rattle.ak_desk.specs.Place.{is_own};
 
 use crate::replies::{none_reply, value_reply};
-use ak_action::{DeskRow, DeskState};
+use ak_action::{DeskRow, DeskState, SUITE_LIMIT};
 use ak_base::{Code, NoMemory, Text};
 use ak_handler::LOOPER;
 use ak_message::{Address, Message, Target, Value};
 use ak_property::suite_message;
 use ak_specifier::current;
 use std::alloc::Global;
-
-// How many suites of its own a handler has.
-const SUITE_LIMIT: usize = 16;
 
 /// An application's own looper is its first one.
 pub(crate) fn is_own(state: &DeskState) -> bool
@@ -91,7 +91,7 @@ fn counted_told(alloc: Global, state: &DeskState, property: &[u8]) -> Result<Mes
 }
 
 fn count_told(alloc: Global, count: u32) -> Result<Message, NoMemory>
-    requires { count ≤ 64 }
+    requires { count ≤ handler_limit }
     ensures { IfOk result (λ reply. reply ≡ count_told count) }
 {
     value_reply(alloc, Value::Int32(count as i32))
@@ -136,7 +136,7 @@ fn suites_of(
     requires { row_of state.now token ≡ row.now }
     ensures suites { IfOk result (λ suites. suites.items ≡ suites_of state.now token) }
     ensures some { IfOk result (λ suites. 1 ≤ length suites.items) }
-    ensures limit { IfOk result (λ suites. length suites.items ≤ 19) }
+    ensures limit { IfOk result (λ suites. length suites.items ≤ told_suite_limit) }
 {
     let mut suites = copied(alloc, first_suites(row))?;
     suites.push(text(alloc, b"suite/vnd.Be-handler")?)?;
@@ -153,8 +153,8 @@ fn suites_of(
 
 // Of more than 16 the first 16.
 fn first_suites(row: &DeskRow) -> &[Text]
-    ensures suites { result.now ≡ take 16 row.now.suites }
-    ensures limit { length result.now ≤ 16 }
+    ensures suites { result.now ≡ take suite_limit row.now.suites }
+    ensures limit { length result.now ≤ suite_limit }
 {
     let suites = row.suites.as_slice();
     if suites.len() > SUITE_LIMIT {

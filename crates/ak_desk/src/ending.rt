@@ -1,4 +1,5 @@
 ghost use Rattle.std.specs.Prelude.{◌≡◌, ◌+◌, ◌++◌, ◌∷◌, ◌<◌, ◌≤◌, ◌^◌, [], true, false, None, Some, is_some, if◌then◌else◌, option_map, vec_len, vec_capacity, IfSome};
+ghost use Rattle.ak_base.specs.Thread.{looper_thread};
 ghost use Rattle.ak_desk.specs.Desk.{line_after, stamp_in, stamp_after};
 ghost use Rattle.ak_desk.specs.Dispatch.{fitting, ran_out};
 ghost use Rattle.ak_desk.specs.Replies.{none_reply};
@@ -27,7 +28,7 @@ impl Desk {
     /// thread. Takes no memory.
     pub fn end(&mut self, clock: &mut Clock) -> Made
         requires done { DeskIsDone self.old }
-        requires looper { clock.old.thread.0 ≡ 10000 + self.old.opening.looper }
+        requires looper { clock.old.thread.0 ≡ looper_thread self.old.opening.looper }
         requires time { clock.old.time < 2 ^ 63 }
         requires last { stamp_in self.old.lines < 2 ^ 63 }
         ensures desk { self.new ≡ ended self.old clock.old }
@@ -80,7 +81,7 @@ impl Desk {
         requires rest { self.old.begun ≡ None }
         requires once { gave_up self.old.lines ≡ false }
         requires position { taken.now.position ≡ dispatches self.old.lines }
-        requires looper { clock.old.thread.0 ≡ 10000 + self.old.opening.looper }
+        requires looper { clock.old.thread.0 ≡ looper_thread self.old.opening.looper }
         requires time { clock.old.time < 2 ^ 63 }
         requires last { stamp_in self.old.lines < 2 ^ 63 }
         ensures desk { self.new ≡ given_up self.old clock.old taken.now }

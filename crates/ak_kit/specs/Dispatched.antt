@@ -1,5 +1,6 @@
 -- A message that asks nothing of the outside, and a desk between two messages.
 use Rattle.std.specs.Prelude.{◌≡◌, length, None}
+use Rattle.ak_base.specs.Thread.{looper_thread}
 use Rattle.ak_flatten.specs.Item.{ItemData}
 use Rattle.ak_route.specs.declared.outcome.Route.{Route}
 use Rattle.ak_route.specs.declared.outcome.Route.TheVariants as route
@@ -37,5 +38,5 @@ pub record IsResting (d : DeskData) (clock : Clock) : Type 0 where
   pub count : length d.lines ≡ clock.time
   pub position : dispatches d.lines ≡ clock.time
   pub stamp : stamp_in d.lines ≡ clock.time
-  pub thread : clock.thread.0 ≡ 10000
+  pub thread : clock.thread.0 ≡ looper_thread 0
   pub looper : d.opening.looper ≡ 0

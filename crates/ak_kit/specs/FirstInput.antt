@@ -5,6 +5,10 @@ use Rattle.std.specs.Int.{w32}
 use Rattle.std.specs.Str.{bytes_eq}
 use Rattle.std.specs.Fmt.{decimal, signed_decimal}
 use Rattle.ak_base.specs.Word.{is_word}
+use Rattle.ak_base.specs.Limits.{capacity_limit}
+use Rattle.ak_message.specs.Limits.{input_limit}
+use Rattle.ak_property.specs.Limits.{row_limit}
+use Rattle.ak_kit.specs.Limits.{hey_limit}
 pub use Rattle.ak_kit.specs.Rows.{names_differ}
 
 -- what such an input says
@@ -65,11 +69,11 @@ pub record IsScript (s : Script) : Type 0 where
   pub signature : is_signature s.signature ≡ true
   pub mode : is_mode s.mode ≡ true
   pub looper : is_word s.looper ≡ true
-  pub capacity : (2 ≤ s.capacity) × (s.capacity ≤ 1000)
-  pub few_rows : length s.rows ≤ 64
+  pub capacity : (2 ≤ s.capacity) × (s.capacity ≤ capacity_limit)
+  pub few_rows : length s.rows ≤ row_limit
   pub rows : AllRows s.rows
   pub differ : names_differ s.rows ≡ true
-  pub few_asked : length s.asked ≤ 7999
+  pub few_asked : length s.asked ≤ hey_limit
   pub asked : list_all is_askable s.asked ≡ true
 
 -- ---- the text
@@ -100,7 +104,7 @@ spelling s =
 
 -- the input is the text of this script
 pub record IsFirstInput (input : List ℕ) (s : Script) : Type 0 where
-  pub short : length input ≤ 1048576
+  pub short : length input ≤ input_limit
   pub script : IsScript s
   pub text : input ≡ spelling s
 
@@ -122,8 +126,8 @@ IsTextOf looper capacity rows asked input = (s : Script) × IsFirstInput input s
 -- ---- what was read of a script
 pub record AreParts (name : List ℕ) (size : ℕ) (rows : List (List ℕ × ℤ)) (words : List (List ℕ)) : Type 0 where
   pub looper : is_word name ≡ true
-  pub capacity : (2 ≤ size) × (size ≤ 1000)
-  pub few_rows : length rows ≤ 64
+  pub capacity : (2 ≤ size) × (size ≤ capacity_limit)
+  pub few_rows : length rows ≤ row_limit
   pub differ : names_differ rows ≡ true
-  pub few_asked : length words ≤ 7999
+  pub few_asked : length words ≤ hey_limit
   pub asked : list_all is_askable words ≡ true

@@ -4,6 +4,7 @@ use Rattle.std.specs.Io.KnownBytes.{Appends, Consumes, IsAtEnd}
 use Rattle.ak_base.specs.declared.ending.Ending.{Ending}
 use Rattle.ak_base.specs.declared.ending.Ending.TheVariants as ending
 use Rattle.ak_base.specs.declared.ending.RefusalKind.TheVariants as kind
+use Rattle.ak_message.specs.Limits.{input_limit}
 use Rattle.ak_desk.specs.Line.{LineData}
 use Rattle.ak_desk.specs.Machine.{IsHistory}
 use Rattle.ak_kit.specs.declared.stopped.Stopped.{Stopped}
@@ -75,7 +76,7 @@ closing_line ending.NoMemory = codes "no memory" ++ 10 ∷ []
 -- The source gave these bytes in this call, and they are the whole input: it ended there, or gave more than an input may have.
 pub record WasRead (old new : Option (List ℕ)) (input : List ℕ) : Type 0 where
   pub given : Consumes old new input
-  pub whole : length input ≤ 1048576 → IsAtEnd new
+  pub whole : length input ≤ input_limit → IsAtEnd new
 
 -- the input was read, and is so
 abbrev pub SomeInput : (List ℕ → Type 0) → Option (List ℕ) → Option (List ℕ) → Type 0

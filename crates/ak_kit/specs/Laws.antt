@@ -2,6 +2,7 @@
 use Rattle.std.specs.Prelude.{◌≡◌, ℕ, ℤ, ◌+◌, ◌++◌, ◌==◌, true, false, List, [], ◌∷◌, length, codes, Option, Some, None, Contains, count_by}
 use Rattle.std.specs.List.{flat_map, list_all}
 use Rattle.std.specs.Fmt.{signed_decimal}
+use Rattle.ak_base.specs.Thread.{looper_thread}
 use Rattle.ak_flatten.specs.Item.{message_of}
 use Rattle.ak_action.specs.declared.state.DeskState.{DeskState}
 use Rattle.ak_desk.specs.declared.entry.DeskEntry.{DeskEntry}
@@ -29,7 +30,7 @@ route_to None = entry.NotUnderstood
 
 -- dispatched at that position by the looper's thread, without a word and without an end
 abbrev pub entry_at : ℕ → EntryRoute → DeskEntry
-entry_at position r = record { stamp = position + 1; by = record { 0 = 10000 }; event = event.Dispatched position r [] false }
+entry_at position r = record { stamp = position + 1; by = record { 0 = looper_thread 0 }; event = event.Dispatched position r [] false }
 
 -- the message that gets each word, the first one owed to that slot
 abbrev pub lines_from : List (List ℕ × ℤ) → ℕ → List (List ℕ) → List LineData

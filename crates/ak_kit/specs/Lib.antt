@@ -2,6 +2,7 @@ pub mod Dispatched
 pub mod FirstInput
 pub mod Kit
 pub mod Laws
+pub mod Limits
 pub mod Messages
 pub mod Opening
 pub mod Reading

@@ -6,7 +6,10 @@ use Rattle.std.specs.Str.{bytes_eq}
 use Rattle.std.specs.Str.Parse.{digits_value}
 use Rattle.std.specs.Fmt.{signed_decimal}
 use Rattle.ak_base.specs.Word.{is_word}
+use Rattle.ak_base.specs.Limits.{capacity_limit}
+use Rattle.ak_property.specs.Limits.{row_limit}
 use Rattle.ak_kit.specs.FirstInput.{Script, begins_with, is_path, is_signature, is_mode, name_of, is_askable, names_differ}
+use Rattle.ak_kit.specs.Limits.{hey_limit}
 
 infixl 10 ◌>>=◌
 abbrev pub ◌>>=◌ : {A B : Type 0} → Option A → (A → Option B) → Option B
@@ -48,7 +51,7 @@ int32_of text = where_true (bytes_eq (signed_decimal (int_value text)) text && i
 unfoldable pub capacity_of : List ℕ → Option ℕ
 capacity_of text = do
   z ← int32_of text
-  where_true (int_le (pos 2) z && int_le z (pos 1000)) (unsigned_abs z)
+  where_true (int_le (pos 2) z && int_le z (pos capacity_limit)) (unsigned_abs z)
 
 -- `app PATH SIGNATURE MODE`
 pub record App : Type 0 where
@@ -118,7 +121,7 @@ launch_at path bytes = do
 unfoldable pub statements_at : List ℕ → List ℕ → Option (List (List ℕ))
 statements_at path bytes = do
   lines ← launch_at path bytes
-  asked_at (name_of path) 7999 lines
+  asked_at (name_of path) hey_limit lines
 
 -- the lines before the properties
 unfoldable pub opening_at : List ℕ → Option ((App × (List ℕ × ℕ)) × List ℕ)
@@ -136,6 +139,6 @@ script_from app looper rows asked =
 unfoldable pub script_of : List ℕ → Option Script
 script_of bytes = do
   opening ← opening_at bytes
-  rows ← rows_at 64 opening.1
+  rows ← rows_at row_limit opening.1
   asked ← statements_at opening.0.0.path rows.1
   where_true (names_differ rows.0) (script_from opening.0.0 opening.0.1 rows.0 asked)

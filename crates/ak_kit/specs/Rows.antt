@@ -3,6 +3,7 @@ use Rattle.std.specs.Prelude.{◌≡◌, ℕ, ℤ, ◌≤◌, Bool, true, not, �
 use Rattle.std.specs.List.{list_any}
 use Rattle.std.specs.Option.{option_map}
 use Rattle.std.specs.Str.{bytes_eq}
+use Rattle.ak_property.specs.Limits.{row_limit}
 
 -- no name stands twice
 abbrev pub names_differ : List (List ℕ × ℤ) → Bool
@@ -15,5 +16,5 @@ value_of_row rows name = option_map (λ row. row.1) (find (λ row. bytes_eq row.
 
 -- what a desk's properties keep
 pub record IsRows (rows : List (List ℕ × ℤ)) : Type 0 where
-  pub few : length rows ≤ 64
+  pub few : length rows ≤ row_limit
   pub differ : names_differ rows ≡ true

@@ -1,6 +1,7 @@
 -- What the run of a script does: its steps, each with the line that the desk's list gets and the text that is written.
 use Rattle.std.specs.Prelude.{ℕ, ◌+◌, false, List, [], ◌∷◌, ◌++◌, map, codes, None, Some, option_map, unwrap_or}
 use Rattle.std.specs.List.{flat_map}
+use Rattle.ak_base.specs.Thread.{looper_thread}
 use Rattle.ak_message.specs.declared.address.Target.TheVariants as target
 use Rattle.ak_message.specs.Message.{MessageData}
 use Rattle.ak_message.specs.MessageText.{message_text}
@@ -39,7 +40,7 @@ line_of s position item =
     record {
       entry = record {
         stamp = position + 1;
-        by = record { 0 = 10000 };
+        by = record { 0 = looper_thread 0 };
         event = event.Dispatched position (entry_route s (routed_of s item).route) (came s item).words (came s item).quit;
       };
       item = Some item;

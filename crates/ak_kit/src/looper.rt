@@ -2,6 +2,8 @@
 
 ghost use Rattle.std.specs.Prelude.{◌≡◌, ◌≤◌, ◌<◌, ◌++◌, ◌∷◌, [], length, map, true, IfOk, OnOk};
 ghost use Rattle.ak_base.specs.Word as word;
+ghost use Rattle.ak_base.specs.Limits.{capacity_limit};
+ghost use Rattle.ak_property.specs.Limits.{row_limit};
 ghost use Rattle.ak_desk.specs.Desk.{opened};
 ghost use Rattle.ak_kit.specs.Opening.{OpensAs, elements_of, looper_row, one_number, plan_of, property_named, table_of};
 ghost use Rattle.ak_kit.specs.Rows.{IsRows};
@@ -38,7 +40,7 @@ fn property(alloc: Global, name: &Text) -> Result<PropertyRow, NoMemory>
 }
 
 fn add(table: &mut PropertyTable, row: PropertyRow) -> Result<(), NoMemory>
-    requires { length table.old < 64 }
+    requires { length table.old < row_limit }
     ensures { OnOk result (table.new ≡ table.old ++ row ∷ []) }
 {
     match table.add_row(row) {
@@ -52,7 +54,7 @@ fn add(table: &mut PropertyTable, row: PropertyRow) -> Result<(), NoMemory>
 }
 
 fn table(alloc: Global, rows: &[(Text, i32)]) -> Result<PropertyTable, NoMemory>
-    requires { length rows.now ≤ 64 }
+    requires { length rows.now ≤ row_limit }
     ensures { IfOk result (λ t. t ≡ table_of rows.now) }
 {
     let mut table = PropertyTable::new(alloc);
@@ -82,7 +84,7 @@ fn elements(alloc: Global, rows: &[(Text, i32)]) -> Result<ElementsList, NoMemor
 }
 
 fn handler(alloc: Global, name: &Text, rows: &[(Text, i32)]) -> Result<PlanRow, NoMemory>
-    requires { length rows.now ≤ 64 }
+    requires { length rows.now ≤ row_limit }
     ensures { IfOk result (λ row. row ≡ looper_row name.now rows.now) }
 {
     Ok(PlanRow {
@@ -102,7 +104,7 @@ fn parts(
     capacity: u32,
     rows: &[(Text, i32)],
 ) -> Result<PlanParts, NoMemory>
-    requires { length rows.now ≤ 64 }
+    requires { length rows.now ≤ row_limit }
     ensures { IfOk result (λ p. p ≡ plan_of name.now capacity rows.now) }
 {
     let mut handlers = Vec::with_capacity(alloc, 1)?;
@@ -125,7 +127,7 @@ fn plan(
 ) -> Result<LooperPlan, NoMemory>
     requires name { word.is_word name.now ≡ true }
     requires at_least { 1 ≤ capacity }
-    requires at_most { capacity ≤ 1000 }
+    requires at_most { capacity ≤ capacity_limit }
     requires rows { IsRows rows.now }
     ensures { IfOk result (λ p. p ≡ plan_of name.now capacity rows.now) }
 {
@@ -144,7 +146,7 @@ pub(crate) fn desk_of(
 ) -> Result<Desk, NoMemory>
     requires name { word.is_word name ≡ true }
     requires at_least { 1 ≤ capacity }
-    requires at_most { capacity ≤ 1000 }
+    requires at_most { capacity ≤ capacity_limit }
     requires rows { IsRows rows.now }
     ensures opening { IfOk result (λ d. OpensAs name capacity rows.now d.opening) }
     ensures opened { IfOk result (λ d. d ≡ opened d.opening) }

@@ -5,23 +5,26 @@ ghost use Rattle.std.specs.Option.{option_map};
 ghost use Rattle.std.specs.List.{suffix_len, list_any};
 ghost use Rattle.std.specs.Str.{bytes_eq};
 ghost use Rattle.ak_base.specs.Word as word;
+ghost use Rattle.ak_property.specs.Limits.{row_limit};
 ghost use Rattle.ak_kit.specs.FirstInput.{AreParts, IsTextOf, IsNoScript, name_of, is_path, is_signature, is_mode, is_reserved, is_askable, names_differ};
 ghost use Rattle.ak_kit.specs.Reading as reads;
 ghost use Rattle.ak_kit.specs.Reading.{where_true};
 ghost use Rattle.ak_kit.specs.Seen.{Gives, opening_seen, opening_told, pair_of, parts_of, seen, seen_script};
+ghost use Rattle.ak_kit.specs.Limits.{hey_limit};
 
 use crate::fault::ScriptFault;
 use crate::script::FirstScript;
-use ak_base::{Text, TextFault, is_word, read_int};
+use ak_base::{CAPACITY_LIMIT, Text, TextFault, is_word, read_int};
+use ak_property::ROW_LIMIT;
 use std::alloc::Global;
 
 // The most properties that an input may have, and the most hey lines.
-const PROPERTY_LIMIT: usize = 64;
+const PROPERTY_LIMIT: usize = ROW_LIMIT;
 
 const HEY_LIMIT: usize = 7999;
 
 /// The longest input, in bytes.
-pub(crate) const INPUT_LIMIT: usize = 1_048_576;
+pub(crate) const INPUT_LIMIT: usize = ak_message::INPUT_LIMIT;
 
 #[tactic(auto, unfolding(crate::specs::Reading::after))]
 fn after<'a>(bytes: &'a [u8], front: &[u8]) -> Option<&'a [u8]>
@@ -142,7 +145,7 @@ fn capacity_of(text: &[u8]) -> Option<u32>
     ensures { result ≡ reads.capacity_of text.now }
 {
     let capacity = int32_of(text)?;
-    if 2 <= capacity && capacity <= 1000 {
+    if 2 <= capacity && capacity <= CAPACITY_LIMIT as i32 {
         Some(capacity as u32)
     } else {
         None
@@ -205,7 +208,7 @@ fn row(alloc: Global, bytes: &[u8]) -> Result<((Text, i32), &[u8]), ScriptFault>
 }
 
 fn rows(alloc: Global, bytes: &[u8]) -> Result<(Vec<(Text, i32)>, &[u8]), ScriptFault>
-    ensures { Gives (λ x. (x.0.items, x.1.now)) result (reads.rows_at 64 bytes.now) }
+    ensures { Gives (λ x. (x.0.items, x.1.now)) result (reads.rows_at row_limit bytes.now) }
 {
     let mut rows = Vec::new(alloc);
     let mut rest = bytes;
@@ -235,7 +238,7 @@ fn hey<'a>(name: &[u8], bytes: &'a [u8]) -> Option<(&'a [u8], &'a [u8])>
 }
 
 fn asked(alloc: Global, name: &[u8], bytes: &[u8]) -> Result<Vec<Text>, ScriptFault>
-    ensures { Gives (λ v. v.items) result (reads.asked_at name.now 7999 bytes.now) }
+    ensures { Gives (λ v. v.items) result (reads.asked_at name.now hey_limit bytes.now) }
 {
     let mut asked = Vec::new(alloc);
     let mut rest = bytes;

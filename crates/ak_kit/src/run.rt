@@ -5,12 +5,14 @@ ghost use Rattle.std.specs.Prelude.{◌≡◌, ◌≤◌, ◌<◌, ◌-◌, ◌^
 ghost use Rattle.std.specs.List.{list_all};
 ghost use Rattle.ak_flatten.specs.Spelling.{spelling};
 ghost use Rattle.ak_outside.specs.Faults.{Rose};
+ghost use Rattle.ak_flatten.specs.Limits.{flat_limit};
 ghost use Rattle.ak_kit.specs.Dispatched.{IsQuiet, IsResting};
 ghost use Rattle.ak_kit.specs.FirstInput.{is_askable};
 ghost use Rattle.ak_kit.specs.Opening.{IsOpening};
 ghost use Rattle.ak_kit.specs.Reply.{IsAnswer};
 ghost use Rattle.ak_kit.specs.Run.{hey_step, item_of, launch_step, line_of, reply_of, reply_text_line, steps_of};
 ghost use Rattle.ak_kit.specs.Steps.{AddsLine, DoesStep, Carries};
+ghost use Rattle.ak_kit.specs.Limits.{hey_limit};
 
 use crate::messages::{get_message, ready_message};
 use crate::reply::print_reply;
@@ -39,7 +41,7 @@ fn reply_line(alloc: Global, reply: &Message) -> Result<Bytes, NoMemory>
 
 // The message for the preferred handler, from no team.
 fn item(alloc: Global, duty: Duty, message: &Message) -> Result<Item, NoMemory>
-    requires short { length (spelling message.now) ≤ 4096 }
+    requires short { length (spelling message.now) ≤ flat_limit }
     requires unpopped { message.now.popped ≡ 0 }
     ensures { IfOk result (λ item. item ≡ item_of duty message.now) }
 {
@@ -157,7 +159,7 @@ pub(crate) fn carry_out<K: Sink>(
     requires opening { IsOpening desk.old.opening }
     requires begins { clock.old.time ≡ 0 }
     requires lines { desk.old.lines ≡ [] }
-    requires few { length asked.now ≤ 7999 }
+    requires few { length asked.now ≤ hey_limit }
     requires asked { list_all is_askable asked.now ≡ true }
     ensures opening { desk.new.opening ≡ desk.old.opening }
     ensures steps { Carries result (steps_of desk.old.opening asked.now) desk.new.lines (K.written sink.old) (K.written sink.new) }

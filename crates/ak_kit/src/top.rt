@@ -17,7 +17,7 @@ use ak_turn::Clock;
 use std::alloc::Global;
 
 /// The thread of looper 0, which alone dispatches.
-const LOOPER_THREAD: ThreadId = ThreadId(10_000);
+const LOOPER_THREAD: ThreadId = ThreadId::FIRST_LOOPER;
 
 /// What a run did: the properties and the words of its script, and the desk of its looper, whose list has all
 /// that was dispatched. Where memory ran out in the middle of a message, that is still begun on the desk.
