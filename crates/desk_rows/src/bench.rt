@@ -1,6 +1,7 @@
 //! The desk on which a row is carried out.
 
 ghost use Rattle.std.specs.Prelude.{◌≡◌, ◌+◌, None, IfOk, IfSome};
+ghost use Rattle.ak_base.specs.Thread.{looper_thread};
 
 use crate::conditions::fits;
 use crate::place::{Place, place_of};
@@ -17,7 +18,7 @@ use std::alloc::Global;
 pub(crate) struct Bench {
     pub desk: Desk,
     pub clock: Clock,
-    ghost thread: { clock.thread.0 ≡ 10000 + desk.opening.looper },
+    ghost thread: { clock.thread.0 ≡ looper_thread desk.opening.looper },
 }
 
 /// The lines with words, or none where a line has none.
@@ -106,7 +107,7 @@ fn desk_of(
     Ok(Some(Bench {
         desk: Desk::from_plan(alloc, plan, looper, team, first, names)?,
         clock: Clock {
-            thread: ThreadId(10_000 + looper),
+            thread: ThreadId::looper(looper),
             time: 0,
         },
     }))

@@ -3,6 +3,7 @@
 #![tactic(auto)]
 
 ghost use Rattle.std.specs.Prelude.{◌≡◌, false, IfOk};
+ghost use Rattle.ak_base.specs.Thread.{looper_thread};
 ghost use Rattle.ak_port.specs.PortCalls.{CanTake};
 ghost use Rattle.ak_port.specs.Reply.{IsFlatText};
 
@@ -20,9 +21,9 @@ use std::sync::{Arc, Wait};
 use std::thread::{Threads, join};
 
 /// The thread that asks, and the one that takes, as a looper's thread does.
-const ASKER: ThreadId = ThreadId(0);
+const ASKER: ThreadId = ThreadId::MAIN;
 
-const TAKER: ThreadId = ThreadId(10_000);
+const TAKER: ThreadId = ThreadId::FIRST_LOOPER;
 
 /// There is no answer: memory ran out. A program would have an enum here, with a variant for each fault that it
 /// answers in its own way.
@@ -91,11 +92,11 @@ fn answer_one<R: Wait>(
 ) -> Result<(), Stopped>
     requires of { seat.lock ≡ port.now }
     requires idle { seat.turn ≡ false }
-    requires thread { seat.thread ≡ 10000 }
+    requires thread { seat.thread ≡ looper_thread 0 }
     requires taking { CanTake TAKER 1 seat }
     requires book_of { book_seat.lock ≡ book.now }
     requires book_idle { book_seat.turn ≡ false }
-    requires book_thread { book_seat.thread ≡ 10000 }
+    requires book_thread { book_seat.thread ≡ looper_thread 0 }
 {
     let mut clock = clock_of(TAKER);
     let mut taken = VecDeque::with_capacity(alloc, 1)?;
@@ -126,7 +127,7 @@ fn run<R: Threads + Wait + Sync>(rt: &R, alloc: Global) -> Result<i32, Stopped> 
             requires { (seat.lock ≡ port.now) × (seat.turn ≡ false) × (seat.thread ≡ hands.clock.thread.0) }
         { ask_number(rt, alloc, hands, port, seat) },
         || -> Result<(), Stopped>
-            requires { (taker.lock ≡ port.now) × (taker.turn ≡ false) × (taker.thread ≡ 10000) × CanTake TAKER 1 taker × (filler.lock ≡ book.now) × (filler.turn ≡ false) × (filler.thread ≡ 10000) }
+            requires { (taker.lock ≡ port.now) × (taker.turn ≡ false) × (taker.thread ≡ looper_thread 0) × CanTake TAKER 1 taker × (filler.lock ≡ book.now) × (filler.turn ≡ false) × (filler.thread ≡ looper_thread 0) }
         { answer_one(rt, alloc, port, taker, book, filler) },
     );
     answered?;

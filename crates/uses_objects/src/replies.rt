@@ -1,6 +1,7 @@
 //! Slots that are filled before a wait and after, cancelled, and filled with no reply.
 ghost use Rattle.std.specs.Prelude.{◌≡◌, false, IfOk};
 ghost use Rattle.std.specs.Arc.{arc_value};
+ghost use Rattle.ak_base.specs.Thread.{looper_thread};
 ghost use Rattle.ak_port.specs.Reply.{IsFlatText};
 
 use crate::compare::same;
@@ -16,9 +17,9 @@ use std::sync::{Arc, Wait};
 use std::test::Fail;
 use std::thread::{Threads, join, yield_now};
 
-const MAIN: ThreadId = ThreadId(0);
+const MAIN: ThreadId = ThreadId::MAIN;
 
-const OTHER: ThreadId = ThreadId(10_000);
+const OTHER: ThreadId = ThreadId::FIRST_LOOPER;
 
 fn clock_of(thread: ThreadId) -> Clock
     ensures { result.thread ≡ thread }
@@ -36,7 +37,7 @@ struct Scene {
     ghost thread: { seat.thread ≡ 0 },
     ghost other_of: { other.lock ≡ arc_value book },
     ghost other_idle: { other.turn ≡ false },
-    ghost other_thread: { other.thread ≡ 10000 },
+    ghost other_thread: { other.thread ≡ looper_thread 0 },
 }
 
 fn make_scene(alloc: Global) -> Result<Scene, NoMemory> {
@@ -185,7 +186,7 @@ fn a_slot_is_filled_or_cancelled_once(rt: HostRuntime) -> Result<(), Fail> {
 fn fill_later<R: Wait>(rt: &R, book: &TurnLock<ReplyBook>, mut seat: Seat<ReplyBook>)
     requires of { seat.lock ≡ book.now }
     requires idle { seat.turn ≡ false }
-    requires thread { seat.thread ≡ 10000 }
+    requires thread { seat.thread ≡ looper_thread 0 }
 {
     let mut clock = clock_of(OTHER);
     for _ in 0..1000 {
@@ -228,7 +229,7 @@ fn ask_beside<R: Threads + Wait + Sync>(
             requires { (seat.lock ≡ shared.now) × (seat.turn ≡ false) × (seat.thread ≡ 0) }
         { ask_late(rt, shared, seat, yields) },
         ||
-            requires { (other.lock ≡ shared.now) × (other.turn ≡ false) × (other.thread ≡ 10000) }
+            requires { (other.lock ≡ shared.now) × (other.turn ≡ false) × (other.thread ≡ looper_thread 0) }
         { fill_later(rt, shared, other) },
     );
     length

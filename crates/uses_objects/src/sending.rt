@@ -2,6 +2,7 @@
 ghost use Rattle.std.specs.Prelude.{◌≡◌, ◌≤◌, false, None, IfOk};
 ghost use Rattle.std.specs.Arc.{arc_value};
 ghost use Rattle.ak_base.specs.declared.thread.ThreadId.{ThreadId};
+ghost use Rattle.ak_base.specs.Thread.{looper_thread};
 ghost use Rattle.ak_message.specs.Fields.{specifier_count};
 ghost use Rattle.ak_port.specs.PortCalls.{CanTake};
 ghost use Rattle.ak_port.specs.Reply.{IsFlatText};
@@ -21,9 +22,9 @@ use std::sync::{Arc, Wait};
 use std::test::Fail;
 use std::thread::{Threads, join};
 
-const MAIN: ThreadId = ThreadId(0);
+const MAIN: ThreadId = ThreadId::MAIN;
 
-const LOOPER: ThreadId = ThreadId(10_000);
+const LOOPER: ThreadId = ThreadId::FIRST_LOOPER;
 
 /// What an item tells beside its message: its target, its team, whether it was dropped, how many specifiers are popped,
 /// and its duty.
@@ -59,10 +60,10 @@ struct Scene {
     ghost thread: { seat.thread ≡ 0 },
     ghost taker_of: { taker.lock ≡ arc_value port },
     ghost taker_idle: { taker.turn ≡ false },
-    ghost taker_thread: { taker.thread ≡ 10000 },
+    ghost taker_thread: { taker.thread ≡ looper_thread 0 },
     ghost filler_of: { filler.lock ≡ arc_value hands.book },
     ghost filler_idle: { filler.turn ≡ false },
-    ghost filler_thread: { filler.thread ≡ 10000 },
+    ghost filler_thread: { filler.thread ≡ looper_thread 0 },
 }
 
 // The port holds one item, and accepts so many.
@@ -151,7 +152,7 @@ fn take_one<R: Wait>(
 ) -> Result<Option<Item>, NoMemory>
     requires of { taker.old.lock ≡ port.now }
     requires idle { taker.old.turn ≡ false }
-    requires thread { taker.old.thread ≡ 10000 }
+    requires thread { taker.old.thread ≡ looper_thread 0 }
     requires taking { CanTake LOOPER 1 taker.old }
 {
     let mut out = VecDeque::with_capacity(alloc, 1)?;
@@ -317,11 +318,11 @@ fn answer_one<R: Wait>(
 ) -> Result<Option<Item>, NoMemory>
     requires of { taker.lock ≡ port.now }
     requires idle { taker.turn ≡ false }
-    requires thread { taker.thread ≡ 10000 }
+    requires thread { taker.thread ≡ looper_thread 0 }
     requires taking { CanTake LOOPER 1 taker }
     requires filler_of { filler.lock ≡ book.now }
     requires filler_idle { filler.turn ≡ false }
-    requires filler_thread { filler.thread ≡ 10000 }
+    requires filler_thread { filler.thread ≡ looper_thread 0 }
     requires text { IsFlatText text }
 {
     let Some(item) = take_one(rt, alloc, port, &mut taker)? else {
@@ -373,7 +374,7 @@ fn ask_beside<R: Threads + Wait + Sync>(
             requires { (seat.lock ≡ port.now) × (seat.turn ≡ false) × (seat.thread ≡ hands.clock.thread.0) }
         { ask_alone(rt, alloc, hands, port, seat, m) },
         || -> Result<Option<Item>, NoMemory>
-            requires { (taker.lock ≡ port.now) × (taker.turn ≡ false) × (taker.thread ≡ 10000) × CanTake LOOPER 1 taker × (filler.lock ≡ book.now) × (filler.turn ≡ false) × (filler.thread ≡ 10000) × IsFlatText text }
+            requires { (taker.lock ≡ port.now) × (taker.turn ≡ false) × (taker.thread ≡ looper_thread 0) × CanTake LOOPER 1 taker × (filler.lock ≡ book.now) × (filler.turn ≡ false) × (filler.thread ≡ looper_thread 0) × IsFlatText text }
         { answer_one(rt, alloc, port, taker, book, filler, text) },
     );
     Ok((reply?, item?))

@@ -19,10 +19,10 @@ use std::test::Fail;
 // What three writes answer at a port of capacity 2 and life 2.
 fn write_three<R: Wait>(rt: &R, alloc: Global) -> Result<[Said; 3], Fail> {
     let mut clock = Clock {
-        thread: ThreadId(0),
+        thread: ThreadId::MAIN,
         time: 0,
     };
-    let (port, mut seat) = make(alloc, 2, 2, ThreadId(0), &mut clock)?;
+    let (port, mut seat) = make(alloc, 2, 2, ThreadId::MAIN, &mut clock)?;
     let first = put(rt, alloc, &port, &mut seat, &mut clock, 1)?;
     let second = put(rt, alloc, &port, &mut seat, &mut clock, 2)?;
     let third = put(rt, alloc, &port, &mut seat, &mut clock, 3)?;
@@ -32,10 +32,10 @@ fn write_three<R: Wait>(rt: &R, alloc: Global) -> Result<[Said; 3], Fail> {
 // What two writes answer at a port of capacity 1 and life 3, each in a turn that is taken first.
 fn write_two_at_turns<R: Wait>(rt: &R, alloc: Global) -> Result<[Said; 2], Fail> {
     let mut clock = Clock {
-        thread: ThreadId(0),
+        thread: ThreadId::MAIN,
         time: 0,
     };
-    let (port, mut seat) = make(alloc, 1, 3, ThreadId(0), &mut clock)?;
+    let (port, mut seat) = make(alloc, 1, 3, ThreadId::MAIN, &mut clock)?;
     let first = put_at_turn(rt, alloc, &port, &mut seat, &mut clock, 1)?;
     let second = put_at_turn(rt, alloc, &port, &mut seat, &mut clock, 2)?;
     Ok([first, second])
@@ -48,10 +48,10 @@ const THREE: [Said; 3] = [Said::Wrote(0), Said::Wrote(1), Said::Spent];
 // What is answered at a port of capacity 1 and life 3 before it is shut, and what after.
 fn write_take_and_shut<R: Wait>(rt: &R, alloc: Global) -> Result<(Start, End), Fail> {
     let mut clock = Clock {
-        thread: ThreadId(10_000),
+        thread: ThreadId::FIRST_LOOPER,
         time: 0,
     };
-    let (port, mut seat) = make(alloc, 1, 3, ThreadId(10_000), &mut clock)?;
+    let (port, mut seat) = make(alloc, 1, 3, ThreadId::FIRST_LOOPER, &mut clock)?;
     let first = put(rt, alloc, &port, &mut seat, &mut clock, 1)?;
     let second = put(rt, alloc, &port, &mut seat, &mut clock, 2)?;
     let taken = take_first(rt, alloc, &port, &mut seat, &mut clock)?;
@@ -106,7 +106,7 @@ const END: End = (
     Said::Closed,
     CloseAnswer::AlreadyShut,
     (TakeAnswer::Rest(1), 1, 3),
-    (ThreadId(10_000), 8),
+    (ThreadId::FIRST_LOOPER, 8),
 );
 
 /// What an entry tells: which one it is, the capacity or the position, and the life or the code.
@@ -140,7 +140,7 @@ fn book_of_two_writes<R: Wait>(rt: &R, alloc: Global) -> Result<PortBook, Fail> 
         thread: ThreadId(7),
         time: 4,
     };
-    let (port, mut seat) = make(alloc, 1, 3, ThreadId(10_000), &mut clock)?;
+    let (port, mut seat) = make(alloc, 1, 3, ThreadId::FIRST_LOOPER, &mut clock)?;
     put(rt, alloc, &port, &mut seat, &mut clock, 9)?;
     put(rt, alloc, &port, &mut seat, &mut clock, 9)?;
     Ok(port.lock(rt, &mut seat).keep())

@@ -242,7 +242,7 @@ pub fn three_threads<R: Threads + Wait + Sync>(
     ensures second { IfOk result (λ tale. teams_in (made_by by_number 2 tale.book.entries) ≡ tale.second.items) }
     ensures taken { IfOk result (λ tale. written_in tale.book.entries ≡ tale.taken.items ++ pending_items (state_of tale.book.entries)) }
 {
-    let (a, b, taker) = (ThreadId(1), ThreadId(2), ThreadId(10_000));
+    let (a, b, taker) = (ThreadId(1), ThreadId(2), ThreadId::FIRST_LOOPER);
     let mut clock = Clock {
         thread: taker,
         time: 0,

@@ -13,7 +13,7 @@ use std::sync::Wait;
 use std::test::Fail;
 use std::thread::{Threads, join, yield_now};
 
-const MAIN: ThreadId = ThreadId(0);
+const MAIN: ThreadId = ThreadId::MAIN;
 
 // Writes an item with the code 2 once there is room.
 fn write_waiting<R: Wait>(

@@ -1,7 +1,8 @@
 //! Want of memory at a desk. Nothing fails here by itself: `rt try --test --fail-alloc N` makes the Nth
 //! allocation fail. Where that is one of the test's own, the test ends with want of memory.
 
-ghost use Rattle.std.specs.Prelude.{◌≡◌, ◌+◌, OnOk};
+ghost use Rattle.std.specs.Prelude.{◌≡◌, OnOk};
+ghost use Rattle.ak_base.specs.Thread.{looper_thread};
 ghost use Rattle.ak_desk.specs.Desk.{opened, DeskIsDone, DeskMayWant};
 
 use super::{may_stamp, unused};
@@ -70,7 +71,7 @@ fn come_to_an_end(desk: &mut Desk) -> Result<(), Fail>
 fn carried(desk: &mut Desk, clock: &mut Clock, taken: &Taken) -> Result<Made, Fail>
     requires unused { desk.old ≡ opened desk.old.opening }
     requires position { taken.now.position ≡ 0 }
-    requires thread { clock.old.thread.0 ≡ 10000 + desk.old.opening.looper }
+    requires thread { clock.old.thread.0 ≡ looper_thread desk.old.opening.looper }
 {
     if !may_stamp(desk, clock) {
         return Err(Fail::new("there is no stamp left"));
@@ -137,7 +138,7 @@ fn way_of(desk: &Desk, made: &Made) -> Result<Way, Fail> {
 fn came(alloc: Global) -> Result<Way, Fail> {
     let mut desk = unused(alloc)?;
     let mut clock = Clock {
-        thread: ThreadId(10_003),
+        thread: ThreadId::looper(3),
         time: 0,
     };
     let m = Message::new(alloc, PING);

@@ -71,7 +71,7 @@ pub fn list_of_both(alloc: Global) -> Result<Listed, Fail> {
     listed_by(&run)
 }
 
-const BY: ThreadId = ThreadId(10_000);
+const BY: ThreadId = ThreadId::FIRST_LOOPER;
 
 /// What it has to have.
 pub const LISTED: Listed = (
