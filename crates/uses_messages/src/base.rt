@@ -2,8 +2,8 @@
 
 use crate::compare::same;
 use ak_base::{
-    AppWord, Bytes, Code, Items, KitError, NoMemory, Raw, RawFault, Text, TextFault, is_word,
-    is_word_byte, print_int, print_uint, read_int,
+    AppWord, Bytes, Code, Items, KitError, NoMemory, Raw, RawFault, Text, TextFault, ThreadId,
+    is_word, is_word_byte, print_int, print_uint, read_int,
 };
 use std::alloc::Global;
 use std::process::Abort;
@@ -133,6 +133,15 @@ fn errors_have_numbers_and_names(rt: HostRuntime) {
     for (error, number, name) in &ERRORS {
         same(&rt, *name, (error.number(), error.name()), (*number, *name));
     }
+}
+
+// ---- threads
+#[test]
+fn threads_are_numbered(rt: HostRuntime) {
+    let loopers = (ThreadId::looper(0), ThreadId::looper(9_999).0);
+    same(&rt, "loopers", loopers, (ThreadId::FIRST_LOOPER, 19_999));
+    let named = (ThreadId::MAIN.0, ThreadId::KEEPER.0);
+    same(&rt, "named", named, (0, 20_000));
 }
 
 // ---- codes and numbers
