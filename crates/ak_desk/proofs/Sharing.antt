@@ -59,8 +59,7 @@ a_turn_dispatches clock clock' position item asked heard made opening before aft
           grown = front ∙ h.grown;
           goes_on = subst (λ (l : List LineData). IsHistory opening l after) (sym front) h.goes_on;
           clocked = h.clocked;
-          reply_is = h.reply_is;
-          quit_is = h.quit_is;
+          made_is = h.made_is;
         };
         called = record {
           between = seen.between;

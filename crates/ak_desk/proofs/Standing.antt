@@ -121,8 +121,7 @@ module _ (opening : DeskState) (lines : List LineData) (o : Option Begun) (x : B
               ∙ ap (λ (r : EntryRoute). lines ++ line_after lines clock (event.Dispatched x.position r c.words c.quit) (Some x.item.value) ∷ []) stands.route;
           goes_on = now_stands;
           clocked = clocked;
-          reply_is = ap (λ (k : Made). k.reply) is;
-          quit_is = ap (λ (k : Made). k.quit) is;
+          made_is = is;
         } in
         subst (λ (z : DeskData). IfSome z.begun (EndsDispatch clock clock' z left m)) seen all
 

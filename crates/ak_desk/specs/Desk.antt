@@ -234,8 +234,8 @@ dispatched_line lines clock position item before words quit =
     line_after lines clock (event.Dispatched position (entry_route before (routed_of before item).route) words quit) (Some item)
 
 -- The message at that position was dispatched: the list leads from the opening to the state before it, and goes on by its one entry,
--- with the route of that state, the words and the quit mark, to the state after it; the reply is the one that goes with these, as it
--- fits. It asked for these, and heard these answers
+-- with the route of that state, the words and the quit mark, to the state after it; what it made is told by these and by the one reply
+-- that goes with them. It asked for these, and heard these answers
 pub record HasDispatched (clock clock' : Clock) (position : ℕ) (item : ItemData) (asked : List Want) (heard : List Answer) (opening before after : DeskState) (lines lines' : List LineData) (made : Made) : Type 0 where
   pub history : IsHistory opening lines before
   pub position_is : position ≡ dispatches lines
@@ -250,8 +250,7 @@ pub record HasDispatched (clock clock' : Clock) (position : ℕ) (item : ItemDat
   pub grown : lines' ≡ lines ++ dispatched_line lines clock position item before words quit ∷ []
   pub goes_on : IsHistory opening lines' after
   pub clocked : clock' ≡ record clock { time = stamp_after lines clock }
-  pub reply_is : made.reply ≡ option_map fitting reply
-  pub quit_is : made.quit ≡ quit
+  pub made_is : made ≡ made_of (record { words = words; reply = reply; quit = quit })
 
 -- of what was begun
 abbrev pub EndsDispatch : Clock → Clock → DeskData → DeskData → Made → BegunData → Type 0
