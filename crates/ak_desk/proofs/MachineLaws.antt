@@ -208,8 +208,8 @@ module _ (replay : WordsReplay) where
   one_word_one_reply s item w reply other r o = reply_alike s item (w ∷ []) reply other r o
 
   one_step : (s : DeskState) (r : EntryRoute) (item : Option ItemData) (words : List AnswerWord) (quit quit' : Bool) (t u : DeskState) → DispatchStep s r item words quit t → DispatchStep s r item words quit' u → (quit ≡ quit') × (t ≡ u)
-  one_step s entry.NoMemory None words quit quit' t u d e = (d.1.0 ∙ sym e.1.0, d.1.1 ∙ sym e.1.1)
-  one_step s entry.NoMemory (Some item) words quit quit' t u d e = absurd d
+  one_step s entry.NoMemory None words quit quit' t u d e = absurd d
+  one_step s entry.NoMemory (Some item) words quit quit' t u d e = (d.1.0 ∙ sym e.1.0, d.1.1 ∙ sym e.1.1)
   one_step s (entry.To token) None words quit quit' t u d e = absurd d
   one_step s entry.Skipped None words quit quit' t u d e = absurd d
   one_step s entry.Dropped None words quit quit' t u d e = absurd d
@@ -232,8 +232,8 @@ module _ (replay : WordsReplay) where
         }
 
   one_reply : (s : DeskState) (r : EntryRoute) (item : Option ItemData) (words : List AnswerWord) (quit : Bool) (t : DeskState) → DispatchStep s r item words quit t → HasOneReply s r item words
-  one_reply s entry.NoMemory None words quit t d = record { reply = Some none_reply; replies = refl; alone = λ other h. h }
-  one_reply s entry.NoMemory (Some item) words quit t d = absurd d
+  one_reply s entry.NoMemory None words quit t d = absurd d
+  one_reply s entry.NoMemory (Some item) words quit t d = record { reply = Some none_reply; replies = refl; alone = λ other h. h }
   one_reply s (entry.To token) None words quit t d = absurd d
   one_reply s entry.Skipped None words quit t d = absurd d
   one_reply s entry.Dropped None words quit t d = absurd d

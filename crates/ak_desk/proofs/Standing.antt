@@ -1,8 +1,9 @@
 -- How a desk stands as its messages end, and as its handlers are edited.
 use Rattle.std.proofs.Common.{◌≡◌, ℕ, ◌+◌, ◌<◌, ◌≤◌, max, Bool, true, false, List, [], ◌∷◌, ◌++◌, Option, None, Some, IfSome, IsSome, option_map, length, refl, ap, subst, sym, ◌∙◌, arith}
 use Rattle.ak_action.specs.declared.state.DeskState.{DeskState}
+use Rattle.ak_flatten.specs.Item.{ItemData}
 use Rattle.ak_desk.specs.declared.desk.Begun.{Begun}
-use Rattle.ak_desk.specs.Desk.{BegunData, DeskData, DeskIsDone, Edits, EndsDispatch, clock_after, ended, ended_event, made_by, made_in, made_of, line_after, quit_in, stamp_in, with_line, words_in, HasAdded, edit_entry, edited_to}
+use Rattle.ak_desk.specs.Desk.{BegunData, DeskData, DeskIsDone, Edits, EndsDispatch, HasGivenUp, clock_after, ended, ended_event, given_up_line, made_by, made_in, made_of, made_without_memory, line_after, quit_in, stamp_after, stamp_in, with_line, words_in, HasAdded, edit_entry, edited_to}
 use Rattle.ak_desk.specs.DeskInside.{ComesFar, IsBegun, IsOver, Stands, begun_seen, came_seen}
 use Rattle.ak_desk.specs.Dispatch.{Came}
 use Rattle.ak_desk.specs.Line.{LineData}
@@ -16,7 +17,6 @@ use Rattle.ak_desk.specs.declared.entry.Edit.{Edit}
 use Rattle.ak_desk.specs.declared.entry.EditAnswer.{EditAnswer}
 use Rattle.ak_desk.specs.declared.entry.EditAnswer.TheVariants as answered
 use Rattle.ak_desk.specs.declared.entry.EntryRoute.{EntryRoute}
-use Rattle.ak_desk.specs.declared.entry.EntryRoute.TheVariants as entry
 use Rattle.ak_desk.specs.declared.made.Made.{Made}
 use Rattle.ak_desk.specs.declared.task.Task.{Task}
 use Rattle.ak_desk.specs.Task.{IsDone, came_of}
@@ -33,15 +33,22 @@ module _ (opening : DeskState) (lines : List LineData) (clock : Clock) where
       subst (λ (l : List LineData). IsHistory opening l s) (sym grown)
       (ends_on opening lines b t s c h over (line_after lines clock e (Some b.item)) is refl by (later clock.time (stamp_in lines)))
 
-  pub given_up_stands : (s : DeskState) (position : ℕ) (new : List LineData) → IsHistory opening lines s → clock.thread.0 ≡ 10000 + opening.looper → position ≡ dispatches lines → new ≡ lines ++ line_after lines clock (event.Dispatched position entry.NoMemory [] false) None ∷ [] → IsHistory opening new s
-  given_up_stands s position new h by at grown =
-      subst (λ (l : List LineData). IsHistory opening l s) (sym grown)
-      (history_push opening lines s (line_after lines clock (event.Dispatched position entry.NoMemory [] false) None) s h
-      (record { by = by; event = (at, (refl, (refl, refl))) })
-      (later clock.time (stamp_in lines)))
+  module _ (position : ℕ) (item : ItemData) (new : List LineData) (grown : new ≡ lines ++ given_up_line lines clock position item ∷ []) where
+    pub given_up_stands : (s : DeskState) → IsHistory opening lines s → clock.thread.0 ≡ 10000 + opening.looper → position ≡ dispatches lines → IsHistory opening new s
+    given_up_stands s h by at =
+        subst (λ (l : List LineData). IsHistory opening l s) (sym grown)
+        (history_push opening lines s (given_up_line lines clock position item) s h (record { by = by; event = (at, (refl, (refl, refl))) }) (later clock.time (stamp_in lines)))
 
-  pub gave_up_now : (position : ℕ) (new : List LineData) → new ≡ lines ++ line_after lines clock (event.Dispatched position entry.NoMemory [] false) None ∷ [] → gave_up new ≡ true
-  gave_up_now position new grown = ap gave_up grown ∙ gave_up_then lines (line_after lines clock (event.Dispatched position entry.NoMemory [] false) None) refl
+    pub gave_up_now : gave_up new ≡ true
+    gave_up_now = ap gave_up grown ∙ gave_up_then lines (given_up_line lines clock position item) refl
+
+    -- of the desk as it is seen
+    pub gives_up_so : (o : Option Begun) (s : DeskState) (d : DeskData) → o ≡ None → record { opening = opening; state = s; lines = lines; begun = option_map begun_seen o } ≡ d → Stands opening lines o s → (clock' : Clock) (m : Made) → gave_up d.lines ≡ false → position ≡ dispatches d.lines → clock.thread.0 ≡ 10000 + d.opening.looper → clock' ≡ record clock { time = stamp_after lines clock } → m ≡ made_without_memory → HasGivenUp clock clock' position item d.opening d.state d.lines new m
+    gives_up_so o s d none seen h clock' m once at by clocked is =
+        let rests : IsHistory opening lines s = subst (λ (p : Option Begun). Stands opening lines p s) none h in
+        subst (λ (z : DeskData). gave_up z.lines ≡ false → position ≡ dispatches z.lines → clock.thread.0 ≡ 10000 + z.opening.looper → HasGivenUp clock clock' position item z.opening z.state z.lines new m) seen
+        (λ once at by. record { history = rests; once = once; position_is = at; grown = grown; goes_on = given_up_stands s rests by at; clocked = clocked; made_is = is })
+        once at by
 
 -- ---- what the end of a message says of it
 -- what came of it, as the task tells it

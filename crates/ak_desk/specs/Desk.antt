@@ -25,8 +25,9 @@ use Rattle.ak_desk.specs.declared.made.Made.{Made}
 use Rattle.ak_desk.specs.Answering.{AnswersAsk, AnswersForward, AnswersPost, AreAnswered}
 use Rattle.ak_desk.specs.Dispatch.{Came, Dispatch, came_to, dispatch_of, entry_route, fitting, ran_out}
 use Rattle.ak_desk.specs.Line.{LineData}
-use Rattle.ak_desk.specs.Machine.{Dispatches, Edited, IsHistory, Replies, dispatches, edit_of}
+use Rattle.ak_desk.specs.Machine.{Dispatches, Edited, IsHistory, Replies, dispatches, edit_of, gave_up}
 use Rattle.ak_desk.specs.Place.{routed_of}
+use Rattle.ak_desk.specs.Replies.{none_reply}
 
 -- a message that is being carried out
 pub record BegunData : Type 0 where
@@ -257,8 +258,32 @@ abbrev pub EndsDispatch : Clock → Clock → DeskData → DeskData → Made →
 EndsDispatch clock clock' d d' made b = HasDispatched clock clock' b.position b.item b.asked b.heard d.opening b.before d'.state d.lines d'.lines made
 
 -- ---- giving up
+abbrev pub given_up_event : ℕ → DeskEvent
+given_up_event position = event.Dispatched position entry.NoMemory [] false
+
 abbrev pub given_up : DeskData → Clock → Taken → DeskData
-given_up d clock taken = with_line d clock (event.Dispatched taken.position entry.NoMemory [] false) None
+given_up d clock taken = with_line d clock (given_up_event taken.position) (Some taken.item)
+
+-- the reply is NONE
+abbrev pub made_without_memory : Made
+made_without_memory = record { reply = Some none_reply; forwarded = false; quit = false; no_memory = true }
+
+abbrev pub given_up_line : List LineData → Clock → ℕ → ItemData → LineData
+given_up_line lines clock position item = line_after lines clock (given_up_event position) (Some item)
+
+-- The message at that position was given up, as none was before: the list leads from the opening to the state, and goes on by the one
+-- entry, without words, to the same state
+pub record HasGivenUp (clock clock' : Clock) (position : ℕ) (item : ItemData) (opening state : DeskState) (lines lines' : List LineData) (made : Made) : Type 0 where
+  pub history : IsHistory opening lines state
+  pub once : gave_up lines ≡ false
+  pub position_is : position ≡ dispatches lines
+  pub grown : lines' ≡ lines ++ given_up_line lines clock position item ∷ []
+  pub goes_on : IsHistory opening lines' state
+  pub clocked : clock' ≡ record clock { time = stamp_after lines clock }
+  pub made_is : made ≡ made_without_memory
+
+abbrev pub GivesUp : Clock → Clock → DeskData → DeskData → Taken → Made → Type 0
+GivesUp clock clock' d d' taken made = HasGivenUp clock clock' taken.position taken.item d.opening d.state d.lines d'.lines made
 
 -- ---- edits
 abbrev pub edited_to : DeskData → Clock → Edit → Edited → DeskData

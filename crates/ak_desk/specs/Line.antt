@@ -8,7 +8,7 @@ use Rattle.ak_desk.specs.declared.entry.DeskLine.TheInside.{Inside}
 
 pub record LineData : Type 0 where
   pub entry : DeskEntry
-  -- of a dispatched message what it was; none where there was no memory to begin with it
+  -- of a dispatch the message that it was of, also where there was no memory to begin with it; none of an edit
   pub item : Option ItemData
 
 abbrev pub line_inside : Inside → LineData

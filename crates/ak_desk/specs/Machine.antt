@@ -80,18 +80,16 @@ pub record Replies (s : DeskState) (item : ItemData) (words : List AnswerWord) (
   pub dispatch : Dispatches s item words quit leaves
   pub is : (dispatch_of s item dispatch.answers dispatch.memory).reply ≡ reply
 
--- where there was no memory to begin, nothing is known of the item, and nothing changes
+-- an entry of a dispatch has its item; where there was no memory to begin it has no words, and nothing changes
 abbrev pub DispatchStep : DeskState → EntryRoute → Option ItemData → List AnswerWord → Bool → DeskState → Type 0
-DispatchStep s entry.NoMemory None words quit t = (words ≡ []) × ((quit ≡ false) × (t ≡ s))
-DispatchStep s entry.NoMemory (Some item) words quit t = ⊥
 DispatchStep s r None words quit t = ⊥
+DispatchStep s entry.NoMemory (Some item) words quit t = (words ≡ []) × ((quit ≡ false) × (t ≡ s))
 DispatchStep s r (Some item) words quit t = (r ≡ entry_route s (routed_of s item).route) × Dispatches s item words quit t
 
 -- the reply of such an entry; where there was no memory to begin, it is NONE
 abbrev pub StepReplies : DeskState → EntryRoute → Option ItemData → List AnswerWord → Option MessageData → Type 0
-StepReplies s entry.NoMemory None words reply = reply ≡ Some none_reply
-StepReplies s entry.NoMemory (Some item) words reply = ⊥
 StepReplies s r None words reply = ⊥
+StepReplies s entry.NoMemory (Some item) words reply = reply ≡ Some none_reply
 StepReplies s r (Some item) words reply = Replies s item words reply
 
 -- ---- one entry, of the looper with that number, after so many dispatches

@@ -2,7 +2,6 @@ ghost use Rattle.std.specs.Prelude.{◌≡◌, ◌+◌, ◌++◌, ◌∷◌, ◌
 ghost use Rattle.ak_base.specs.Thread.{looper_thread};
 ghost use Rattle.ak_desk.specs.Desk.{line_after, stamp_in, stamp_after};
 ghost use Rattle.ak_desk.specs.Dispatch.{fitting, ran_out};
-ghost use Rattle.ak_desk.specs.Replies.{none_reply};
 
 use crate::desk::{Begun, Desk};
 use crate::entry::{DeskEntry, DeskEvent, DeskLine, EntryRoute};
@@ -19,7 +18,7 @@ use std::alloc::Global;
 use std::snapshot::Snapshot;
 
 impl Desk {
-    ghost use Rattle.ak_desk.specs.Desk.{clock_after, ended, given_up, made_by, DeskIsDone, EndsDispatch};
+    ghost use Rattle.ak_desk.specs.Desk.{clock_after, ended, given_up, made_by, made_without_memory, DeskIsDone, EndsDispatch, GivesUp};
     ghost use Rattle.ak_desk.specs.Machine.{dispatches, gave_up};
 
     /// Ends the message that was begun: adds its entry, and tells what it came to. The entry's stamp is one
@@ -85,11 +84,9 @@ impl Desk {
         requires time { clock.old.time < 2 ^ 63 }
         requires last { stamp_in self.old.lines < 2 ^ 63 }
         ensures desk { self.new ≡ given_up self.old clock.old taken.now }
-        ensures reply { result.reply ≡ Some none_reply }
-        ensures forwarded { result.forwarded ≡ false }
-        ensures quit { result.quit ≡ false }
-        ensures no_memory { result.no_memory ≡ true }
+        ensures made { result ≡ made_without_memory }
         ensures clock { clock.new ≡ clock_after self.old clock.old }
+        ensures given_up { GivesUp clock.old clock.new self.old self.new taken.now result }
     {
         let alloc = *self.lines.allocator();
         let event = DeskEvent::Dispatched {
@@ -98,7 +95,7 @@ impl Desk {
             answers: Items::from_vec(Vec::new(alloc)),
             quit: false,
         };
-        add(&mut self.lines, clock, event, None);
+        add(&mut self.lines, clock, event, Some(Snapshot::of(&taken.item)));
         Made {
             reply: Some(none_reply(alloc)),
             forwarded: false,

@@ -93,7 +93,7 @@ pub struct DeskEntry {
     pub event: DeskEvent,
 }
 
-/// An entry, and of a dispatched message what it was; nothing where there was no memory to begin with it.
+/// An entry, and of a dispatch the message that it was of, also where there was no memory to begin with it.
 /// Contracts alone see the message.
 #[derive(Drop)]
 pub struct DeskLine {
