@@ -26,13 +26,13 @@ use Rattle.ak_desk.specs.declared.entry.EntryRoute.{EntryRoute}
 use Rattle.ak_desk.specs.declared.entry.EntryRoute.TheVariants as entry
 use Rattle.ak_desk.specs.declared.made.Made.{Made}
 use Rattle.ak_desk.specs.BuiltIns.{looper_suites, suites_of}
-use Rattle.ak_desk.specs.Desk.{HasDispatched}
+use Rattle.ak_desk.specs.Desk.{HasDispatched, HasGivenUp}
 use Rattle.ak_desk.specs.Dispatch.{entry_route}
 use Rattle.ak_desk.specs.Line.{LineData}
 use Rattle.ak_desk.specs.Machine.{DeskStep, DispatchStep, Replays, Replies, StepReplies, counted, dispatches, gave_up}
 use Rattle.ak_desk.specs.Place.{routed_of}
 use Rattle.ak_desk.specs.Replies.{error_field, error_reply, none_reply, reply_with, values_reply}
-use Rattle.ak_desk.specs.Shared.{DeskSeat, HasDispatchedThere, IsAtDesk, by_number}
+use Rattle.ak_desk.specs.Shared.{DeskSeat, HasDispatchedThere, HasGivenUpThere, IsAtDesk, by_number}
 
 -- ---- every list that the machine allows
 -- a line stands on the state that those before it leave, and those behind it on the state that it leaves
@@ -149,6 +149,19 @@ ATurnDispatches =
     → lines ≡ given.front
     → ((line : LineData) → lines' ≡ given.front ++ line ∷ [] → seat' ≡ at_leisure (entered_by given line))
     → HasDispatchedThere clock clock' position item asked heard made seat seat' × IsAtDesk seat'
+
+-- so it is with a message that is given up there
+abbrev pub ATurnGivesUp : Type 0
+ATurnGivesUp =
+    (clock clock' : Clock) (position : ℕ) (item : ItemData) (made : Made) (opening state : DeskState) (lines lines' : List LineData) (seat given seat' : DeskSeat)
+    → HasGivenUp clock clock' position item opening state lines lines' made
+    → seat.turn ≡ false
+    → seat.thread ≡ clock.thread.0
+    → seat.opening ≡ Some opening
+    → IsGiven by_number seat given
+    → lines ≡ given.front
+    → ((line : LineData) → lines' ≡ given.front ++ line ∷ [] → seat' ≡ at_leisure (entered_by given line))
+    → HasGivenUpThere clock clock' position item made seat seat' × IsAtDesk seat'
 
 -- ---- nothing that fits is left out
 -- the field of these values, where there are any

@@ -8,7 +8,7 @@ use Rattle.ak_action.specs.declared.answer.Want.{Want}
 use Rattle.ak_action.specs.declared.state.DeskState.{DeskState}
 use Rattle.ak_desk.specs.declared.entry.DeskEvent.{DeskEvent}
 use Rattle.ak_desk.specs.declared.made.Made.{Made}
-use Rattle.ak_desk.specs.Desk.{HasDispatched, dispatched_line, line_after, stamp_after}
+use Rattle.ak_desk.specs.Desk.{HasDispatched, HasGivenUp, dispatched_line, given_up_line, line_after, stamp_after}
 use Rattle.ak_desk.specs.Line.{LineData}
 use Rattle.ak_desk.specs.Machine.{IsHistory}
 
@@ -46,6 +46,17 @@ pub record HasDispatchedThere (clock clock' : Clock) (position : ℕ) (item : It
   pub lines : List LineData
   pub dispatched : HasDispatched clock clock' position item asked heard opening before after lines seat'.front made
   pub called : HasCalled by_number (dispatched_line lines clock position item before dispatched.words dispatched.quit) seat seat'
+
+-- the seat's thread gave one message up in one turn: its entry is the last of the seat's front, and goes on from all that was there
+-- before
+pub record HasGivenUpThere (clock clock' : Clock) (position : ℕ) (item : ItemData) (made : Made) (seat seat' : DeskSeat) : Type 0 where
+  pub opening : DeskState
+  pub opening_is : seat'.opening ≡ Some opening
+  -- the state before it, which stays, and the list before it
+  pub state : DeskState
+  pub lines : List LineData
+  pub given_up : HasGivenUp clock clock' position item opening state lines seat'.front made
+  pub called : HasCalled by_number (given_up_line lines clock position item) seat seat'
 
 -- the seat's front is a list that the machine allows from its opening on
 pub record LeadsOn (opening : DeskState) (front : List LineData) : Type 0 where

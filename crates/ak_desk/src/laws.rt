@@ -45,3 +45,9 @@ pub fn what_fits_is_told()
 pub fn a_turn_dispatches()
     ensures { law.ATurnDispatches }
 {}
+
+/// A message that the looper's own thread gives up in one turn at a shared desk is given up there: so is its
+/// entry, and so is the front.
+pub fn a_turn_gives_up()
+    ensures { law.ATurnGivesUp }
+{}

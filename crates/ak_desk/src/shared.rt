@@ -2,7 +2,8 @@
 ghost use Rattle.std.specs.Prelude.{◌≡◌, ◌<◌, ◌^◌, None, false};
 ghost use Rattle.ak_desk.specs.Desk.{HasAdded, edit_entry, stamp_in};
 ghost use Rattle.ak_desk.specs.Machine.{IsHistory};
-ghost use Rattle.ak_desk.specs.Shared.{HasAnswered, IsAtDesk};
+ghost use Rattle.ak_desk.specs.Shared.{HasAnswered, IsAtDesk, by_number};
+ghost use Rattle.ak_turn.specs.Seats.{KnowsWhole};
 
 use crate::desk::Desk;
 use crate::entry::{Edit, EditAnswer};
@@ -25,6 +26,7 @@ pub fn edit_shared<R: Wait>(
     requires thread { seat.old.thread ≡ clock.old.thread.0 }
     ensures answered { HasAnswered (edit_entry e result) clock.old clock.new seat.old seat.new }
     ensures desk { IsAtDesk seat.new }
+    ensures known { KnowsWhole by_number seat.new }
 {
     let mut turn = desk.lock(rt, seat);
     clock.ready(rt);
