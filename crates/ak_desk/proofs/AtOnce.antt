@@ -19,11 +19,12 @@ use Rattle.ak_desk.specs.Task.{Comes, MayWant, TakesAnswer, Wanted, wants, wants
 use Rattle.ak_desk.specs.Task as the
 
 -- ---- what the dispatch comes to, by what is wanted next
--- memory ran out, which the last word tells
+-- memory ran out at some place, which the last word tells; without that the answers would not have it told
 pub record FailsSo (dispatch : List Answer → Option ℕ → Dispatch) (asked : List Want) (heard : List Answer) (u : Task) (v : DeskState) : Type 0 where
-  pub memory : Option ℕ
-  pub is : dispatch heard memory ≡ came_to asked (came_of u) v
+  pub place : ℕ
+  pub is : dispatch heard (Some place) ≡ came_to asked (came_of u) v
   pub word : ran_out (words_of u) ≡ true
+  pub without : ran_out (dispatch heard None).words ≡ false
 
 pub record Outcomes (dispatch : List Answer → Option ℕ → Dispatch) (asked : List Want) (heard : List Answer) (t : Task) (s : DeskState) : Type 0 where
   pub waits : (w : Want) (u : Task) (v : DeskState) → MayWant t → IsAsking w → want_of None t s ≡ wants w u v → IsWaiting (dispatch heard None) (asked ++ w ∷ []) v
@@ -34,8 +35,14 @@ module _ (dispatch : List Answer → Option ℕ → Dispatch) (memory : Option �
   pub ends_so : dispatch heard memory ≡ came_to asked (came_of u) v
   ends_so = is ∙ ap (λ (x : Task). came_to asked (came_of x) s) a ∙ ap (came_to asked (came_of u)) b
 
-  pub fails_so : ran_out (words_of t) ≡ true → FailsSo dispatch asked heard u v
-  fails_so word = record { memory = memory; is = ends_so; word = ap (λ (x : Task). ran_out (words_of x)) (sym a) ∙ word }
+pub fails_so : (dispatch : List Answer → Option ℕ → Dispatch) (place : ℕ) (asked : List Want) (heard : List Answer) (t u : Task) (s v : DeskState) → dispatch heard (Some place) ≡ came_to asked (came_of t) s → t ≡ u → s ≡ v → ran_out (words_of t) ≡ true → ran_out (dispatch heard None).words ≡ false → FailsSo dispatch asked heard u v
+fails_so dispatch place asked heard t u s v is a b word without =
+    record {
+      place = place;
+      is = ends_so dispatch (Some place) asked heard t u s v is a b;
+      word = ap (λ (x : Task). ran_out (words_of x)) (sym a) ∙ word;
+      without = without;
+    }
 
 -- ---- tasks that nothing is asked for
 -- what is done at once, of this task in this state, with or without memory
@@ -117,7 +124,7 @@ module _ (s0 : DeskState) where
           fails = λ u v may e.
               let task_same : starved false ≡ u = cc in
               let state_same : s0 ≡ v = cc in
-              fails_so accessed (Some 0) [] [] (starved false) u s0 v refl task_same state_same refl;
+              fails_so accessed 0 [] [] (starved false) u s0 v refl task_same state_same refl refl;
         }
 
     pub property_comes : (asked : List Want) (heard : List Answer) (t : Task) (s : DeskState) → Comes s0 Accesses asked heard t s → Outcomes accessed asked heard t s
@@ -142,7 +149,7 @@ module _ (s0 : DeskState) where
           fails = λ u v may e.
               let task_same : starved (built_in_quits s0 m) ≡ u = cc in
               let state_same : s0 ≡ v = cc in
-              fails_so known (Some 0) [] [] (starved (built_in_quits s0 m)) u s0 v refl task_same state_same refl;
+              fails_so known 0 [] [] (starved (built_in_quits s0 m)) u s0 v refl task_same state_same refl refl;
         }
 
     pub built_in_comes : (asked : List Want) (heard : List Answer) (t : Task) (s : DeskState) → Comes s0 Knows asked heard t s → Outcomes known asked heard t s

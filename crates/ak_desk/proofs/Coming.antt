@@ -1,6 +1,7 @@
 -- However the calls for one message go, they come to what its dispatch comes to with the answers so far.
-use Rattle.std.proofs.Common.{◌≡◌, ℕ, ◌+◌, ◌-◌, Bool, true, false, List, [], ◌∷◌, ◌++◌, drop, length, Option, None, Some, option_map, slice_get, Result, Ok, Err, IfOk, OnErr, is_some, unwrap_or, cond, refl, sym, ap, subst, ◌∙◌, append_assoc, arith}
-use Rattle.std.proofs.lemmas.List.{append-nil, length_push}
+use Rattle.std.proofs.Common.{◌≡◌, ℕ, ◌+◌, Bool, true, false, List, [], ◌∷◌, ◌++◌, drop, Option, None, Some, Result, Ok, Err, IfOk, OnErr, is_some, unwrap_or, cond, refl, sym, ap, subst, ◌∙◌, append_assoc}
+use Rattle.std.proofs.lemmas.Bool.{false≢true}
+use Rattle.std.proofs.lemmas.List.{append-nil}
 use Rattle.ak_base.specs.declared.error.KitError.TheVariants as error
 use Rattle.ak_base.specs.declared.no_memory.NoMemory.{NoMemory}
 use Rattle.ak_message.specs.Message.{MessageData}
@@ -8,7 +9,6 @@ use Rattle.ak_flatten.specs.Item.{ItemData}
 use Rattle.ak_action.specs.declared.action.Action.{Action}
 use Rattle.ak_action.specs.declared.answer.Answer.{Answer}
 use Rattle.ak_action.specs.declared.answer.Answer.TheVariants as answer
-use Rattle.ak_action.specs.declared.answer.AnswerWord.{AnswerWord}
 use Rattle.ak_action.specs.declared.answer.AnswerWord.TheVariants as word
 use Rattle.ak_action.specs.declared.answer.Want.{Want}
 use Rattle.ak_action.specs.declared.answer.Want.TheVariants as want
@@ -29,12 +29,13 @@ use Rattle.ak_route.specs.declared.outcome.Route.TheVariants as route
 use Rattle.ak_route.specs.declared.outcome.Taker.{Taker}
 use Rattle.ak_route.specs.declared.outcome.Taker.TheVariants as taker
 use Rattle.ak_desk.specs.Answering.{AnswersAsk, AnswersPost}
-use Rattle.ak_desk.specs.Dispatch.{Dispatch, by_reaction, by_route, came_to, dispatch_of, is_no_memory, ran_out, taken}
+use Rattle.ak_desk.specs.Dispatch.{Dispatch, by_reaction, by_route, came_to, dispatch_of, ran_out, taken}
 use Rattle.ak_desk.specs.Place.{routed_of}
 use Rattle.ak_desk.specs.Replies.{none_reply, not_understood}
-use Rattle.ak_desk.specs.Task.{Awaits, Comes, Wanted, wants, wants_none, IsDone, MayWant, TakesAnswer, came_of, heard_of, next_wanted, place_in, taken_as, task_by, task_of}
+use Rattle.ak_desk.specs.Task.{Awaits, Comes, Wanted, wants, wants_none, IsDone, MayWant, TakesAnswer, came_of, place_in, taken_as, task_by, task_of}
 use Rattle.ak_desk.specs.Task as the
 use Rattle.ak_desk.proofs.AtOnce.{FailsSo, Outcomes, built_in_comes, ends_so, fails_so, forward_comes, property_comes, ready_comes}
+use Rattle.ak_desk.proofs.Reacting.{IsClear, TaskKeeps, clear_without, failed_is, keeps_on, next_is, ran_out-push}
 
 -- ---- where a reaction stands behind a want
 abbrev pub IsWaiting : Stage → Type 0
@@ -191,32 +192,7 @@ not_answered (stage.Found looper how m) a may h = absurd h
 not_answered (stage.Sent how) a may h = absurd may
 not_answered stage.Ended a may h = absurd h
 
--- ---- what the tasks of a reaction want
-pub record IsNext (x : Nexted) (w : Want) (u : Task) (v : DeskState) : Type 0 where
-  pub interp : InterpData
-  pub is : x ≡ nexted w interp v
-  pub task_is : u ≡ task.Reaction interp
-
-pub next_is : (x : Nexted) (w : Want) (u : Task) (v : DeskState) → next_wanted x ≡ wants w u v → IsNext x w u v
-next_is (nexted w' i s) w u v e =
-    let same : w' ≡ w = cc in
-    let task_same : u ≡ task.Reaction i = cc in
-    let state_same : s ≡ v = cc in
-    record { interp = i; is = ap (λ (x : Want). nexted x i s) same ∙ ap (λ (t : DeskState). nexted w i t) state_same; task_is = task_same }
-next_is (failed i s) w u v e = absurd cc
-
-pub record IsFailed (x : Nexted) (u : Task) (v : DeskState) : Type 0 where
-  pub interp : InterpData
-  pub is : x ≡ failed interp v
-  pub task_is : u ≡ task.Reaction interp
-
-pub failed_is : (x : Nexted) (u : Task) (v : DeskState) → next_wanted x ≡ wants_none u v → IsFailed x u v
-failed_is (nexted w i s) u v e = absurd cc
-failed_is (failed i s) u v e =
-    let task_same : u ≡ task.Reaction i = cc in
-    let state_same : s ≡ v = cc in
-    record { interp = i; is = ap (failed i) state_same; task_is = task_same }
-
+-- ---- what a run comes to
 -- where more was wanted before
 abbrev pub adding : List Want → Ran → Ran
 adding asked r = record r { wants = asked ++ r.wants }
@@ -312,16 +288,6 @@ module _ (i0 : InterpData) (s0 : DeskState) where
   stands _ _ _ _ may0 (the.given asked heard (task.Done word reply quit) s a c h) = absurd h
 
 -- ---- where an action finds no memory, the last word tells it
-word_at_end : (words : List AnswerWord) (w : AnswerWord) → slice_get (words ++ w ∷ []) (length words) ≡ Some w
-word_at_end [] w = refl
-word_at_end (x ∷ words) w = word_at_end words w
-
-ran_out-push : (words : List AnswerWord) (w : AnswerWord) → ran_out (words ++ w ∷ []) ≡ is_no_memory w
-ran_out-push words w =
-    let last : length (words ++ w ∷ []) - 1 ≡ length words = omega (arith, length_push words w) in
-    ap (λ (n : ℕ). unwrap_or (option_map is_no_memory (slice_get (words ++ w ∷ []) n)) false) last
-    ∙ ap (λ (o : Option AnswerWord). unwrap_or (option_map is_no_memory o) false) (word_at_end words w)
-
 abbrev LastTells : Nexted → Type 0
 LastTells (nexted w i s) = Unit {0}
 LastTells (failed i s) = ran_out i.words ≡ true
@@ -384,8 +350,13 @@ module _ (act : CallsAct) (runs_act : RunsAct) (s0 : DeskState) (m : MessageData
   came_so : (asked : List Want) (j : InterpData) (v : DeskState) → by_ran (adding asked (finished j v [])) ≡ came_to asked (came_of (task.Reaction j)) v
   came_so asked j v = ap (λ (ws : List Want). came_to ws (came_of (task.Reaction j)) v) (append-nil asked)
 
-  fails_there : (asked : List Want) (heard : List Answer) (i : InterpData) (s : DeskState) (u : Task) (v : DeskState) → Goes first s0 asked heard i s → the.want_of (Some (place_in u)) (task.Reaction i) s ≡ wants_none u v → FailsSo reacted asked heard u v
-  fails_there asked heard i s u v g e =
+  -- it ran out at some place, since without that the answers would not have it told
+  at_some_place : (asked : List Want) (heard : List Answer) (j : InterpData) (v : DeskState) (memory : Option ℕ) → reacted heard memory ≡ came_to asked (came_of (task.Reaction j)) v → ran_out j.words ≡ true → ran_out (reacted heard None).words ≡ false → (at : ℕ) × (reacted heard (Some at) ≡ came_to asked (came_of (task.Reaction j)) v)
+  at_some_place asked heard j v (Some at) is told without = (at, is)
+  at_some_place asked heard j v None is told without = absurd (false≢true (sym without ∙ ap (λ (d : Dispatch). ran_out d.words) is ∙ told))
+
+  fails_there : (asked : List Want) (heard : List Answer) (i : InterpData) (s : DeskState) (u : Task) (v : DeskState) → Goes first s0 asked heard i s → IsClear i.stage i.words → the.want_of (Some (place_in u)) (task.Reaction i) s ≡ wants_none u v → FailsSo reacted asked heard u v
+  fails_there asked heard i s u v g clear e =
       let n = failed_is (next_of (Some (place_in u)) i s) u v e in
       let there : next_of (Some n.interp.place) i s ≡ failed n.interp v = ap (λ (x : Task). next_of (Some (place_in x)) i s) (sym n.task_is) ∙ n.is in
       let c : Calls heard first s0 (adding asked (finished n.interp v [])) =
@@ -393,10 +364,14 @@ module _ (act : CallsAct) (runs_act : RunsAct) (s0 : DeskState) (m : MessageData
       (g.calls [] (finished n.interp v []) (found_none [] i s n.interp v there)) in
       let whole = act s0 m token place heard (adding asked (finished n.interp v [])) c in
       let is : reacted heard whole.0 ≡ came_to asked (came_of (task.Reaction n.interp)) v = ap by_ran (sym whole.1) ∙ came_so asked n.interp v in
-      fails_so reacted whole.0 asked heard (task.Reaction n.interp) u v v is (sym n.task_is) refl (subst LastTells there (next_tells (Some n.interp.place) i.stage i s))
+      let told : ran_out n.interp.words ≡ true = subst LastTells there (next_tells (Some n.interp.place) i.stage i s) in
+      let without : ran_out (reacted heard None).words ≡ false =
+      ap (λ (d : Dispatch). ran_out d.words) (ran_so asked heard i s (run None [] i s) g refl) ∙ clear_without n.interp.place i.stage i s n.interp v clear there in
+      let there_it_did = at_some_place asked heard n.interp v whole.0 is told without in
+      fails_so reacted there_it_did.0 asked heard (task.Reaction n.interp) u v v there_it_did.1 (sym n.task_is) refl told without
 
-  outcomes_of : (asked : List Want) (heard : List Answer) (i : InterpData) (s : DeskState) → Reacts first s0 asked heard i s → Outcomes reacted asked heard (task.Reaction i) s
-  outcomes_of asked heard i s (goes g) = record {
+  outcomes_of : (asked : List Want) (heard : List Answer) (i : InterpData) (s : DeskState) → Reacts first s0 asked heard i s → IsClear i.stage i.words → Outcomes reacted asked heard (task.Reaction i) s
+  outcomes_of asked heard i s (goes g) clear = record {
     waits = λ w u v may asking e.
         let n = next_is (next_of None i s) w u v e in
         let whole = ran_so asked heard i s (unanswered w n.interp v) g (run_waits i s w n.interp v asking n.is) in
@@ -410,24 +385,24 @@ module _ (act : CallsAct) (runs_act : RunsAct) (s0 : DeskState) (m : MessageData
         let n = next_is (next_of None i s) want.Done u v e in
         let whole = ran_so asked heard i s (finished n.interp v []) g (run_ends i s n.interp v n.is) in
         ends_so reacted None asked heard (task.Reaction n.interp) u v v (whole ∙ came_so asked n.interp v) (sym n.task_is) refl;
-    fails = λ u v may e. fails_there asked heard i s u v g e;
+    fails = λ u v may e. fails_there asked heard i s u v g clear e;
   }
-  outcomes_of asked heard i s (waits h) = record {
+  outcomes_of asked heard i s (waits h) clear = record {
     waits = λ w u v may asking e. may_not i.stage h.awaits may;
     ends = λ u v may e. may_not i.stage h.awaits may;
     fails = λ u v may e. may_not i.stage h.awaits may;
   }
 
-  outcomes_at : (asked : List Want) (heard : List Answer) (t : Task) (s : DeskState) → Stands first s0 asked heard t s → Outcomes reacted asked heard t s
-  outcomes_at asked heard (task.Reaction i) s h = outcomes_of asked heard i s h
-  outcomes_at asked heard (task.Property at place m) s h = absurd h
-  outcomes_at asked heard (task.BuiltIn at m) s h = absurd h
-  outcomes_at asked heard (task.Forward looper popped spare) s h = absurd h
-  outcomes_at asked heard (task.Forwarding spare) s h = absurd h
-  outcomes_at asked heard (task.Done word reply quit) s h = absurd h
+  outcomes_at : (asked : List Want) (heard : List Answer) (t : Task) (s : DeskState) → Stands first s0 asked heard t s → TaskKeeps token place t s → Outcomes reacted asked heard t s
+  outcomes_at asked heard (task.Reaction i) s h kept = outcomes_of asked heard i s h kept.clear
+  outcomes_at asked heard (task.Property at place m) s h kept = absurd h
+  outcomes_at asked heard (task.BuiltIn at m) s h kept = absurd h
+  outcomes_at asked heard (task.Forward looper popped spare) s h kept = absurd h
+  outcomes_at asked heard (task.Forwarding spare) s h kept = absurd h
+  outcomes_at asked heard (task.Done word reply quit) s h kept = absurd h
 
   reaction_comes : (asked : List Want) (heard : List Answer) (t : Task) (s : DeskState) → Comes s0 (task.Reaction first) asked heard t s → Outcomes reacted asked heard t s
-  reaction_comes asked heard t s c = outcomes_at asked heard t s (stands first s0 asked heard t s tt c)
+  reaction_comes asked heard t s c = outcomes_at asked heard t s (stands first s0 asked heard t s tt c) (keeps_on s0 m token place asked heard t s c)
 
 -- ---- each route
 module _ (act : CallsAct) (runs_act : RunsAct) (s0 : DeskState) (m : MessageData) where

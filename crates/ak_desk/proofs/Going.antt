@@ -23,22 +23,24 @@ use Rattle.ak_route.specs.Handlers.{handlers_seen}
 use Rattle.ak_route.specs.Laws.{RoutesPopWithin}
 use Rattle.ak_action.specs.Laws.{CallsAct, IsAsking, RunsAct}
 use Rattle.ak_desk.specs.declared.desk.Begun.{Begun}
+use Rattle.ak_desk.specs.declared.entry.EntryRoute.TheVariants as entry
 use Rattle.ak_desk.specs.declared.task.Task.{Task}
 use Rattle.ak_desk.specs.declared.task.Task.TheVariants as task
 use Rattle.ak_desk.specs.Answering.{AnswersForward, AnswersWant, AreAnswered}
 use Rattle.ak_desk.specs.BuiltIns.{built_in_quits, built_in_reply}
 use Rattle.ak_desk.specs.Desk.{Asks, BegunData, DeskAwaits, DeskData, DeskIsDone, DeskMayWant, DeskTakes, Ends, Fails, FailsFrom, Forwards, GoesOn, Hears, IsTakenIn, OfBegun, RunsOut, StaysDone, Turns, Wants, begun_at}
 use Rattle.ak_desk.specs.DeskInside.{ComesFar, IsBegun, IsOver, Stands, asked_more, begun_seen, came_seen, is_last, noted}
-use Rattle.ak_desk.specs.Dispatch.{Came}
+use Rattle.ak_desk.specs.Dispatch.{Came, entry_route}
 use Rattle.ak_desk.specs.Line.{LineData}
 use Rattle.ak_desk.specs.Machine.{IsHistory, dispatches}
 use Rattle.ak_desk.specs.Place.{is_local, loopers_of, routed_of}
 use Rattle.ak_desk.specs.Properties.{property_replied}
 use Rattle.ak_desk.specs.Task.{Comes, Heard, IsDone, MayWant, TakesAnswer, Wanted, wants, wants_none, came_of, heard_of, place_in, task_by, task_of, want_of}
 use Rattle.ak_desk.specs.Task as the
-use Rattle.ak_desk.proofs.Coming.{NextStands, dispatch_comes, next_is, next_stands}
+use Rattle.ak_desk.proofs.Coming.{NextStands, dispatch_comes, next_stands}
 use Rattle.ak_desk.proofs.History.{all_spelled}
 use Rattle.ak_desk.proofs.InStep.{answered_push, comes_may, comes_takes, done_may, done_never_fails, done_so, done_wants, failed_so, first_may, one_too_many}
+use Rattle.ak_desk.proofs.Reacting.{AimsAt, AimsBy, next_is, routed_so}
 
 -- ---- it begins
 pub begins : (opening : DeskState) (old lines : List LineData) (was : Option Begun) (b : BegunData) (t : Task) (s : DeskState) (taken : Taken) → b ≡ begun_at s taken → t ≡ task_of s.first (routed_of s taken.item) → IsItem taken.item → was ≡ None → lines ≡ old → Stands opening old was s → taken.position ≡ dispatches old → IsBegun opening lines b t s
@@ -54,16 +56,16 @@ abbrev IsNoReply : Answer → Type 0
 IsNoReply (answer.Reply _ _) = ⊥
 IsNoReply _ = Unit {0}
 
-stays_as : (a : Answer) (s : DeskState) → IsNoReply a → IsTakenIn a s s
-stays_as (answer.Team team first) s h = refl
-stays_as answer.NoTeam s h = refl
-stays_as (answer.Written at) s h = refl
-stays_as answer.Full s h = refl
-stays_as answer.Closed s h = refl
-stays_as answer.Spent s h = refl
-stays_as answer.TooLong s h = refl
-stays_as (answer.Reply flat m) s h = absurd h
-stays_as answer.NoMemory s h = refl
+stays_as : (b : BegunData) (a : Answer) (s : DeskState) → IsNoReply a → IsTakenIn a b s s
+stays_as b (answer.Team team first) s h = refl
+stays_as b answer.NoTeam s h = refl
+stays_as b (answer.Written at) s h = refl
+stays_as b answer.Full s h = refl
+stays_as b answer.Closed s h = refl
+stays_as b answer.Spent s h = refl
+stays_as b answer.TooLong s h = refl
+stays_as b (answer.Reply flat m) s h = absurd h
+stays_as b answer.NoMemory s h = refl
 
 find_is_none : (a : Answer) → AnswersFind a → IsNoReply a
 find_is_none (answer.Team team first) h = tt
@@ -87,37 +89,46 @@ forward_is_none answer.TooLong h = tt
 forward_is_none (answer.Reply flat m) h = absurd h
 forward_is_none answer.NoMemory h = tt
 
-send_takes_in : (how : Sending) (i : InterpData) (s : DeskState) (a : Answer) → AnswersSend how a → IsTakenIn a s (hear_of_send how i s a).state
-send_takes_in how i s answer.NoMemory h = refl
-send_takes_in how i s (answer.Team team first) h = absurd h
-send_takes_in how i s answer.NoTeam h = absurd h
-send_takes_in (sending.Post back) i s (answer.Written at) h = refl
-send_takes_in (sending.Post back) i s answer.Full h = refl
-send_takes_in (sending.Post back) i s answer.Closed h = refl
-send_takes_in (sending.Post back) i s answer.Spent h = refl
-send_takes_in (sending.Post back) i s answer.TooLong h = refl
-send_takes_in (sending.Post back) i s (answer.Reply flat m) h = absurd h
-send_takes_in (sending.Ask into) i s (answer.Written at) h = absurd h
-send_takes_in (sending.Ask into) i s answer.Full h = absurd h
-send_takes_in (sending.Ask into) i s answer.Closed h = refl
-send_takes_in (sending.Ask into) i s answer.Spent h = refl
-send_takes_in (sending.Ask into) i s answer.TooLong h = refl
-send_takes_in (sending.Ask into) i s (answer.Reply flat m) h = (i.token, into, refl)
+-- a reply goes by the reaction of the handler that its message went to
+record GoesTo (b : BegunData) (i : InterpData) : Type 0 where
+  routed : (routed_of b.before b.item).route ≡ route.Deliver i.token (taker.Reaction i.reaction)
+  goes_to : b.route ≡ entry.To i.token
 
-stage_takes_in : (at : Stage) (i : InterpData) (s : DeskState) (a : Answer) → AnswersStage at a → IsTakenIn a s (give_at at i s a).state
-stage_takes_in stage.Ready i s a h = absurd h
-stage_takes_in (stage.Finding how m) i s a h = stays_as a s (find_is_none a h)
-stage_takes_in (stage.Found looper how m) i s a h = absurd h
-stage_takes_in (stage.Sent how) i s a h = send_takes_in how i s a h
-stage_takes_in stage.Ended i s a h = absurd h
+module _ (b : BegunData) where
+  send_takes_in : (how : Sending) (i : InterpData) (s : DeskState) (a : Answer) → GoesTo b i → AimsBy how s i.token i.reaction → AnswersSend how a → IsTakenIn a b s (hear_of_send how i s a).state
+  send_takes_in how i s answer.NoMemory to aims h = refl
+  send_takes_in how i s (answer.Team team first) to aims h = absurd h
+  send_takes_in how i s answer.NoTeam to aims h = absurd h
+  send_takes_in (sending.Post back) i s (answer.Written at) to aims h = refl
+  send_takes_in (sending.Post back) i s answer.Full to aims h = refl
+  send_takes_in (sending.Post back) i s answer.Closed to aims h = refl
+  send_takes_in (sending.Post back) i s answer.Spent to aims h = refl
+  send_takes_in (sending.Post back) i s answer.TooLong to aims h = refl
+  send_takes_in (sending.Post back) i s (answer.Reply flat m) to aims h = absurd h
+  send_takes_in (sending.Ask into) i s (answer.Written at) to aims h = absurd h
+  send_takes_in (sending.Ask into) i s answer.Full to aims h = absurd h
+  send_takes_in (sending.Ask into) i s answer.Closed to aims h = refl
+  send_takes_in (sending.Ask into) i s answer.Spent to aims h = refl
+  send_takes_in (sending.Ask into) i s answer.TooLong to aims h = refl
+  send_takes_in (sending.Ask into) i s (answer.Reply flat m) to aims h =
+      record { token = i.token; reaction = i.reaction; goes_to = to.goes_to; routed = to.routed; into = into; asks = aims; state = refl }
 
-takes_in : (t : Task) (s : DeskState) (a : Answer) → TakesAnswer t a → IsTakenIn a s (heard_of t s a).state
-takes_in (task.Reaction i) s a h = stage_takes_in i.stage i s a h
-takes_in (task.Property token place m) s a h = absurd h
-takes_in (task.BuiltIn token m) s a h = absurd h
-takes_in (task.Forward looper popped spare) s a h = absurd h
-takes_in (task.Forwarding spare) s a h = stays_as a s (forward_is_none a h)
-takes_in (task.Done word reply quit) s a h = absurd h
+  stage_takes_in : (at : Stage) (i : InterpData) (s : DeskState) (a : Answer) → GoesTo b i → AimsAt at s i.token i.reaction → AnswersStage at a → IsTakenIn a b s (give_at at i s a).state
+  stage_takes_in stage.Ready i s a to aims h = absurd h
+  stage_takes_in (stage.Finding how m) i s a to aims h = stays_as b a s (find_is_none a h)
+  stage_takes_in (stage.Found looper how m) i s a to aims h = absurd h
+  stage_takes_in (stage.Sent how) i s a to aims h = send_takes_in how i s a to aims h
+  stage_takes_in stage.Ended i s a to aims h = absurd h
+
+  takes_in : (t : Task) (s : DeskState) (a : Answer) → Comes b.before (task_of b.before.first (routed_of b.before b.item)) b.asked b.heard t s → b.route ≡ entry_route b.before (routed_of b.before b.item).route → TakesAnswer t a → IsTakenIn a b s (heard_of t s a).state
+  takes_in (task.Reaction i) s a c is h =
+      let goes = routed_so b.before (routed_of b.before b.item).message (routed_of b.before b.item).route b.asked b.heard i s c in
+      stage_takes_in i.stage i s a (record { routed = goes.route_is; goes_to = is ∙ ap (entry_route b.before) goes.route_is }) goes.aims h
+  takes_in (task.Property token place m) s a c is h = absurd h
+  takes_in (task.BuiltIn token m) s a c is h = absurd h
+  takes_in (task.Forward looper popped spare) s a c is h = absurd h
+  takes_in (task.Forwarding spare) s a c is h = stays_as b a s (forward_is_none a h)
+  takes_in (task.Done word reply quit) s a c is h = absurd h
 
 -- ---- what is sent on has the specifiers popped that routing popped
 abbrev IsForward : ℕ → Task → Type 0
@@ -283,9 +294,9 @@ module _ (pops : RoutesPopWithin) (act : CallsAct) (runs : RunsAct) (opening : D
           position = h.position;
           route = h.route;
           fits = h.fits;
-          far = record { spelled = all_spelled b.asked b.heard t s far; answered = all; memory = f.memory; is = f.is; done = failed_so (place_in u) t s u v may is; same = refl };
+          far = record { spelled = all_spelled b.asked b.heard t s far; answered = all; memory = Some f.place; is = f.is; done = failed_so (place_in u) t s u v may is; same = refl };
         };
-        told_is = record { memory = f.memory; ends = record { came = came_of u; message = refl; carried = f.is }; word = f.word };
+        told_is = record { place = f.place; ends = record { came = came_of u; message = refl; carried = f.is }; word = f.word; without = f.without };
       }
   fails_from (Some c) e over u v is = done_never_fails (place_in u) t s u v over.done is
 
@@ -382,11 +393,13 @@ module _ (opening : DeskState) (lines : List LineData) (o : Option Begun) (x : B
     then_seen : begun_seen y ≡ then
     then_seen = ap begun_seen noted_is ∙ ap (λ (p : Option Came). record (begun_seen x) { heard = x.heard ++ a ∷ []; came = p }) (none_seen x.done x.task y.task none ∙ sym none)
 
+    came_so_far : ComesFar (begun_seen x) x.task s None
+    came_so_far = subst (λ (p : Option Came). ComesFar (begun_seen x) x.task s p) none stands.far
+
     goes_far : ComesFar then y.task v (came_seen x.done x.task)
     goes_far =
-        let far : ComesFar (begun_seen x) x.task s None = subst (λ (p : Option Came). ComesFar (begun_seen x) x.task s p) none stands.far in
         subst (λ (p : Option Came). ComesFar then y.task v p) (sym none)
-        (subst (λ (k : Heard). ComesFar then k.task k.state None) heard (the.given x.asked x.heard x.task s a far (may_give a takes)))
+        (subst (λ (k : Heard). ComesFar then k.task k.state None) heard (the.given x.asked x.heard x.task s a came_so_far (may_give a takes)))
 
     pub given : AfterGiven opening lines a d (begun_seen y) y.task v
     given =
@@ -394,6 +407,6 @@ module _ (opening : DeskState) (lines : List LineData) (o : Option Begun) (x : B
         (subst (λ (z : DeskData). AfterGiven opening lines a z then y.task v) seen
         (record {
           begun = record { history = stands.history; position = stands.position; route = stands.route; fits = stands.fits; far = goes_far };
-          given = record { message = refl; state = subst (λ (k : Heard). IsTakenIn a s k.state) heard (takes_in x.task s a (may_give a takes)) };
+          given = record { message = refl; state = subst (λ (k : Heard). IsTakenIn a (begun_seen x) s k.state) heard (takes_in (begun_seen x) x.task s a came_so_far stands.route (may_give a takes)) };
           goes_on = one_of a takes;
         }))

@@ -8,6 +8,7 @@ pub mod History
 pub mod InStep
 pub mod MachineLaws
 pub mod Placing
+pub mod Reacting
 pub mod Sending
 pub mod Sharing
 pub mod Standing

@@ -6,14 +6,21 @@ use Rattle.ak_turn.specs.declared.clock.Clock.{Clock}
 use Rattle.ak_turn.specs.Lines.{last_stamp_of}
 use Rattle.ak_message.specs.Fields.{specifier_count}
 use Rattle.ak_message.specs.Message.{MessageData}
+use Rattle.ak_route.specs.declared.outcome.Route.TheVariants as routes
+use Rattle.ak_route.specs.declared.outcome.Taker.TheVariants as taker
+use Rattle.ak_action.specs.declared.action.Action.{Action}
+use Rattle.ak_action.specs.declared.action.Action.TheVariants as action
+use Rattle.ak_action.specs.declared.action.Dest.{Dest}
 use Rattle.ak_action.specs.declared.answer.Answer.{Answer}
 use Rattle.ak_action.specs.declared.answer.AnswerWord.{AnswerWord}
 use Rattle.ak_action.specs.declared.answer.Answer.TheVariants as answer
 use Rattle.ak_action.specs.declared.answer.Want.{Want}
 use Rattle.ak_action.specs.declared.answer.Want.TheVariants as want
 use Rattle.ak_action.specs.declared.state.DeskState.{DeskState}
+use Rattle.ak_action.specs.declared.template.Template.{Template}
 use Rattle.ak_action.specs.Acts.{taken_in}
-use Rattle.ak_action.specs.Interp.{AnswersFind}
+use Rattle.ak_action.specs.Doing.{into_place, row_of}
+use Rattle.ak_action.specs.Interp.{AnswersFind, actions_of}
 use Rattle.ak_desk.specs.declared.entry.DeskEvent.{DeskEvent}
 use Rattle.ak_desk.specs.declared.entry.DeskEvent.TheVariants as event
 use Rattle.ak_desk.specs.declared.entry.Edit.{Edit}
@@ -122,11 +129,13 @@ GoesOn None (want.Forward looper popped) b s b' s' = Asks (want.Forward looper p
 abbrev pub Wants : Want → BegunData → DeskState → BegunData → DeskState → Type 0
 Wants w b s b' s' = GoesOn b.came w b s b' s'
 
--- it came to an end, and its last word tells that memory ran out
+-- it came to an end where memory ran out at that place, which its last word tells; with memory there, these answers would not have it
+-- tell so
 pub record RunsOut (b b' : BegunData) (s' : DeskState) : Type 0 where
-  pub memory : Option ℕ
-  pub ends : Ends memory b b' s'
+  pub place : ℕ
+  pub ends : Ends (Some place) b b' s'
   pub word : ran_out ends.came.words ≡ true
+  pub without : ran_out (dispatch_of b.before b.item b.heard None).words ≡ false
 
 abbrev pub FailsFrom : Option Came → BegunData → DeskState → BegunData → DeskState → Type 0
 FailsFrom (Some c) b s b' s' = ⊥
@@ -135,15 +144,35 @@ FailsFrom None b s b' s' = RunsOut b b' s'
 abbrev pub Fails : BegunData → DeskState → BegunData → DeskState → Type 0
 Fails b s b' s' = FailsFrom b.came b s b' s'
 
--- the result of a reply goes into a property, or nowhere; another answer leaves the handlers as they are
-abbrev pub IsTakenIn : Answer → DeskState → DeskState → Type 0
-IsTakenIn (answer.Reply flat m) s s' = (token : ℕ) × (into : Option ℕ) × (s' ≡ taken_in s token into m)
-IsTakenIn _ s s' = s' ≡ s
+-- an ask among the actions of that reaction of the handler has the result of its reply go there: into that property, or nowhere
+pub record AsksInto (s : DeskState) (token reaction : ℕ) (into : Option ℕ) : Type 0 where
+  pub before : List Action
+  pub to : Dest
+  pub message : Template
+  pub property : Option (List ℕ)
+  pub behind : List Action
+  pub parts : actions_of s token reaction ≡ before ++ action.Ask to message property ∷ behind
+  pub into_is : into ≡ into_place (row_of s token) property
+
+-- the result of the reply goes where an ask of the reaction that is carried out has it go
+pub record TakesIn (m : MessageData) (b : BegunData) (s s' : DeskState) : Type 0 where
+  pub token : ℕ
+  pub reaction : ℕ
+  pub goes_to : b.route ≡ entry.To token
+  pub routed : (routed_of b.before b.item).route ≡ routes.Deliver token (taker.Reaction reaction)
+  pub into : Option ℕ
+  pub asks : AsksInto s token reaction into
+  pub state : s' ≡ taken_in s token into m
+
+-- another answer leaves the handlers as they are
+abbrev pub IsTakenIn : Answer → BegunData → DeskState → DeskState → Type 0
+IsTakenIn (answer.Reply flat m) b s s' = TakesIn m b s s'
+IsTakenIn _ b s s' = s' ≡ s
 
 -- the answer is one more that was heard
 pub record Hears (a : Answer) (b : BegunData) (s : DeskState) (b' : BegunData) (s' : DeskState) : Type 0 where
   pub message : b' ≡ record b { heard = b.heard ++ a ∷ [] }
-  pub state : IsTakenIn a s s'
+  pub state : IsTakenIn a b s s'
 
 -- what is sent on has as many specifiers popped as the item or more, and no more than its message has
 abbrev pub Forwards : Want → BegunData → Type 0

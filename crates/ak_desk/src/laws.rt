@@ -46,8 +46,9 @@ pub fn a_turn_dispatches()
     ensures { law.ATurnDispatches }
 {}
 
-/// A message that the looper's own thread gives up in one turn at a shared desk is given up there: so is its
-/// entry, and so is the front.
+/// A message that the looper's own thread gives up in one turn at a shared desk is given up there, as one that
+/// it begins and ends is dispatched: its entry is the last of the seat's front, which goes on from all that the
+/// seat had seen by entries of others alone, and is a list that the machine allows.
 pub fn a_turn_gives_up()
     ensures { law.ATurnGivesUp }
 {}

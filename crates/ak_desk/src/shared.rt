@@ -13,7 +13,7 @@ use std::sync::Wait;
 /// Edits the handlers of a looper whose desk threads share. It waits for its turn. The seat is one at this
 /// desk, without a turn, and of the clock's thread. The answer is the one that the handlers give at the entry's
 /// place in the one list. The entry has the clock's next stamp, and is the last that the seat has seen.
-/// `NoMemory` makes no entry.
+/// `NoMemory` makes no entry. The entries by the thread are just the seat's own then.
 pub fn edit_shared<R: Wait>(
     desk: &TurnLock<Desk>,
     rt: &R,
