@@ -26,7 +26,7 @@ use Rattle.ak_desk.specs.declared.entry.EntryRoute.{EntryRoute}
 use Rattle.ak_desk.specs.declared.entry.EntryRoute.TheVariants as entry
 use Rattle.ak_desk.specs.Answering.{AnswersForward, AreAnswered}
 use Rattle.ak_desk.specs.Dispatch.{Dispatch, by_route, dispatch_of, entry_route, forward_reply}
-use Rattle.ak_desk.specs.Laws.{DispatchesAreOwn, EachLineFollows, EntryTellsReply, ForwardTellsReply, HasOneReply, NoStepOfAFullForward, OneWordOneReply, PositionsCount, RefusedEditsChangeNothing, StateIsOne, TellsForward, ToldByWord, reply_of_error}
+use Rattle.ak_desk.specs.Laws.{DispatchesAreOwn, EachLineFollows, EntryTellsReply, ForwardTellsReply, HasOneReply, PositionsCount, RefusedEditsChangeNothing, StateIsOne, TellsForward, ToldByWord, reply_of_error}
 use Rattle.ak_desk.specs.Line.{LineData}
 use Rattle.ak_desk.specs.Machine.{DeskStep, DispatchStep, Dispatches, EventStep, IsBy, Replays, Replies, StepReplies, counted, counted_all, dispatches, edited, edit_of, gave_up, gives_up}
 use Rattle.ak_desk.specs.Place.{routed_of}
@@ -122,13 +122,6 @@ forward_tells_reply s looper item words reply is r =
     let told = told_by_route s (routed_of s item).message looper (routed_of s item).route d.answers d.memory is d.answered d.waits in
     record { error = told.error; may = told.may; words_are = sym d.words_are ∙ told.words_are; reply_is = sym r.is ∙ told.reply_is }
 
-pub no_step_of_a_full_forward : NoStepOfAFullForward
-no_step_of_a_full_forward s looper item quit t (is, d) =
-    let told = told_by_route s (routed_of s item).message looper (routed_of s item).route d.answers d.memory is d.answered d.waits in
-    let words : word.Error error.WouldBlock ∷ [] ≡ word.Error told.error ∷ [] = sym d.words_are ∙ told.words_are in
-    let same : error.WouldBlock ≡ told.error = cc in
-    absurd (subst TellsForward (sym same) told.may)
-
 -- ---- words tell the rest
 module _ (replay : WordsReplay) where
   -- what two dispatches of one message to one list of words leave
@@ -203,9 +196,6 @@ module _ (replay : WordsReplay) where
 
     has_reply : (quit : Bool) (t : DeskState) (d : Dispatches s item words quit t) → Replies s item words (dispatch_by quit t d).reply
     has_reply quit t d = record { quit = quit; leaves = t; dispatch = d; is = refl }
-
-  pub one_word_one_reply : OneWordOneReply
-  one_word_one_reply s item w reply other r o = reply_alike s item (w ∷ []) reply other r o
 
   one_step : (s : DeskState) (r : EntryRoute) (item : Option ItemData) (words : List AnswerWord) (quit quit' : Bool) (t u : DeskState) → DispatchStep s r item words quit t → DispatchStep s r item words quit' u → (quit ≡ quit') × (t ≡ u)
   one_step s entry.NoMemory None words quit quit' t u d e = absurd d

@@ -85,21 +85,7 @@ EntryTellsReply =
     → DispatchStep s r item words quit' t'
     → (quit ≡ quit') × (t ≡ t') × HasOneReply s r item words
 
--- a message that is sent on waits for room
-abbrev pub NoStepOfAFullForward : Type 0
-NoStepOfAFullForward =
-    (s : DeskState) (looper : ℕ) (item : ItemData) (quit : Bool) (t : DeskState)
-    → DispatchStep s (entry.Forward looper) (Some item) (word.Error error.WouldBlock ∷ []) quit t
-    → ⊥
-
-abbrev pub OneWordOneReply : Type 0
-OneWordOneReply =
-    (s : DeskState) (item : ItemData) (w : AnswerWord) (reply other : Option MessageData)
-    → Replies s item (w ∷ []) reply
-    → Replies s item (w ∷ []) other
-    → reply ≡ other
-
--- what the word of a message that was sent on may be
+-- what the word of a message that was sent on may be: it waits for room, so that its port is full is none
 abbrev pub TellsForward : KitError → Type 0
 TellsForward error.Ok = Unit {0}
 TellsForward error.BadPortId = Unit {0}

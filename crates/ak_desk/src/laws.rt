@@ -16,11 +16,9 @@ pub fn the_list_tells_the_handlers()
 
 /// Of an entry that the machine allows, the state before, where the message went, the item and the words
 /// tell whether the looper is to end, the state after and the reply. The word of a message that was sent on
-/// is one of four, and tells its reply; there is no entry of one that found its port full.
+/// is one of four, and tells its reply; none of the four is that its port was full.
 pub fn an_entry_tells_its_reply()
     ensures tells { law.EntryTellsReply }
-    ensures full { law.NoStepOfAFullForward }
-    ensures one { law.OneWordOneReply }
     ensures forward { law.ForwardTellsReply }
 {
     ak_action::words_replay();
