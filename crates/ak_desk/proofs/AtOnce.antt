@@ -30,6 +30,8 @@ pub record Outcomes (dispatch : List Answer → Option ℕ → Dispatch) (asked 
   pub waits : (w : Want) (u : Task) (v : DeskState) → MayWant t → IsAsking w → want_of None t s ≡ wants w u v → IsWaiting (dispatch heard None) (asked ++ w ∷ []) v
   pub ends : (u : Task) (v : DeskState) → MayWant t → want_of None t s ≡ wants want.Done u v → dispatch heard None ≡ came_to asked (came_of u) v
   pub fails : (u : Task) (v : DeskState) → MayWant t → want_of (Some (place_in u)) t s ≡ wants_none u v → FailsSo dispatch asked heard u v
+  -- while it waits for an answer
+  pub words : (a : Answer) → TakesAnswer t a → (dispatch heard None).words ≡ words_of t
 
 module _ (dispatch : List Answer → Option ℕ → Dispatch) (memory : Option ℕ) (asked : List Want) (heard : List Answer) (t u : Task) (s v : DeskState) (is : dispatch heard memory ≡ came_to asked (came_of t) s) (a : t ≡ u) (b : s ≡ v) where
   pub ends_so : dispatch heard memory ≡ came_to asked (came_of u) v
@@ -125,6 +127,7 @@ module _ (s0 : DeskState) where
               let task_same : starved false ≡ u = cc in
               let state_same : s0 ≡ v = cc in
               fails_so accessed 0 [] [] (starved false) u s0 v refl task_same state_same refl refl;
+          words = λ a takes. absurd takes;
         }
 
     pub property_comes : (asked : List Want) (heard : List Answer) (t : Task) (s : DeskState) → Comes s0 Accesses asked heard t s → Outcomes accessed asked heard t s
@@ -150,6 +153,7 @@ module _ (s0 : DeskState) where
               let task_same : starved (built_in_quits s0 m) ≡ u = cc in
               let state_same : s0 ≡ v = cc in
               fails_so known 0 [] [] (starved (built_in_quits s0 m)) u s0 v refl task_same state_same refl refl;
+          words = λ a takes. absurd takes;
         }
 
     pub built_in_comes : (asked : List Want) (heard : List Answer) (t : Task) (s : DeskState) → Comes s0 Knows asked heard t s → Outcomes known asked heard t s
@@ -167,6 +171,7 @@ module _ (s0 : DeskState) where
           let state_same : s0 ≡ v = cc in
           ends_so made None [] [] (ready reply) u s0 v refl task_same state_same;
       fails = λ u v may e. absurd cc;
+      words = λ a takes. absurd takes;
     }
 
     pub ready_comes : (asked : List Want) (heard : List Answer) (t : Task) (s : DeskState) → Comes s0 (ready reply) asked heard t s → Outcomes made asked heard t s
@@ -231,8 +236,10 @@ module _ (s0 : DeskState) (looper popped : ℕ) where
         let never : TheWant ≡ want.Done = cc in
         absurd cc;
     fails = λ u v may e. absurd cc;
+    words = λ a takes. absurd takes;
   }
-  sent_ends _ _ _ _ sent = record { waits = λ w u v may asking e. absurd may; ends = λ u v may e. absurd may; fails = λ u v may e. absurd may }
+  sent_ends _ _ _ _ sent =
+      record { waits = λ w u v may asking e. absurd may; ends = λ u v may e. absurd may; fails = λ u v may e. absurd may; words = λ a takes. refl }
   sent_ends _ _ _ _ (told a h) = record {
     waits = λ w u v may asking e.
         let want_same : want.Done ≡ w = cc in
@@ -242,6 +249,7 @@ module _ (s0 : DeskState) (looper popped : ℕ) where
         let state_same : s0 ≡ v = cc in
         ends_so sent_so None (TheWant ∷ []) (a ∷ []) (LastOf a) u s0 v (told_is a h) task_same state_same;
     fails = λ u v may e. absurd cc;
+    words = λ b takes. absurd takes;
   }
 
   pub forward_comes : (asked : List Want) (heard : List Answer) (t : Task) (s : DeskState) → Comes s0 (task.Forward looper popped tt) asked heard t s → Outcomes sent_so asked heard t s

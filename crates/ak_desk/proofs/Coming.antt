@@ -230,6 +230,7 @@ module _ (i0 : InterpData) (s0 : DeskState) where
   -- so does an answer, and what comes behind it
   record Waits (asked : List Want) (heard : List Answer) (i : InterpData) (s : DeskState) : Type 0 where
     awaits : IsWaiting i.stage
+    so_far : (run None heard i0 s0).words ≡ i.words
     calls : (a : Answer) (rest : List Answer) (r : Ran) → Calls rest (give_of i s a).interp (give_of i s a).state r → Calls (heard ++ a ∷ rest) i0 s0 (adding asked r)
     runs : (a : Answer) (rest : List Answer) → run None (heard ++ a ∷ rest) i0 s0 ≡ adding asked (run None rest (give_of i s a).interp (give_of i s a).state)
 
@@ -249,6 +250,9 @@ module _ (i0 : InterpData) (s0 : DeskState) where
   asks_on asked heard i s w j v g asking e =
       record {
         awaits = asking_awaits w j.stage asking (subst NextStands e (next_stands None i s));
+        so_far =
+            ap (λ (l : List Answer). (run None l i0 s0).words) (sym (append-nil heard))
+            ∙ ap (λ (r : Ran). r.words) (g.runs [] ∙ ap (adding asked) (run_waits i s w j v asking e));
         calls = λ a rest r c. subst (λ (x : Ran). Calls (heard ++ a ∷ rest) i0 s0 x) (adding-wanting asked w r) (g.calls (a ∷ rest) (wanting w r) (got_one a rest i s w j v r asking e c));
         runs = λ a rest. g.runs (a ∷ rest) ∙ ap (adding asked) (run_asks a rest i s w j v asking e) ∙ adding-wanting asked w (run None rest (give_of j v a).interp (give_of j v a).state);
       }
@@ -355,7 +359,7 @@ module _ (act : CallsAct) (runs_act : RunsAct) (s0 : DeskState) (m : MessageData
   at_some_place asked heard j v (Some at) is told without = (at, is)
   at_some_place asked heard j v None is told without = absurd (false≢true (sym without ∙ ap (λ (d : Dispatch). ran_out d.words) is ∙ told))
 
-  fails_there : (asked : List Want) (heard : List Answer) (i : InterpData) (s : DeskState) (u : Task) (v : DeskState) → Goes first s0 asked heard i s → IsClear i.stage i.words → the.want_of (Some (place_in u)) (task.Reaction i) s ≡ wants_none u v → FailsSo reacted asked heard u v
+  fails_there : (asked : List Want) (heard : List Answer) (i : InterpData) (s : DeskState) (u : Task) (v : DeskState) → Goes first s0 asked heard i s → IsClear i.stage i.place i.words → the.want_of (Some (place_in u)) (task.Reaction i) s ≡ wants_none u v → FailsSo reacted asked heard u v
   fails_there asked heard i s u v g clear e =
       let n = failed_is (next_of (Some (place_in u)) i s) u v e in
       let there : next_of (Some n.interp.place) i s ≡ failed n.interp v = ap (λ (x : Task). next_of (Some (place_in x)) i s) (sym n.task_is) ∙ n.is in
@@ -370,7 +374,7 @@ module _ (act : CallsAct) (runs_act : RunsAct) (s0 : DeskState) (m : MessageData
       let there_it_did = at_some_place asked heard n.interp v whole.0 is told without in
       fails_so reacted there_it_did.0 asked heard (task.Reaction n.interp) u v v there_it_did.1 (sym n.task_is) refl told without
 
-  outcomes_of : (asked : List Want) (heard : List Answer) (i : InterpData) (s : DeskState) → Reacts first s0 asked heard i s → IsClear i.stage i.words → Outcomes reacted asked heard (task.Reaction i) s
+  outcomes_of : (asked : List Want) (heard : List Answer) (i : InterpData) (s : DeskState) → Reacts first s0 asked heard i s → IsClear i.stage i.place i.words → Outcomes reacted asked heard (task.Reaction i) s
   outcomes_of asked heard i s (goes g) clear = record {
     waits = λ w u v may asking e.
         let n = next_is (next_of None i s) w u v e in
@@ -386,11 +390,13 @@ module _ (act : CallsAct) (runs_act : RunsAct) (s0 : DeskState) (m : MessageData
         let whole = ran_so asked heard i s (finished n.interp v []) g (run_ends i s n.interp v n.is) in
         ends_so reacted None asked heard (task.Reaction n.interp) u v v (whole ∙ came_so asked n.interp v) (sym n.task_is) refl;
     fails = λ u v may e. fails_there asked heard i s u v g clear e;
+    words = λ a takes. not_answered i.stage a g.may takes;
   }
   outcomes_of asked heard i s (waits h) clear = record {
     waits = λ w u v may asking e. may_not i.stage h.awaits may;
     ends = λ u v may e. may_not i.stage h.awaits may;
     fails = λ u v may e. may_not i.stage h.awaits may;
+    words = λ a takes. ap (λ (r : Ran). r.words) (sym (runs_act s0 m token place heard None)) ∙ h.so_far;
   }
 
   outcomes_at : (asked : List Want) (heard : List Answer) (t : Task) (s : DeskState) → Stands first s0 asked heard t s → TaskKeeps token place t s → Outcomes reacted asked heard t s

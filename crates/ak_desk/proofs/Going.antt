@@ -28,9 +28,9 @@ use Rattle.ak_desk.specs.declared.task.Task.{Task}
 use Rattle.ak_desk.specs.declared.task.Task.TheVariants as task
 use Rattle.ak_desk.specs.Answering.{AnswersForward, AnswersWant, AreAnswered}
 use Rattle.ak_desk.specs.BuiltIns.{built_in_quits, built_in_reply}
-use Rattle.ak_desk.specs.Desk.{Asks, BegunData, DeskAwaits, DeskData, DeskIsDone, DeskMayWant, DeskTakes, Ends, Fails, FailsFrom, Forwards, GoesOn, Hears, IsTakenIn, OfBegun, RunsOut, StaysDone, Turns, Wants, begun_at}
+use Rattle.ak_desk.specs.Desk.{Asks, AsksInto, BegunData, DeskAwaits, DeskData, DeskIsDone, DeskMayWant, DeskTakes, Ends, Fails, FailsFrom, Forwards, GoesOn, Hears, IsTakenIn, OfBegun, RunsOut, StaysDone, Turns, Wants, actions_told, begun_at}
 use Rattle.ak_desk.specs.DeskInside.{ComesFar, IsBegun, IsOver, Stands, asked_more, begun_seen, came_seen, is_last, noted}
-use Rattle.ak_desk.specs.Dispatch.{Came, entry_route}
+use Rattle.ak_desk.specs.Dispatch.{Came, dispatch_of, entry_route}
 use Rattle.ak_desk.specs.Line.{LineData}
 use Rattle.ak_desk.specs.Machine.{IsHistory, dispatches}
 use Rattle.ak_desk.specs.Place.{is_local, loopers_of, routed_of}
@@ -40,7 +40,7 @@ use Rattle.ak_desk.specs.Task as the
 use Rattle.ak_desk.proofs.Coming.{NextStands, dispatch_comes, next_stands}
 use Rattle.ak_desk.proofs.History.{all_spelled}
 use Rattle.ak_desk.proofs.InStep.{answered_push, comes_may, comes_takes, done_may, done_never_fails, done_so, done_wants, failed_so, first_may, one_too_many}
-use Rattle.ak_desk.proofs.Reacting.{AimsAt, AimsBy, next_is, routed_so}
+use Rattle.ak_desk.proofs.Reacting.{AimsAt, AimsBy, next_is, routed_so, waiting_tells}
 
 -- ---- it begins
 pub begins : (opening : DeskState) (old lines : List LineData) (was : Option Begun) (b : BegunData) (t : Task) (s : DeskState) (taken : Taken) → b ≡ begun_at s taken → t ≡ task_of s.first (routed_of s taken.item) → IsItem taken.item → was ≡ None → lines ≡ old → Stands opening old was s → taken.position ≡ dispatches old → IsBegun opening lines b t s
@@ -89,13 +89,14 @@ forward_is_none answer.TooLong h = tt
 forward_is_none (answer.Reply flat m) h = absurd h
 forward_is_none answer.NoMemory h = tt
 
--- a reply goes by the reaction of the handler that its message went to
+-- a reply goes by the reaction of the handler that its message went to, and by the action behind those that are carried out
 record GoesTo (b : BegunData) (i : InterpData) : Type 0 where
   routed : (routed_of b.before b.item).route ≡ route.Deliver i.token (taker.Reaction i.reaction)
   goes_to : b.route ≡ entry.To i.token
+  placed : i.place ≡ actions_told (dispatch_of b.before b.item b.heard None).words
 
 module _ (b : BegunData) where
-  send_takes_in : (how : Sending) (i : InterpData) (s : DeskState) (a : Answer) → GoesTo b i → AimsBy how s i.token i.reaction → AnswersSend how a → IsTakenIn a b s (hear_of_send how i s a).state
+  send_takes_in : (how : Sending) (i : InterpData) (s : DeskState) (a : Answer) → GoesTo b i → AimsBy how s i.token i.reaction i.place → AnswersSend how a → IsTakenIn a b s (hear_of_send how i s a).state
   send_takes_in how i s answer.NoMemory to aims h = refl
   send_takes_in how i s (answer.Team team first) to aims h = absurd h
   send_takes_in how i s answer.NoTeam to aims h = absurd h
@@ -111,24 +112,35 @@ module _ (b : BegunData) where
   send_takes_in (sending.Ask into) i s answer.Spent to aims h = refl
   send_takes_in (sending.Ask into) i s answer.TooLong to aims h = refl
   send_takes_in (sending.Ask into) i s (answer.Reply flat m) to aims h =
-      record { token = i.token; reaction = i.reaction; goes_to = to.goes_to; routed = to.routed; into = into; asks = aims; state = refl }
+      record {
+        token = i.token;
+        reaction = i.reaction;
+        goes_to = to.goes_to;
+        routed = to.routed;
+        into = into;
+        asks = subst (λ (n : ℕ). AsksInto s i.token i.reaction n into) to.placed aims;
+        state = refl;
+      }
 
-  stage_takes_in : (at : Stage) (i : InterpData) (s : DeskState) (a : Answer) → GoesTo b i → AimsAt at s i.token i.reaction → AnswersStage at a → IsTakenIn a b s (give_at at i s a).state
+  stage_takes_in : (at : Stage) (i : InterpData) (s : DeskState) (a : Answer) → GoesTo b i → AimsAt at s i.token i.reaction i.place → AnswersStage at a → IsTakenIn a b s (give_at at i s a).state
   stage_takes_in stage.Ready i s a to aims h = absurd h
   stage_takes_in (stage.Finding how m) i s a to aims h = stays_as b a s (find_is_none a h)
   stage_takes_in (stage.Found looper how m) i s a to aims h = absurd h
   stage_takes_in (stage.Sent how) i s a to aims h = send_takes_in how i s a to aims h
   stage_takes_in stage.Ended i s a to aims h = absurd h
 
-  takes_in : (t : Task) (s : DeskState) (a : Answer) → Comes b.before (task_of b.before.first (routed_of b.before b.item)) b.asked b.heard t s → b.route ≡ entry_route b.before (routed_of b.before b.item).route → TakesAnswer t a → IsTakenIn a b s (heard_of t s a).state
-  takes_in (task.Reaction i) s a c is h =
+  takes_in : CallsAct → RunsAct → (t : Task) (s : DeskState) (a : Answer) → Comes b.before (task_of b.before.first (routed_of b.before b.item)) b.asked b.heard t s → b.route ≡ entry_route b.before (routed_of b.before b.item).route → TakesAnswer t a → IsTakenIn a b s (heard_of t s a).state
+  takes_in act runs (task.Reaction i) s a c is h =
       let goes = routed_so b.before (routed_of b.before b.item).message (routed_of b.before b.item).route b.asked b.heard i s c in
-      stage_takes_in i.stage i s a (record { routed = goes.route_is; goes_to = is ∙ ap (entry_route b.before) goes.route_is }) goes.aims h
-  takes_in (task.Property token place m) s a c is h = absurd h
-  takes_in (task.BuiltIn token m) s a c is h = absurd h
-  takes_in (task.Forward looper popped spare) s a c is h = absurd h
-  takes_in (task.Forwarding spare) s a c is h = stays_as b a s (forward_is_none a h)
-  takes_in (task.Done word reply quit) s a c is h = absurd h
+      let tells = waiting_tells i.stage a i.place i.words h goes.clear in
+      let words : (dispatch_of b.before b.item b.heard None).words ≡ i.words = (dispatch_comes act runs b.before b.item b.asked b.heard (task.Reaction i) s c).words a h in
+      stage_takes_in i.stage i s a
+      (record { routed = goes.route_is; goes_to = is ∙ ap (entry_route b.before) goes.route_is; placed = tells.told ∙ ap actions_told (sym words) }) goes.aims h
+  takes_in act runs (task.Property token place m) s a c is h = absurd h
+  takes_in act runs (task.BuiltIn token m) s a c is h = absurd h
+  takes_in act runs (task.Forward looper popped spare) s a c is h = absurd h
+  takes_in act runs (task.Forwarding spare) s a c is h = stays_as b a s (forward_is_none a h)
+  takes_in act runs (task.Done word reply quit) s a c is h = absurd h
 
 -- ---- what is sent on has the specifiers popped that routing popped
 abbrev IsForward : ℕ → Task → Type 0
@@ -401,12 +413,12 @@ module _ (opening : DeskState) (lines : List LineData) (o : Option Begun) (x : B
         subst (λ (p : Option Came). ComesFar then y.task v p) (sym none)
         (subst (λ (k : Heard). ComesFar then k.task k.state None) heard (the.given x.asked x.heard x.task s a came_so_far (may_give a takes)))
 
-    pub given : AfterGiven opening lines a d (begun_seen y) y.task v
-    given =
+    pub given : CallsAct → RunsAct → AfterGiven opening lines a d (begun_seen y) y.task v
+    given act runs =
         subst (λ (b : BegunData). AfterGiven opening lines a d b y.task v) (sym then_seen)
         (subst (λ (z : DeskData). AfterGiven opening lines a z then y.task v) seen
         (record {
           begun = record { history = stands.history; position = stands.position; route = stands.route; fits = stands.fits; far = goes_far };
-          given = record { message = refl; state = subst (λ (k : Heard). IsTakenIn a (begun_seen x) s k.state) heard (takes_in (begun_seen x) x.task s a came_so_far stands.route (may_give a takes)) };
+          given = record { message = refl; state = subst (λ (k : Heard). IsTakenIn a (begun_seen x) s k.state) heard (takes_in (begun_seen x) act runs x.task s a came_so_far stands.route (may_give a takes)) };
           goes_on = one_of a takes;
         }))

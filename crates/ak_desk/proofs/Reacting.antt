@@ -1,7 +1,7 @@
 -- How a reaction goes on: of which handler and which of its reactions it is, what its last word tells, and where the result of a reply
 -- goes.
-use Rattle.std.proofs.Common.{◌≡◌, ℕ, ◌-◌, Bool, true, false, List, [], ◌∷◌, ◌++◌, take, drop, length, Option, None, Some, option_map, slice_get, is_some, unwrap_or, refl, sym, ap, subst, ◌∙◌, append_assoc, arith}
-use Rattle.std.proofs.lemmas.List.{length_push, take-append-drop}
+use Rattle.std.proofs.Common.{◌≡◌, ℕ, zero, suc, ◌+◌, ◌-◌, Bool, true, false, List, [], ◌∷◌, ◌++◌, drop, length, Option, None, Some, option_map, slice_get, is_some, unwrap_or, refl, sym, ap, subst, ◌∙◌, arith}
+use Rattle.std.proofs.lemmas.List.{length_push}
 use Rattle.ak_base.specs.declared.error.KitError.{KitError}
 use Rattle.ak_base.specs.declared.error.KitError.TheVariants as error
 use Rattle.ak_handler.specs.Handlers.{token_named}
@@ -39,11 +39,12 @@ use Rattle.ak_action.specs.Laws as law
 use Rattle.ak_action.specs.Number.{number_of, number_value}
 use Rattle.ak_action.specs.Row.{first_of, place_of_property}
 use Rattle.ak_action.specs.State.{looper_named}
+use Rattle.ak_action.proofs.LawSteps.{next_drop}
 use Rattle.ak_action.proofs.Rows.{actions-put}
 use Rattle.ak_desk.specs.declared.task.Task.{Task}
 use Rattle.ak_desk.specs.declared.task.Task.TheVariants as task
 use Rattle.ak_desk.specs.BuiltIns.{built_in_quits, built_in_reply}
-use Rattle.ak_desk.specs.Desk.{AsksInto}
+use Rattle.ak_desk.specs.Desk.{AsksInto, actions_told}
 use Rattle.ak_desk.specs.Dispatch.{is_no_memory, ran_out}
 use Rattle.ak_desk.specs.Properties.{property_replied}
 use Rattle.ak_desk.specs.Task.{Comes, IsNoReaction, wants, wants_none, heard_of, next_wanted, task_by, want_of}
@@ -86,41 +87,86 @@ ran_out-push words w =
     ap (λ (n : ℕ). unwrap_or (option_map is_no_memory (slice_get (words ++ w ∷ []) n)) false) last
     ∙ ap (λ (o : Option AnswerWord). unwrap_or (option_map is_no_memory o) false) (word_at_end words w)
 
--- unless it has ended, its last word does not tell that memory ran out
-abbrev pub IsClear : Stage → List AnswerWord → Type 0
-IsClear stage.Ready words = ran_out words ≡ false
-IsClear (stage.Finding how m) words = ran_out words ≡ false
-IsClear (stage.Found looper how m) words = ran_out words ≡ false
-IsClear (stage.Sent how) words = ran_out words ≡ false
-IsClear stage.Ended words = Unit {0}
+-- ---- how many actions its words tell
+told_error : (words : List AnswerWord) (e : KitError) → actions_told (words ++ word.Error e ∷ []) ≡ actions_told words + 1
+told_error [] e = refl
+told_error (word.Error x ∷ words) e = ap (λ (n : ℕ). n + 1) (told_error words e)
+told_error (word.Reply flat ∷ words) e = ap (λ (n : ℕ). n + 1) (told_error words e)
+told_error (word.Team team ∷ words) e = told_error words e
+told_error (word.NoTeam ∷ words) e = told_error words e
 
-clear_at : (at : Stage) (words : List AnswerWord) → ran_out words ≡ false → IsClear at words
-clear_at stage.Ready words h = h
-clear_at (stage.Finding how m) words h = h
-clear_at (stage.Found looper how m) words h = h
-clear_at (stage.Sent how) words h = h
-clear_at stage.Ended words h = tt
+told_reply : (words : List AnswerWord) (flat : List ℕ) → actions_told (words ++ word.Reply flat ∷ []) ≡ actions_told words + 1
+told_reply [] flat = refl
+told_reply (word.Error x ∷ words) flat = ap (λ (n : ℕ). n + 1) (told_reply words flat)
+told_reply (word.Reply other ∷ words) flat = ap (λ (n : ℕ). n + 1) (told_reply words flat)
+told_reply (word.Team team ∷ words) flat = told_reply words flat
+told_reply (word.NoTeam ∷ words) flat = told_reply words flat
+
+told_team : (words : List AnswerWord) (team : ℕ) → actions_told (words ++ word.Team team ∷ []) ≡ actions_told words
+told_team [] team = refl
+told_team (word.Error x ∷ words) team = ap (λ (n : ℕ). n + 1) (told_team words team)
+told_team (word.Reply flat ∷ words) team = ap (λ (n : ℕ). n + 1) (told_team words team)
+told_team (word.Team other ∷ words) team = told_team words team
+told_team (word.NoTeam ∷ words) team = told_team words team
+
+told_no_team : (words : List AnswerWord) → actions_told (words ++ word.NoTeam ∷ []) ≡ actions_told words
+told_no_team [] = refl
+told_no_team (word.Error x ∷ words) = ap (λ (n : ℕ). n + 1) (told_no_team words)
+told_no_team (word.Reply flat ∷ words) = ap (λ (n : ℕ). n + 1) (told_no_team words)
+told_no_team (word.Team team ∷ words) = told_no_team words
+told_no_team (word.NoTeam ∷ words) = told_no_team words
+
+-- the words tell the actions before the place, and the last of them does not tell that memory ran out
+pub record Tells (place : ℕ) (words : List AnswerWord) : Type 0 where
+  pub clear : ran_out words ≡ false
+  pub told : place ≡ actions_told words
+
+tells_error : (place : ℕ) (words : List AnswerWord) (e : KitError) → is_no_memory (word.Error e) ≡ false → Tells place words → Tells (place + 1) (words ++ word.Error e ∷ [])
+tells_error place words e other t =
+    record { clear = ran_out-push words (word.Error e) ∙ other; told = ap (λ (n : ℕ). n + 1) t.told ∙ sym (told_error words e) }
+
+-- unless it has ended, they do
+abbrev pub IsClear : Stage → ℕ → List AnswerWord → Type 0
+IsClear stage.Ready place words = Tells place words
+IsClear (stage.Finding how m) place words = Tells place words
+IsClear (stage.Found looper how m) place words = Tells place words
+IsClear (stage.Sent how) place words = Tells place words
+IsClear stage.Ended place words = Unit {0}
+
+clear_at : (at : Stage) (place : ℕ) (words : List AnswerWord) → Tells place words → IsClear at place words
+clear_at stage.Ready place words h = h
+clear_at (stage.Finding how m) place words h = h
+clear_at (stage.Found looper how m) place words h = h
+clear_at (stage.Sent how) place words h = h
+clear_at stage.Ended place words h = tt
+
+pub waiting_tells : (at : Stage) (a : Answer) (place : ℕ) (words : List AnswerWord) → AnswersStage at a → IsClear at place words → Tells place words
+waiting_tells stage.Ready a place words h t = absurd h
+waiting_tells (stage.Finding how m) a place words h t = t
+waiting_tells (stage.Found looper how m) a place words h t = absurd h
+waiting_tells (stage.Sent how) a place words h t = t
+waiting_tells stage.Ended a place words h t = absurd h
 
 -- ---- where the result of a reply goes
-abbrev pub AimsBy : Sending → DeskState → ℕ → ℕ → Type 0
-AimsBy (sending.Post back) s token reaction = Unit {0}
-AimsBy (sending.Ask into) s token reaction = AsksInto s token reaction into
+abbrev pub AimsBy : Sending → DeskState → ℕ → ℕ → ℕ → Type 0
+AimsBy (sending.Post back) s token reaction place = Unit {0}
+AimsBy (sending.Ask into) s token reaction place = AsksInto s token reaction place into
 
-abbrev pub AimsAt : Stage → DeskState → ℕ → ℕ → Type 0
-AimsAt stage.Ready s token reaction = Unit {0}
-AimsAt (stage.Finding how m) s token reaction = AimsBy how s token reaction
-AimsAt (stage.Found looper how m) s token reaction = AimsBy how s token reaction
-AimsAt (stage.Sent how) s token reaction = AimsBy how s token reaction
-AimsAt stage.Ended s token reaction = Unit {0}
+abbrev pub AimsAt : Stage → DeskState → ℕ → ℕ → ℕ → Type 0
+AimsAt stage.Ready s token reaction place = Unit {0}
+AimsAt (stage.Finding how m) s token reaction place = AimsBy how s token reaction place
+AimsAt (stage.Found looper how m) s token reaction place = AimsBy how s token reaction place
+AimsAt (stage.Sent how) s token reaction place = AimsBy how s token reaction place
+AimsAt stage.Ended s token reaction place = Unit {0}
 
 -- ---- what one action does: no answer that is known at once tells that memory ran out, and what is sent goes by the action
-module _ (s : DeskState) (token reaction : ℕ) where
+module _ (s : DeskState) (token reaction at_place : ℕ) where
   abbrev IsSuited : Doing → Type 0
   IsSuited (says e) = is_no_memory (word.Error e) ≡ false
   IsSuited (replies m) = Unit {0}
   IsSuited (puts place value) = Unit {0}
-  IsSuited (sends to how m) = AimsBy how s token reaction
-  IsSuited (finds w how m) = AimsBy how s token reaction
+  IsSuited (sends to how m) = AimsBy how s token reaction at_place
+  IsSuited (finds w how m) = AimsBy how s token reaction at_place
   IsSuited stops = Unit {0}
   IsSuited quits = Unit {0}
 
@@ -154,15 +200,15 @@ module _ (s : DeskState) (token reaction : ℕ) where
   add_suits row property None amount = refl
   add_suits row property (Some value) amount = sum_suits row property (sum_with (number_of value) amount)
 
-  looper_suits : (o : Option ℕ) (how : Sending) (m : MessageData) → AimsBy how s token reaction → IsSuited (to_looper o how m)
+  looper_suits : (o : Option ℕ) (how : Sending) (m : MessageData) → AimsBy how s token reaction at_place → IsSuited (to_looper o how m)
   looper_suits None how m h = refl
   looper_suits (Some looper) how m h = h
 
-  handler_suits : (looper : ℕ) (o : Option ℕ) (how : Sending) (m : MessageData) → AimsBy how s token reaction → IsSuited (to_handler looper o how m)
+  handler_suits : (looper : ℕ) (o : Option ℕ) (how : Sending) (m : MessageData) → AimsBy how s token reaction at_place → IsSuited (to_handler looper o how m)
   handler_suits looper None how m h = refl
   handler_suits looper (Some at) how m h = h
 
-  sent_suits : (to : Dest) (how : Sending) (m : MessageData) → AimsBy how s token reaction → IsSuited (sent_to s to how m)
+  sent_suits : (to : Dest) (how : Sending) (m : MessageData) → AimsBy how s token reaction at_place → IsSuited (sent_to s to how m)
   sent_suits dest.Own how m h = h
   sent_suits (dest.Looper name) how m h = looper_suits (looper_named s name) how m h
   sent_suits (dest.Handler name) how m h = handler_suits s.looper (token_named s.handlers.list name) how m h
@@ -172,30 +218,37 @@ module _ (s : DeskState) (token reaction : ℕ) where
   reply_suits row m t true = refl
   reply_suits row m t false = tt
 
-  action_suits : (before : List Action) (a : Action) (behind : List Action) → actions_of s token reaction ≡ before ++ a ∷ behind → (m : MessageData) (replied : Bool) → IsSuited (doing_of s token m replied a)
-  action_suits before (action.Reply t) behind parts m replied = reply_suits (row_of s token) m t replied
-  action_suits before (action.Post to t back) behind parts m replied = sent_suits to (sending.Post (back_to s token back)) (built (row_of s token) m t) tt
-  action_suits before (action.Ask to t into) behind parts m replied =
+  action_suits : (a : Action) → slice_get (actions_of s token reaction) at_place ≡ Some a → (m : MessageData) (replied : Bool) → IsSuited (doing_of s token m replied a)
+  action_suits (action.Reply t) there m replied = reply_suits (row_of s token) m t replied
+  action_suits (action.Post to t back) there m replied = sent_suits to (sending.Post (back_to s token back)) (built (row_of s token) m t) tt
+  action_suits (action.Ask to t into) there m replied =
       sent_suits to (sending.Ask (into_place (row_of s token) into)) (built (row_of s token) m t)
-      (record { before = before; to = to; message = t; property = into; behind = behind; parts = parts; into_is = refl })
-  action_suits before (action.Set property value) behind parts m replied = set_suits (row_of s token) property (first_given (row_of s token) m value)
-  action_suits before (action.Add property amount) behind parts m replied = add_suits (row_of s token) property (first_of (row_of s token) property) amount
-  action_suits before action.Stop behind parts m replied = tt
-  action_suits before action.Quit behind parts m replied = tt
+      (record { to = to; message = t; property = into; action_is = there; into_is = refl })
+  action_suits (action.Set property value) there m replied = set_suits (row_of s token) property (first_given (row_of s token) m value)
+  action_suits (action.Add property amount) there m replied = add_suits (row_of s token) property (first_of (row_of s token) property) amount
+  action_suits action.Stop there m replied = tt
+  action_suits action.Quit there m replied = tt
+
+-- the first one of those from a place on is the one there
+at_drop : {A : Type 0} (n : ℕ) (all : List A) (x : A) (rest : List A) → drop n all ≡ x ∷ rest → slice_get all n ≡ Some x
+at_drop zero [] x rest e = absurd cc
+at_drop zero (y ∷ all) x rest e = cc
+at_drop (suc n) [] x rest e = absurd cc
+at_drop (suc n) (y ∷ all) x rest e = at_drop n all x rest e
 
 -- ---- what it is and tells, as it goes on
 pub record Keeps (token reaction : ℕ) (i : InterpData) (s : DeskState) : Type 0 where
   pub token_is : i.token ≡ token
   pub reaction_is : i.reaction ≡ reaction
-  pub clear : IsClear i.stage i.words
-  pub aims : AimsAt i.stage s i.token i.reaction
+  pub clear : IsClear i.stage i.place i.words
+  pub aims : AimsAt i.stage s i.token i.reaction i.place
 
 -- behind a want, also where it has ended
 record KeepsClear (token reaction : ℕ) (i : InterpData) (s : DeskState) : Type 0 where
   token_is : i.token ≡ token
   reaction_is : i.reaction ≡ reaction
-  clear : ran_out i.words ≡ false
-  aims : AimsAt i.stage s i.token i.reaction
+  tells : Tells i.place i.words
+  aims : AimsAt i.stage s i.token i.reaction i.place
 
 -- where memory does not run out, no action finds none
 abbrev NextKeeps : ℕ → ℕ → Nexted → Type 0
@@ -203,29 +256,27 @@ NextKeeps token reaction (nexted w j v) = KeepsClear token reaction j v
 NextKeeps token reaction (failed j v) = ⊥
 
 abbrev GoesOnKeeping : List Action → Type 0
-GoesOnKeeping rest =
-    (before : List Action) (i : InterpData) (s : DeskState) → actions_of s i.token i.reaction ≡ before ++ rest → ran_out i.words ≡ false → NextKeeps i.token i.reaction (go_on None rest i s)
+GoesOnKeeping list =
+    (i : InterpData) (s : DeskState) → drop i.place (actions_of s i.token i.reaction) ≡ list → Tells i.place i.words → NextKeeps i.token i.reaction (go_on None list i s)
 
-carried_keeps : (rest : List Action) → GoesOnKeeping rest → (before : List Action) (d : Doing) (i : InterpData) (s : DeskState) → actions_of s i.token i.reaction ≡ before ++ rest → ran_out i.words ≡ false → IsSuited s i.token i.reaction d → NextKeeps i.token i.reaction (then_go_on (go_on None rest) (carried d i s))
-carried_keeps rest on before (says e) i s parts clear h = on before (past e i) s parts (ran_out-push i.words (word.Error e) ∙ h)
-carried_keeps rest on before (replies m) i s parts clear h = on before (past error.Ok (record i { reply = Some m })) s parts (ran_out-push i.words (word.Error error.Ok))
-carried_keeps rest on before (puts place value) i s parts clear h =
-    on before (past error.Ok i) (put s i.token place value) (actions-put s i.token i.reaction place value ∙ parts) (ran_out-push i.words (word.Error error.Ok))
-carried_keeps rest on before (sends to how m) i s parts clear h = record { token_is = refl; reaction_is = refl; clear = clear; aims = h }
-carried_keeps rest on before (finds w how m) i s parts clear h = record { token_is = refl; reaction_is = refl; clear = clear; aims = h }
-carried_keeps rest on before stops i s parts clear h = record { token_is = refl; reaction_is = refl; clear = ran_out-push i.words (word.Error error.Ok); aims = tt }
-carried_keeps rest on before quits i s parts clear h = on before (past error.Ok (record i { quit = true })) s parts (ran_out-push i.words (word.Error error.Ok))
+carried_keeps : (rest : List Action) → GoesOnKeeping rest → (d : Doing) (i : InterpData) (s : DeskState) → drop (i.place + 1) (actions_of s i.token i.reaction) ≡ rest → Tells i.place i.words → IsSuited s i.token i.reaction i.place d → NextKeeps i.token i.reaction (then_go_on (go_on None rest) (carried d i s))
+carried_keeps rest on (says e) i s behind t h = on (past e i) s behind (tells_error i.place i.words e h t)
+carried_keeps rest on (replies m) i s behind t h = on (past error.Ok (record i { reply = Some m })) s behind (tells_error i.place i.words error.Ok refl t)
+carried_keeps rest on (puts place value) i s behind t h =
+    on (past error.Ok i) (put s i.token place value) (ap (drop (i.place + 1)) (actions-put s i.token i.reaction place value) ∙ behind) (tells_error i.place i.words error.Ok refl t)
+carried_keeps rest on (sends to how m) i s behind t h = record { token_is = refl; reaction_is = refl; tells = t; aims = h }
+carried_keeps rest on (finds w how m) i s behind t h = record { token_is = refl; reaction_is = refl; tells = t; aims = h }
+carried_keeps rest on stops i s behind t h = record { token_is = refl; reaction_is = refl; tells = tells_error i.place i.words error.Ok refl t; aims = tt }
+carried_keeps rest on quits i s behind t h = on (past error.Ok (record i { quit = true })) s behind (tells_error i.place i.words error.Ok refl t)
 
 go_on_keeps : (list : List Action) → GoesOnKeeping list
-go_on_keeps [] before i s parts clear = record { token_is = refl; reaction_is = refl; clear = clear; aims = tt }
-go_on_keeps (a ∷ rest) before i s parts clear =
-    carried_keeps rest (go_on_keeps rest) (before ++ a ∷ []) (doing_of s i.token i.message (is_some i.reply) a) i s (parts ∙ sym (append_assoc before (a ∷ []) rest)) clear
-    (action_suits s i.token i.reaction before a rest parts i.message (is_some i.reply))
+go_on_keeps [] i s there t = record { token_is = refl; reaction_is = refl; tells = t; aims = tt }
+go_on_keeps (a ∷ rest) i s there t =
+    carried_keeps rest (go_on_keeps rest) (doing_of s i.token i.message (is_some i.reply) a) i s (next_drop i.place (actions_of s i.token i.reaction) a rest there) t
+    (action_suits s i.token i.reaction i.place a (at_drop i.place (actions_of s i.token i.reaction) a rest there) i.message (is_some i.reply))
 
-ready_keeps : (i : InterpData) (s : DeskState) → ran_out i.words ≡ false → NextKeeps i.token i.reaction (next_at stage.Ready None i s)
-ready_keeps i s clear =
-    let actions : List Action = actions_of s i.token i.reaction in
-    go_on_keeps (drop i.place actions) (take i.place actions) i s (sym (take-append-drop i.place actions)) clear
+ready_keeps : (i : InterpData) (s : DeskState) → Tells i.place i.words → NextKeeps i.token i.reaction (next_at stage.Ready None i s)
+ready_keeps i s t = go_on_keeps (drop i.place (actions_of s i.token i.reaction)) i s refl t
 
 -- nothing is wanted where it is done
 asks_none : {X : Type 0} (w : Want) (i j : InterpData) (s v : DeskState) → law.IsAsking w → nexted want.Done i s ≡ nexted w j v → X
@@ -233,25 +284,25 @@ asks_none w i j s v asking e =
     let same : want.Done ≡ w = cc in
     absurd (subst law.IsAsking (sym same) asking)
 
-wants_keeps : (at : Stage) (i : InterpData) (s : DeskState) (w : Want) (j : InterpData) (v : DeskState) → IsClear at i.words → AimsAt at s i.token i.reaction → law.IsAsking w → next_at at None i s ≡ nexted w j v → KeepsClear i.token i.reaction j v
+wants_keeps : (at : Stage) (i : InterpData) (s : DeskState) (w : Want) (j : InterpData) (v : DeskState) → IsClear at i.place i.words → AimsAt at s i.token i.reaction i.place → law.IsAsking w → next_at at None i s ≡ nexted w j v → KeepsClear i.token i.reaction j v
 wants_keeps stage.Ready i s w j v clear aims asking e = subst (NextKeeps i.token i.reaction) e (ready_keeps i s clear)
 wants_keeps (stage.Finding how m) i s w j v clear aims asking e = asks_none w _ j s v asking e
 wants_keeps (stage.Found looper how m) i s w j v clear aims asking e =
-    let here : NextKeeps i.token i.reaction (next_at (stage.Found looper how m) None i s) = record { token_is = refl; reaction_is = refl; clear = clear; aims = aims } in
+    let here : NextKeeps i.token i.reaction (next_at (stage.Found looper how m) None i s) = record { token_is = refl; reaction_is = refl; tells = clear; aims = aims } in
     subst (NextKeeps i.token i.reaction) e here
 wants_keeps (stage.Sent how) i s w j v clear aims asking e = asks_none w _ j s v asking e
 wants_keeps stage.Ended i s w j v clear aims asking e = asks_none w _ j s v asking e
 
 -- where an action found no memory, with memory the last word of what comes then does not tell so
 run_clear : (token reaction : ℕ) (n : Nexted) → NextKeeps token reaction n → ran_out (by_want unanswered [] n).words ≡ false
-run_clear token reaction (nexted want.Done j v) h = h.clear
-run_clear token reaction (nexted (want.Find w) j v) h = h.clear
-run_clear token reaction (nexted (want.Post to m back) j v) h = h.clear
-run_clear token reaction (nexted (want.Ask to m) j v) h = h.clear
-run_clear token reaction (nexted (want.Forward looper popped) j v) h = h.clear
+run_clear token reaction (nexted want.Done j v) h = h.tells.clear
+run_clear token reaction (nexted (want.Find w) j v) h = h.tells.clear
+run_clear token reaction (nexted (want.Post to m back) j v) h = h.tells.clear
+run_clear token reaction (nexted (want.Ask to m) j v) h = h.tells.clear
+run_clear token reaction (nexted (want.Forward looper popped) j v) h = h.tells.clear
 run_clear token reaction (failed j v) h = absurd h
 
-pub clear_without : (place : ℕ) (at : Stage) (i : InterpData) (s : DeskState) (j : InterpData) (v : DeskState) → IsClear at i.words → next_at at (Some place) i s ≡ failed j v → ran_out (by_want unanswered [] (next_at at None i s)).words ≡ false
+pub clear_without : (place : ℕ) (at : Stage) (i : InterpData) (s : DeskState) (j : InterpData) (v : DeskState) → IsClear at i.place i.words → next_at at (Some place) i s ≡ failed j v → ran_out (by_want unanswered [] (next_at at None i s)).words ≡ false
 clear_without place stage.Ready i s j v clear e = run_clear i.token i.reaction (next_at stage.Ready None i s) (ready_keeps i s clear)
 clear_without place (stage.Finding how m) i s j v clear e = absurd cc
 clear_without place (stage.Found looper how m) i s j v clear e = absurd cc
@@ -259,45 +310,56 @@ clear_without place (stage.Sent how) i s j v clear e = absurd cc
 clear_without place stage.Ended i s j v clear e = absurd cc
 
 -- ---- behind an answer
-past_keeps : (e : KitError) (i : InterpData) (s : DeskState) → is_no_memory (word.Error e) ≡ false → Keeps i.token i.reaction (past e i) s
-past_keeps e i s other = record { token_is = refl; reaction_is = refl; clear = ran_out-push i.words (word.Error e) ∙ other; aims = tt }
+past_keeps : (e : KitError) (i : InterpData) (s : DeskState) → is_no_memory (word.Error e) ≡ false → Tells i.place i.words → Keeps i.token i.reaction (past e i) s
+past_keeps e i s other t = record { token_is = refl; reaction_is = refl; clear = tells_error i.place i.words e other t; aims = tt }
 
-team_keeps : (how : Sending) (m : MessageData) (i : InterpData) (s : DeskState) (a : Answer) → AimsBy how s i.token i.reaction → Keeps i.token i.reaction (hear_of_team how m i a) s
-team_keeps how m i s (answer.Team team first) aims = record { token_is = refl; reaction_is = refl; clear = ran_out-push i.words (word.Team team); aims = aims }
-team_keeps how m i s answer.NoTeam aims = past_keeps error.NoTeam (with_word word.NoTeam i) s refl
-team_keeps how m i s (answer.Written at) aims = past_keeps error.NoTeam (with_word word.NoTeam i) s refl
-team_keeps how m i s answer.Full aims = past_keeps error.NoTeam (with_word word.NoTeam i) s refl
-team_keeps how m i s answer.Closed aims = past_keeps error.NoTeam (with_word word.NoTeam i) s refl
-team_keeps how m i s answer.Spent aims = past_keeps error.NoTeam (with_word word.NoTeam i) s refl
-team_keeps how m i s answer.TooLong aims = past_keeps error.NoTeam (with_word word.NoTeam i) s refl
-team_keeps how m i s (answer.Reply flat said) aims = past_keeps error.NoTeam (with_word word.NoTeam i) s refl
-team_keeps how m i s answer.NoMemory aims = record { token_is = refl; reaction_is = refl; clear = tt; aims = tt }
+no_team_keeps : (i : InterpData) (s : DeskState) → Tells i.place i.words → Keeps i.token i.reaction (past error.NoTeam (with_word word.NoTeam i)) s
+no_team_keeps i s t =
+    past_keeps error.NoTeam (with_word word.NoTeam i) s refl (record { clear = ran_out-push i.words word.NoTeam; told = t.told ∙ sym (told_no_team i.words) })
 
-send_keeps : (how : Sending) (i : InterpData) (s : DeskState) (a : Answer) → Keeps i.token i.reaction (hear_of_send how i s a).interp (hear_of_send how i s a).state
-send_keeps how i s answer.NoMemory = record { token_is = refl; reaction_is = refl; clear = tt; aims = tt }
-send_keeps (sending.Post back) i s (answer.Team team first) = past_keeps error.Ok i s refl
-send_keeps (sending.Post back) i s answer.NoTeam = past_keeps error.NoTeam i s refl
-send_keeps (sending.Post back) i s (answer.Written at) = past_keeps error.Ok i s refl
-send_keeps (sending.Post back) i s answer.Full = past_keeps error.WouldBlock i s refl
-send_keeps (sending.Post back) i s answer.Closed = past_keeps error.BadPortId i s refl
-send_keeps (sending.Post back) i s answer.Spent = past_keeps error.Spent i s refl
-send_keeps (sending.Post back) i s answer.TooLong = past_keeps error.TooLong i s refl
-send_keeps (sending.Post back) i s (answer.Reply flat said) = past_keeps error.Ok i s refl
-send_keeps (sending.Ask into) i s (answer.Team team first) = past_keeps error.Ok i s refl
-send_keeps (sending.Ask into) i s answer.NoTeam = past_keeps error.NoTeam i s refl
-send_keeps (sending.Ask into) i s (answer.Written at) = past_keeps error.Ok i s refl
-send_keeps (sending.Ask into) i s answer.Full = past_keeps error.WouldBlock i s refl
-send_keeps (sending.Ask into) i s answer.Closed = past_keeps error.BadPortId i s refl
-send_keeps (sending.Ask into) i s answer.Spent = past_keeps error.Spent i s refl
-send_keeps (sending.Ask into) i s answer.TooLong = past_keeps error.TooLong i s refl
-send_keeps (sending.Ask into) i s (answer.Reply flat said) = record { token_is = refl; reaction_is = refl; clear = ran_out-push i.words (word.Reply flat); aims = tt }
+team_keeps : (how : Sending) (m : MessageData) (i : InterpData) (s : DeskState) (a : Answer) → AimsBy how s i.token i.reaction i.place → Tells i.place i.words → Keeps i.token i.reaction (hear_of_team how m i a) s
+team_keeps how m i s (answer.Team team first) aims t =
+    record { token_is = refl; reaction_is = refl; clear = record { clear = ran_out-push i.words (word.Team team); told = t.told ∙ sym (told_team i.words team) }; aims = aims }
+team_keeps how m i s answer.NoTeam aims t = no_team_keeps i s t
+team_keeps how m i s (answer.Written at) aims t = no_team_keeps i s t
+team_keeps how m i s answer.Full aims t = no_team_keeps i s t
+team_keeps how m i s answer.Closed aims t = no_team_keeps i s t
+team_keeps how m i s answer.Spent aims t = no_team_keeps i s t
+team_keeps how m i s answer.TooLong aims t = no_team_keeps i s t
+team_keeps how m i s (answer.Reply flat said) aims t = no_team_keeps i s t
+team_keeps how m i s answer.NoMemory aims t = record { token_is = refl; reaction_is = refl; clear = tt; aims = tt }
 
-gives_keep : (at : Stage) (i : InterpData) (s : DeskState) (a : Answer) → AimsAt at s i.token i.reaction → AnswersStage at a → Keeps i.token i.reaction (give_at at i s a).interp (give_at at i s a).state
-gives_keep stage.Ready i s a aims h = absurd h
-gives_keep (stage.Finding how m) i s a aims h = team_keeps how m i s a aims
-gives_keep (stage.Found looper how m) i s a aims h = absurd h
-gives_keep (stage.Sent how) i s a aims h = send_keeps how i s a
-gives_keep stage.Ended i s a aims h = absurd h
+send_keeps : (how : Sending) (i : InterpData) (s : DeskState) (a : Answer) → Tells i.place i.words → Keeps i.token i.reaction (hear_of_send how i s a).interp (hear_of_send how i s a).state
+send_keeps how i s answer.NoMemory t = record { token_is = refl; reaction_is = refl; clear = tt; aims = tt }
+send_keeps (sending.Post back) i s (answer.Team team first) t = past_keeps error.Ok i s refl t
+send_keeps (sending.Post back) i s answer.NoTeam t = past_keeps error.NoTeam i s refl t
+send_keeps (sending.Post back) i s (answer.Written at) t = past_keeps error.Ok i s refl t
+send_keeps (sending.Post back) i s answer.Full t = past_keeps error.WouldBlock i s refl t
+send_keeps (sending.Post back) i s answer.Closed t = past_keeps error.BadPortId i s refl t
+send_keeps (sending.Post back) i s answer.Spent t = past_keeps error.Spent i s refl t
+send_keeps (sending.Post back) i s answer.TooLong t = past_keeps error.TooLong i s refl t
+send_keeps (sending.Post back) i s (answer.Reply flat said) t = past_keeps error.Ok i s refl t
+send_keeps (sending.Ask into) i s (answer.Team team first) t = past_keeps error.Ok i s refl t
+send_keeps (sending.Ask into) i s answer.NoTeam t = past_keeps error.NoTeam i s refl t
+send_keeps (sending.Ask into) i s (answer.Written at) t = past_keeps error.Ok i s refl t
+send_keeps (sending.Ask into) i s answer.Full t = past_keeps error.WouldBlock i s refl t
+send_keeps (sending.Ask into) i s answer.Closed t = past_keeps error.BadPortId i s refl t
+send_keeps (sending.Ask into) i s answer.Spent t = past_keeps error.Spent i s refl t
+send_keeps (sending.Ask into) i s answer.TooLong t = past_keeps error.TooLong i s refl t
+send_keeps (sending.Ask into) i s (answer.Reply flat said) t =
+    record {
+      token_is = refl;
+      reaction_is = refl;
+      clear = record { clear = ran_out-push i.words (word.Reply flat); told = ap (λ (n : ℕ). n + 1) t.told ∙ sym (told_reply i.words flat) };
+      aims = tt;
+    }
+
+gives_keep : (at : Stage) (i : InterpData) (s : DeskState) (a : Answer) → AimsAt at s i.token i.reaction i.place → IsClear at i.place i.words → AnswersStage at a → Keeps i.token i.reaction (give_at at i s a).interp (give_at at i s a).state
+gives_keep stage.Ready i s a aims t h = absurd h
+gives_keep (stage.Finding how m) i s a aims t h = team_keeps how m i s a aims t
+gives_keep (stage.Found looper how m) i s a aims t h = absurd h
+gives_keep (stage.Sent how) i s a aims t h = send_keeps how i s a t
+gives_keep stage.Ended i s a aims t h = absurd h
 
 -- ---- from the beginning on
 abbrev pub TaskKeeps : ℕ → ℕ → Task → DeskState → Type 0
@@ -309,7 +371,7 @@ module _ (s0 : DeskState) (m : MessageData) (token reaction : ℕ) where
   first = task.Reaction (started m token reaction)
 
   pub keeps_on : (asked : List Want) (heard : List Answer) (t : Task) (s : DeskState) → Comes s0 first asked heard t s → TaskKeeps token reaction t s
-  keeps_on _ _ _ _ the.begun = record { token_is = refl; reaction_is = refl; clear = refl; aims = tt }
+  keeps_on _ _ _ _ the.begun = record { token_is = refl; reaction_is = refl; clear = record { clear = refl; told = refl }; aims = tt }
   keeps_on _ _ _ _ (the.wanted asked heard (task.Reaction i) s w u v c may asking e) =
       let n = next_is (next_of None i s) w u v e in
       let before : Keeps token reaction i s = keeps_on asked heard (task.Reaction i) s c in
@@ -318,13 +380,13 @@ module _ (s0 : DeskState) (m : MessageData) (token reaction : ℕ) where
       record {
         token_is = after.token_is ∙ before.token_is;
         reaction_is = after.reaction_is ∙ before.reaction_is;
-        clear = clear_at n.interp.stage n.interp.words after.clear;
+        clear = clear_at n.interp.stage n.interp.place n.interp.words after.tells;
         aims = after.aims;
       } in
       subst (λ (x : Task). TaskKeeps token reaction x v) (sym n.task_is) kept
   keeps_on _ _ _ _ (the.given asked heard (task.Reaction i) s a c h) =
       let before : Keeps token reaction i s = keeps_on asked heard (task.Reaction i) s c in
-      let after = gives_keep i.stage i s a before.aims h in
+      let after = gives_keep i.stage i s a before.aims before.clear h in
       record { token_is = after.token_is ∙ before.token_is; reaction_is = after.reaction_is ∙ before.reaction_is; clear = after.clear; aims = after.aims }
   keeps_on _ _ _ _ (the.wanted asked heard (task.Property at place said) s w u v c may asking e) = absurd (keeps_on asked heard (task.Property at place said) s c)
   keeps_on _ _ _ _ (the.wanted asked heard (task.BuiltIn at said) s w u v c may asking e) = absurd (keeps_on asked heard (task.BuiltIn at said) s c)
@@ -373,7 +435,8 @@ none_comes before t0 _ _ _ _ (the.given asked heard t s a c takes) h = none_hear
 -- the route is to that reaction of that handler, and what is asked goes by it
 pub record IsRouted (r : Route) (i : InterpData) (s : DeskState) : Type 0 where
   pub route_is : r ≡ route.Deliver i.token (taker.Reaction i.reaction)
-  pub aims : AimsAt i.stage s i.token i.reaction
+  pub clear : IsClear i.stage i.place i.words
+  pub aims : AimsAt i.stage s i.token i.reaction i.place
 
 pub routed_so : (s0 : DeskState) (m : MessageData) (r : Route) (asked : List Want) (heard : List Answer) (i : InterpData) (s : DeskState) → Comes s0 (task_by s0.first m r) asked heard (task.Reaction i) s → IsRouted r i s
 routed_so s0 m (route.Deliver token (taker.Reaction place)) asked heard i s c =
@@ -382,6 +445,7 @@ routed_so s0 m (route.Deliver token (taker.Reaction place)) asked heard i s c =
       route_is =
           ap (λ (n : ℕ). route.Deliver n (taker.Reaction place)) (sym kept.token_is)
           ∙ ap (λ (n : ℕ). route.Deliver i.token (taker.Reaction n)) (sym kept.reaction_is);
+      clear = kept.clear;
       aims = kept.aims;
     }
 routed_so s0 m (route.Deliver token (taker.Property place)) asked heard i s c = absurd (none_comes s0 (task.Property token place m) asked heard (task.Reaction i) s c tt)

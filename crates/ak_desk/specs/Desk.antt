@@ -1,5 +1,5 @@
 -- What contracts see of a desk, and what each call makes of it.
-use Rattle.std.specs.Prelude.{◌≡◌, ℕ, ◌+◌, ◌≤◌, Bool, true, false, is_some, if◌then◌else◌, max, List, [], ◌∷◌, ◌++◌, Option, None, Some, IsSome, option_map}
+use Rattle.std.specs.Prelude.{◌≡◌, ℕ, ◌+◌, ◌≤◌, Bool, true, false, is_some, if◌then◌else◌, max, List, [], ◌∷◌, ◌++◌, Option, None, Some, IsSome, option_map, slice_get}
 use Rattle.ak_flatten.specs.Item.{ItemData, message_of}
 use Rattle.ak_flatten.specs.declared.item.Taken.{Taken}
 use Rattle.ak_turn.specs.declared.clock.Clock.{Clock}
@@ -8,11 +8,11 @@ use Rattle.ak_message.specs.Fields.{specifier_count}
 use Rattle.ak_message.specs.Message.{MessageData}
 use Rattle.ak_route.specs.declared.outcome.Route.TheVariants as routes
 use Rattle.ak_route.specs.declared.outcome.Taker.TheVariants as taker
-use Rattle.ak_action.specs.declared.action.Action.{Action}
 use Rattle.ak_action.specs.declared.action.Action.TheVariants as action
 use Rattle.ak_action.specs.declared.action.Dest.{Dest}
 use Rattle.ak_action.specs.declared.answer.Answer.{Answer}
 use Rattle.ak_action.specs.declared.answer.AnswerWord.{AnswerWord}
+use Rattle.ak_action.specs.declared.answer.AnswerWord.TheVariants as answer_word
 use Rattle.ak_action.specs.declared.answer.Answer.TheVariants as answer
 use Rattle.ak_action.specs.declared.answer.Want.{Want}
 use Rattle.ak_action.specs.declared.answer.Want.TheVariants as want
@@ -144,24 +144,31 @@ FailsFrom None b s b' s' = RunsOut b b' s'
 abbrev pub Fails : BegunData → DeskState → BegunData → DeskState → Type 0
 Fails b s b' s' = FailsFrom b.came b s b' s'
 
--- an ask among the actions of that reaction of the handler has the result of its reply go there: into that property, or nowhere
-pub record AsksInto (s : DeskState) (token reaction : ℕ) (into : Option ℕ) : Type 0 where
-  pub before : List Action
+-- the action at that place of that reaction of the handler asks, and has the result of its reply go there: into that property, or
+-- nowhere
+pub record AsksInto (s : DeskState) (token reaction place : ℕ) (into : Option ℕ) : Type 0 where
   pub to : Dest
   pub message : Template
   pub property : Option (List ℕ)
-  pub behind : List Action
-  pub parts : actions_of s token reaction ≡ before ++ action.Ask to message property ∷ behind
+  pub action_is : slice_get (actions_of s token reaction) place ≡ Some (action.Ask to message property)
   pub into_is : into ≡ into_place (row_of s token) property
 
--- the result of the reply goes where an ask of the reaction that is carried out has it go
+-- how many actions are carried out, by the words for them: an application that is looked for is a word of its own before the last one
+abbrev pub actions_told : List AnswerWord → ℕ
+actions_told [] = 0
+actions_told (answer_word.Error e ∷ words) = actions_told words + 1
+actions_told (answer_word.Reply flat ∷ words) = actions_told words + 1
+actions_told (answer_word.Team team ∷ words) = actions_told words
+actions_told (answer_word.NoTeam ∷ words) = actions_told words
+
+-- the result of the reply goes where the ask that waits has it go: the action of the reaction behind those that are carried out
 pub record TakesIn (m : MessageData) (b : BegunData) (s s' : DeskState) : Type 0 where
   pub token : ℕ
   pub reaction : ℕ
   pub goes_to : b.route ≡ entry.To token
   pub routed : (routed_of b.before b.item).route ≡ routes.Deliver token (taker.Reaction reaction)
   pub into : Option ℕ
-  pub asks : AsksInto s token reaction into
+  pub asks : AsksInto s token reaction (actions_told (dispatch_of b.before b.item b.heard None).words) into
   pub state : s' ≡ taken_in s token into m
 
 -- another answer leaves the handlers as they are

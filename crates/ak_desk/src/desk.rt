@@ -163,6 +163,8 @@ impl Desk {
         ensures given { Turns (Hears a) self.old self.new }
         ensures goes_on { DeskMayWant self.new }
     {
+        ak_action::runs_act();
+        ak_action::calls_act();
         let alloc = *self.lines.allocator();
         if let Some(begun) = &mut self.begun {
             begun.give(alloc, &mut self.state, a);
