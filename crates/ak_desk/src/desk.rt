@@ -132,8 +132,8 @@ impl Desk {
 
     /// Goes on with the message that is begun until something is wanted from outside, which is answered; `give`
     /// comes next then. `Done` where nothing is left to do; `end` comes next then. `NoMemory` where memory ran
-    /// out, at an action or at the reply. The last word is that then, nothing more is done, what was done
-    /// before stays, and `end` comes next.
+    /// out in this call, at an action or at the reply. The last word is that then, nothing more is done, what
+    /// was done before stays, and `end` comes next. Behind an answer that tells of want of memory it is `Done`.
     pub fn want(&mut self) -> Result<Want, NoMemory>
         requires { DeskMayWant self.old }
         ensures opening { self.new.opening ≡ self.old.opening }
@@ -154,8 +154,9 @@ impl Desk {
         Ok(Want::Done)
     }
 
-    /// Hands it the answer to the last want, one that fits that want; `want` comes next. The answer may set a
-    /// property, as that of an `ask` does. Takes no memory.
+    /// Hands it the answer to the last want, one that fits that want; `want` comes next. The result of a reply
+    /// goes into the property that the ask names, where it names one. No other answer changes the handlers.
+    /// Takes no memory.
     pub fn give(&mut self, a: Answer)
         requires { DeskTakes self.old a }
         ensures opening { self.new.opening ≡ self.old.opening }
