@@ -11,4 +11,5 @@ pub mod Starting
 pub mod Locking
 pub mod Finishing
 pub mod Knowing
+pub mod NewSeats
 pub mod Calls

@@ -9,10 +9,10 @@ use Rattle.ak_turn.specs.Lines.{places, places_from, AreByOthers}
 use Rattle.ak_turn.specs.Rule.{IsKnown}
 
 module _ {L : Type 0} (by : L → ℕ) (thread : ℕ) where
-  own_first : (n : ℕ) (x : L) (xs : List L) → by x ≡ thread → places_from by thread n (x ∷ xs) ≡ n ∷ places_from by thread (suc n) xs
+  pub own_first : (n : ℕ) (x : L) (xs : List L) → by x ≡ thread → places_from by thread n (x ∷ xs) ≡ n ∷ places_from by thread (suc n) xs
   own_first n x xs e = ap (λ b. cond b (n ∷ places_from by thread (suc n) xs) (places_from by thread (suc n) xs)) (eq-eqb (by x) thread e)
 
-  other_first : (n : ℕ) (x : L) (xs : List L) → by x ≢ thread → places_from by thread n (x ∷ xs) ≡ places_from by thread (suc n) xs
+  pub other_first : (n : ℕ) (x : L) (xs : List L) → by x ≢ thread → places_from by thread n (x ∷ xs) ≡ places_from by thread (suc n) xs
   other_first n x xs e = ap (λ b. cond b (n ∷ places_from by thread (suc n) xs) (places_from by thread (suc n) xs)) (ne_eqb (by x) thread e)
 
   places_from-append : (n : ℕ) (xs ys : List L) → places_from by thread n (xs ++ ys) ≡ places_from by thread n xs ++ places_from by thread (n + length xs) ys

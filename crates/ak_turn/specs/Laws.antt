@@ -1,9 +1,10 @@
 -- What holds of all seats.
-use Rattle.std.specs.Prelude.{◌≡◌, ℕ, List}
+use Rattle.std.specs.Prelude.{◌≡◌, ℕ, List, All, None, filter_map, slice_get}
 use Rattle.ak_turn.specs.declared.view.Part.{Part}
-use Rattle.ak_turn.specs.Lines.{made_by}
+use Rattle.ak_turn.specs.Lines.{made_by, places}
 use Rattle.ak_turn.specs.Rule.{IsKnown}
-use Rattle.ak_turn.specs.Seats.{SeatData, HasSeen, HasCalled}
+use Rattle.ak_turn.specs.Seats.{LockId, SeatData, HasSeen, HasCalled, KnowsWhole, first_seat, new_seat, titled_seat}
+use Rattle.ak_turn.specs.Steps.{IsNewName, names_with}
 
 -- a seat that has seen, and then has seen, has seen
 abbrev pub SeenThenSeen : (O L : Type 0) → (L → ℕ) → Type 0
@@ -16,3 +17,19 @@ SeenThenCalled O L by = (line : L) (a b c : SeatData O L) → HasSeen by a b →
 -- what a thread made is what is known of it
 abbrev pub KnownIsMade : (L : Type 0) → (L → ℕ) → Type 0
 KnownIsMade L by = (lines : List L) (part : Part L) → IsKnown by lines part → made_by by part.thread lines ≡ made_by by part.thread part.front
+
+-- at the places of its own a seat that knows its list has just the lines that its thread made, in their order
+abbrev pub OwnIsMade : (O L : Type 0) → (L → ℕ) → Type 0
+OwnIsMade O L by = (seat : SeatData O L) → KnowsWhole by seat → filter_map (slice_get seat.front) seat.own ≡ made_by by seat.thread seat.front
+
+-- the first seat of a lock knows its list, all of which is its thread's
+abbrev pub FirstSeatsKnow : (O L : Type 0) → (L → ℕ) → Type 0
+FirstSeatsKnow O L by = (lock : LockId) (opening : O) (lines : List L) (thread : ℕ) → All (λ line. by line ≡ thread) lines → KnowsWhole by (first_seat lock opening lines (places by thread lines) thread)
+
+-- a head that knows its list is split for a new thread: the new seat knows it, and so does the head still
+abbrev pub SplitSeatsKnow : (O L : Type 0) → (L → ℕ) → Type 0
+SplitSeatsKnow O L by = (seat : SeatData O L) (thread : ℕ) → KnowsWhole by seat → IsNewName seat.names thread → KnowsWhole by (new_seat thread None seat) × KnowsWhole by (titled_seat (names_with seat.names thread) seat)
+
+-- the same where the new seat is the head from then on
+abbrev pub SplitHeadsKnow : (O L : Type 0) → (L → ℕ) → Type 0
+SplitHeadsKnow O L by = (seat : SeatData O L) (thread : ℕ) → KnowsWhole by seat → IsNewName seat.names thread → KnowsWhole by (new_seat thread (names_with seat.names thread) seat) × KnowsWhole by (titled_seat None seat)

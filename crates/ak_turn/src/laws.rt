@@ -6,9 +6,19 @@ ghost use Rattle.ak_turn.specs.Lines.{maker};
 use crate::book::Book;
 
 /// Calls of one seat, one after another. Where it has seen and then has seen, it has seen. Where it has seen
-/// and then has called, it has called. What a thread made is what is known of it.
+/// and then has called, it has called. What a thread made is what is known of it. A seat that knows its list
+/// has at the places of its own just what its thread made.
 pub fn fronts_go_on<B: Book>()
     ensures seen { law.SeenThenSeen B.Opening B.Line (maker B.plain B.by) }
     ensures called { law.SeenThenCalled B.Opening B.Line (maker B.plain B.by) }
     ensures made { law.KnownIsMade B.Line (maker B.plain B.by) }
+    ensures own { law.OwnIsMade B.Opening B.Line (maker B.plain B.by) }
+{}
+
+/// The first seat of a lock knows its list. Where a head that knows its list is split for a new thread, so does
+/// each of the two seats.
+pub fn new_seats_know<B: Book>()
+    ensures first { law.FirstSeatsKnow B.Opening B.Line (maker B.plain B.by) }
+    ensures split { law.SplitSeatsKnow B.Opening B.Line (maker B.plain B.by) }
+    ensures split_head { law.SplitHeadsKnow B.Opening B.Line (maker B.plain B.by) }
 {}
