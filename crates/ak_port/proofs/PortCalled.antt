@@ -1,11 +1,14 @@
 -- Calls of a shared port: what a turn comes to, and calls that try again.
-use Rattle.std.proofs.Common.{◌≡◌, ℕ, Bool, false, ◌++◌, ◌∷◌, [], List, Option, Some, None, length, refl, sym, ap, ◌∙◌, subst, arith}
+use Rattle.std.proofs.Common.{◌≡◌, ℕ, Bool, false, ◌++◌, ◌∷◌, [], List, Option, Some, None, All, length, refl, sym, ap, ◌∙◌, subst, arith}
 use Rattle.std.specs.Prelude.{IfSome, IsSomeAnd}
 use Rattle.ak_base.specs.declared.thread.ThreadId.{ThreadId}
 use Rattle.ak_flatten.specs.Item.{ItemData}
 use Rattle.ak_turn.specs.declared.clock.Clock.{Clock}
-use Rattle.ak_turn.specs.Seats.{HasCalled, IsGiven, at_leisure, entered_by, with_own}
+use Rattle.std.proofs.lemmas.List.Elements.{All-cons, All-nil}
+use Rattle.ak_turn.specs.Lines.{places}
+use Rattle.ak_turn.specs.Seats.{LockId, HasCalled, IsGiven, KnowsWhole, at_leisure, entered_by, first_seat, with_own}
 use Rattle.ak_turn.proofs.Calls.{seen_then_seen, seen_then_called}
+use Rattle.ak_turn.proofs.NewSeats.{first_knows}
 use Rattle.ak_port.specs.declared.port_entry.PortEvent.{PortEvent}
 use Rattle.ak_port.specs.declared.port_entry.PortEntry.{PortEntry}
 use Rattle.ak_port.specs.declared.port_entry.PortEvent.TheVariants as event
@@ -13,9 +16,9 @@ use Rattle.ak_port.specs.declared.port_entry.Refusal.{Refusal}
 use Rattle.ak_port.specs.declared.port_entry.Refusal.TheVariants as refusal
 use Rattle.ak_port.specs.declared.port_entry.WriteAnswer.{WriteAnswer}
 use Rattle.ak_port.specs.declared.port_entry.WriteAnswer.TheVariants as written
-use Rattle.ak_port.specs.PortCalls.{PortData, PortSeat, by_number, entry_now, clock_after, write_entry, HasAdded, HasAnswered, HasAnsweredAtTurn, HasEntered, HasLooked, IfRefused, IsAtPort, IsPortBook}
+use Rattle.ak_port.specs.PortCalls.{PortData, PortSeat, by_number, entry_now, clock_after, making, write_entry, HasAdded, HasAnswered, HasAnsweredAtTurn, HasEntered, HasLooked, IfNoMemory, IfRefused, IsAtPort, IsPortBook}
 use Rattle.ak_port.specs.PortLaws.{IsOfWrite}
-use Rattle.ak_port.specs.PortMachine.{PortState, AreSteps, IsPort, IsAllowed, refusal_of, refused_event, state_of, unmade, write_event}
+use Rattle.ak_port.specs.PortMachine.{PortState, AreSteps, IsPort, IsAllowed, LacksRoom, refusal_of, refused_event, state_of, unmade, write_event}
 use Rattle.ak_port.specs.SeatKept.{KeepsSeat}
 use Rattle.ak_port.proofs.PortReplays.{AreSteps-behind, state_of-push}
 use Rattle.ak_port.proofs.PortSound.{refused_stays}
@@ -42,6 +45,24 @@ turn_keeps (Some event) k l b c answered =
       record { lock = ap (λ s. s.lock) after; opening = ap (λ s. s.opening) after; thread = ap (λ s. s.thread) after; joined = ap (λ s. s.joined) after; turn = ap (λ s. s.turn) after; names = ap (λ s. s.names) after },
       ap (λ t. t.thread) answered.1,
     )
+
+-- the port's history then
+pub port_after_turn : (e : Option PortEvent) (k l : Clock) (p p' : PortData) (b c : PortSeat) → HasAdded e k l p p' → p.entries ≡ b.front → b.opening ≡ Some p.taker → HasAnsweredAtTurn e k l b c → IsPortBook p' → IsAtPort c
+port_after_turn None k l p p' b c added list opening answered port =
+    subst (λ (s : PortSeat). IsAtPort s) (sym answered.0)
+    (subst (λ o. IsSomeAnd o (λ (t : ThreadId). IsPort t.0 b.front)) (sym opening) (subst (IsPort p.taker.0) list (subst (λ (q : PortData). IsPortBook q) added.0 port)))
+port_after_turn (Some event) k l p p' b c added list opening answered port =
+    subst (λ (s : PortSeat). IsAtPort s) (sym answered.0)
+    (subst (λ o. IsSomeAnd o (λ (t : ThreadId). IsPort t.0 (b.front ++ entry_now k b.front event ∷ []))) (sym opening)
+    (subst (λ (xs : List PortEntry). IsPort p.taker.0 (xs ++ entry_now k xs event ∷ [])) list (subst (λ (q : PortData). IsPortBook q) added.0 port)))
+
+-- where memory ran out it has room if it had
+pub wanting_room : (answer : WriteAnswer) (item : ItemData) (k l : Clock) (b c : PortSeat) → HasAnsweredAtTurn (write_entry answer item) k l b c → ¬ (LacksRoom b.front) → IfNoMemory answer (¬ (LacksRoom c.front))
+wanting_room (written.Wrote p) item k l b c answered room = tt
+wanting_room (written.Closed back) item k l b c answered room = tt
+wanting_room (written.Spent back) item k l b c answered room = tt
+wanting_room (written.Full back) item k l b c answered room = tt
+wanting_room (written.NoMemory back) item k l b c answered room = λ lacks. room (subst (λ (s : PortSeat). LacksRoom s.front) answered.0 lacks)
 
 -- what was answered in the turn, as it was before the turn was given
 pub answered_at_turn : (e : Option PortEvent) (k l : Clock) (a b c : PortSeat) → a.turn ≡ false → a.thread ≡ k.thread.0 → IsGiven by_number a b → HasAnsweredAtTurn e k l b c → HasAnswered e k l a c
@@ -157,3 +178,13 @@ answered_keeps (Some event) k l a b answered =
       record { lock = ap (λ s. s.lock) after; opening = ap (λ s. s.opening) after; thread = ap (λ s. s.thread) after; joined = ap (λ s. s.joined) after; turn = ap (λ s. s.turn) after; names = ap (λ s. s.names) after },
       ap (λ t. t.thread) answered.clocked,
     )
+
+-- ---- a new port
+-- its first seat knows its list
+pub knows_made : (seat : PortSeat) (lock : LockId) (taker : ThreadId) (book : PortData) (clock : Clock) (capacity life : ℕ) → book ≡ record { taker = taker; entries = making clock capacity life ∷ [] }
+    → seat ≡ first_seat lock book.taker book.entries (places by_number clock.thread.0 book.entries) clock.thread.0 → KnowsWhole by_number seat
+knows_made seat lock taker book clock capacity life is after =
+    subst (λ (s : PortSeat). KnowsWhole by_number s) (sym after)
+    (first_knows by_number lock book.taker book.entries clock.thread.0
+    (subst (λ (p : PortData). All (λ (line : PortEntry). by_number line ≡ clock.thread.0) p.entries) (sym is)
+    (All-cons (λ (line : PortEntry). by_number line ≡ clock.thread.0) (making clock capacity life) [] refl (All-nil (λ (line : PortEntry). by_number line ≡ clock.thread.0)))))

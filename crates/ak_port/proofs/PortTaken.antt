@@ -1,18 +1,24 @@
 -- What a taker has taken: its own takes alone add to it.
-use Rattle.std.proofs.Common.{◌≡◌, ◌≢◌, ℕ, ◌+◌, ◌≤◌, List, [], ◌∷◌, ◌++◌, length, take, drop, Some, refl, sym, ap, ◌∙◌, subst, arith, append-nil}
+use Rattle.std.proofs.Common.{◌≡◌, ◌≢◌, ℕ, ◌+◌, ◌≤◌, false, List, [], ◌∷◌, ◌++◌, length, take, drop, Option, Some, None, refl, sym, ap, ◌∙◌, subst, arith, append-nil}
 use Rattle.std.specs.Prelude.{IsSomeAnd}
 use Rattle.std.proofs.lemmas.List.{drop_all, take-append-le}
 use Rattle.std.proofs.lemmas.List.Elements.{All-head, All-tail}
 use Rattle.ak_base.specs.declared.thread.ThreadId.{ThreadId}
 use Rattle.ak_turn.specs.declared.clock.Clock.{Clock}
 use Rattle.ak_turn.specs.Lines.{AreByOthers}
-use Rattle.ak_turn.specs.Seats.{IsGiven}
+use Rattle.ak_turn.specs.Seats.{IsGiven, at_leisure, at_turn, later}
 use Rattle.ak_port.specs.declared.port_entry.PortEntry.{PortEntry}
 use Rattle.ak_port.specs.declared.port_entry.PortEvent.{PortEvent}
 use Rattle.ak_port.specs.declared.port_entry.PortEvent.TheVariants as event
 use Rattle.ak_port.specs.declared.port_entry.TakeAnswer.{TakeAnswer}
 use Rattle.ak_port.specs.declared.port_entry.TakeAnswer.TheVariants as taken
-use Rattle.ak_port.specs.PortCalls.{PortData, IsPortBook, PortSeat, by_number, entry_now, HasEntered, IfRest, IfTook, IsAtPort, take_event, take_count}
+use Rattle.ak_port.specs.declared.port_entry.WriteAnswer.{WriteAnswer}
+use Rattle.ak_port.specs.declared.port_entry.WriteAnswer.TheVariants as written
+use Rattle.ak_port.specs.declared.port_entry.CloseAnswer.{CloseAnswer}
+use Rattle.ak_port.specs.declared.port_entry.CloseAnswer.TheVariants as closed
+use Rattle.ak_flatten.specs.Item.{ItemData}
+use Rattle.ak_port.specs.PortCalls.{PortData, IsPortBook, PortSeat, by_number, close_entry, entry_now, write_entry, HasAnswered, HasAnsweredAtTurn, HasEntered, IfRest, IfTook, IsAtPort, KeepsTaken, take_event, take_count}
+use Rattle.ak_port.specs.TakerLaws.{IsNoTake, takes_items}
 use Rattle.ak_port.specs.PortMachine.{PortState, PortStep, AreSteps, IsPort, IsAllowed, IsRested, replayed, state_after, state_of, unmade, numbered, taken_items, pending_items, last_taken, written_in}
 use Rattle.ak_port.proofs.PortItems.{each_once, oldest_first, taken_more, take-numbered}
 use Rattle.ak_port.proofs.PortLimits.{IsReached, reached_step, unmade_reached, reached_by}
@@ -157,3 +163,69 @@ told_at_end thread a b book now is list opened opening own given port =
     let port' : IsPort thread.0 (a.front ++ given.between) = subst (IsPort thread.0) whole (subst (λ (t : ThreadId). IsPort t.0 now.entries) (ap (λ p. p.taker) is ∙ taker) port) in
     let others : AreByOthers by_number thread.0 given.between = subst (λ (t : ℕ). AreByOthers by_number t given.between) own given.others in
     ap written_in whole ∙ taken_then_pending thread.0 a.front given.between others port' ∙ ap (λ l. taken_items (state_of a.front) ++ pending_items (state_of l)) (sym whole)
+
+-- ---- other calls of the taker's own
+-- what is no take takes nothing
+plain_step : (s : PortState) (e : PortEvent) → IsReached s → takes_items e ≡ false → taken_items (state_after s e) ≡ taken_items s
+plain_step s (event.Made capacity life) reached plain = refl
+plain_step s (event.Written p item) reached plain = ap (numbered 0) (take-append-le s.taken s.written (item ∷ []) reached.within.taken)
+plain_step s event.Full reached plain = refl
+plain_step s event.Refused reached plain = refl
+plain_step s event.Spent reached plain = refl
+plain_step s (event.Took k) reached plain = absurd (cc)
+plain_step s (event.Rest k) reached plain = absurd (cc)
+plain_step s event.Shut reached plain = refl
+
+-- entries of others, and then one that is no take
+taken_plain : (taker : ℕ) (xs ys : List PortEntry) (x : PortEntry) → AreByOthers by_number taker ys → takes_items x.event ≡ false → IsPort taker ((xs ++ ys) ++ x ∷ []) → taken_items (state_of ((xs ++ ys) ++ x ∷ [])) ≡ taken_items (state_of xs)
+taken_plain taker xs ys x others plain port =
+    let mid = xs ++ ys in
+    let steps = AreSteps-before taker unmade mid (x ∷ []) port.steps in
+    let seen = reached_by taker unmade xs unmade_reached (AreSteps-before taker unmade xs ys steps) in
+    ap taken_items (state_of-push mid x) ∙ plain_step (state_of mid) x.event (reached_by taker unmade mid unmade_reached steps) plain
+    ∙ ap taken_items (replayed-append unmade xs ys) ∙ others_by taker (state_of xs) ys others seen (AreSteps-behind taker unmade xs ys steps)
+
+port_at : (thread : ThreadId) (a c : PortSeat) → c.opening ≡ a.opening → a.opening ≡ Some thread → IsAtPort c → IsPort thread.0 c.front
+port_at thread a c same opening at = subst (λ o. IsSomeAnd o (λ (t : ThreadId). IsPort t.0 c.front)) (same ∙ opening) at
+
+-- the seat's front went on by entries of others
+kept_seen : (a c : PortSeat) (between : List PortEntry) → c.opening ≡ a.opening → c.front ≡ a.front ++ between → AreByOthers by_number a.thread between → IsAtPort c → KeepsTaken a c
+kept_seen a c between same front others at = λ thread opening is.
+    ap (λ (l : List PortEntry). taken_items (state_of l)) front
+    ∙ taken_stays thread.0 a.front between (subst (λ (t : ℕ). AreByOthers by_number t between) is others) (subst (IsPort thread.0) front (port_at thread a c same opening at))
+
+-- and then by its own
+kept_more : (a c : PortSeat) (between : List PortEntry) (x : PortEntry) → c.opening ≡ a.opening → c.front ≡ (a.front ++ between) ++ x ∷ [] → AreByOthers by_number a.thread between → takes_items x.event ≡ false → IsAtPort c → KeepsTaken a c
+kept_more a c between x same front others plain at = λ thread opening is.
+    ap (λ (l : List PortEntry). taken_items (state_of l)) front
+    ∙ taken_plain thread.0 a.front between x (subst (λ (t : ℕ). AreByOthers by_number t between) is others) plain (subst (IsPort thread.0) front (port_at thread a c same opening at))
+
+pub kept_taken : (e : Option PortEvent) (clock clock' : Clock) (a c : PortSeat) → HasAnswered e clock clock' a c → IsNoTake e → IsAtPort c → KeepsTaken a c
+kept_taken None clock clock' a c answered plain at =
+    let after = answered.seen.after in
+    kept_seen a c answered.seen.between (ap (λ s. s.opening) after) (ap (λ s. s.front) after) answered.seen.others at
+kept_taken (Some e) clock clock' a c answered plain at =
+    let after = answered.called.after in
+    kept_more a c answered.called.between (entry_now clock answered.before e) (ap (λ s. s.opening) after) (ap (λ s. s.front) after) answered.called.others plain at
+
+-- the same of a call in a turn that was given
+pub kept_at_turn : (e : Option PortEvent) (clock clock' : Clock) (b c : PortSeat) → HasAnsweredAtTurn e clock clock' b c → IsNoTake e → IsAtPort c → (a : PortSeat) → IsGiven by_number a b → KeepsTaken a c
+kept_at_turn None clock clock' b c answered plain at a given =
+    let after : c ≡ at_leisure (at_turn (later a given.between)) = answered.0 ∙ ap (λ (s : PortSeat). at_leisure s) given.after in
+    kept_seen a c given.between (ap (λ s. s.opening) after) (ap (λ s. s.front) after) given.others at
+kept_at_turn (Some e) clock clock' b c answered plain at a given =
+    let left : PortSeat → PortSeat = λ s. record s { front = s.front ++ entry_now clock s.front e ∷ []; own = s.own ++ length s.front ∷ []; turn = false } in
+    let after : c ≡ left (at_turn (later a given.between)) = answered.0 ∙ ap left given.after in
+    kept_more a c given.between (entry_now clock (a.front ++ given.between) e) (ap (λ s. s.opening) after) (ap (λ s. s.front) after) given.others plain at
+
+-- a write and a closing take nothing
+pub write_takes_nothing : (answer : WriteAnswer) (item : ItemData) → IsNoTake (write_entry answer item)
+write_takes_nothing (written.Wrote p) item = refl
+write_takes_nothing (written.Closed back) item = refl
+write_takes_nothing (written.Spent back) item = refl
+write_takes_nothing (written.Full back) item = refl
+write_takes_nothing (written.NoMemory back) item = tt
+
+pub close_takes_nothing : (answer : CloseAnswer) → IsNoTake (close_entry answer)
+close_takes_nothing closed.Shut = refl
+close_takes_nothing closed.AlreadyShut = tt

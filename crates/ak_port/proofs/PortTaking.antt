@@ -7,7 +7,7 @@ use native.Mathlib.Decide.{ℕ_discrete}
 use Rattle.ak_base.specs.declared.thread.ThreadId.{ThreadId}
 use Rattle.ak_turn.specs.declared.clock.Clock.{Clock}
 use Rattle.ak_turn.specs.Lines.{places, places_from}
-use Rattle.ak_turn.specs.Seats.{HasSeen, HasCalled, IsGiven, KnowsWhole, new_seat, titled_seat}
+use Rattle.ak_turn.specs.Seats.{HasSeen, HasCalled, IsGiven, KnowsWhole, at_leisure, at_turn, later, new_seat, titled_seat}
 use Rattle.ak_port.specs.declared.port_entry.PortEntry.{PortEntry}
 use Rattle.ak_port.specs.declared.port_entry.PortEvent.{PortEvent}
 use Rattle.ak_port.specs.declared.port_entry.PortEvent.TheVariants as event
@@ -18,7 +18,7 @@ use Rattle.ak_port.specs.declared.port_entry.TakeAnswer.{TakeAnswer}
 use Rattle.ak_port.specs.declared.port_entry.TakeAnswer.TheVariants as taken
 use Rattle.ak_port.specs.declared.port_entry.CloseAnswer.{CloseAnswer}
 use Rattle.ak_port.specs.declared.port_entry.CloseAnswer.TheVariants as closed
-use Rattle.ak_port.specs.PortCalls.{PortData, PortSeat, IsPortBook, by_number, entry_now, CanTake, HasAnswered, HasEntered, IsAtPort, IsNoRest, IsRest, IfTook, write_entry, take_event, close_entry}
+use Rattle.ak_port.specs.PortCalls.{PortData, PortSeat, IsPortBook, by_number, entry_now, CanTake, HasAnswered, HasAnsweredAtTurn, HasEntered, IsAtPort, IsNoRest, IsRest, IfTook, write_entry, take_event, close_entry}
 use Rattle.ak_port.specs.PortMachine.{PortState, AreSteps, IsPort, IsAllowed, replayed, state_after, state_of, unmade, follows_making}
 use Rattle.ak_port.proofs.PortReplays.{replayed-append, AreSteps-behind, made_stays, state_of-push}
 
@@ -167,6 +167,23 @@ IsPlain (Some e) = IsRest e ≡ false
 pub can_after : (e : Option PortEvent) (clock clock' : Clock) (a c : PortSeat) → IsPlain e → HasAnswered e clock clock' a c → IsAtPort c → (thread : ThreadId) (room : ℕ) → CanTake thread room a → CanTake thread room c
 can_after None clock clock' a c plain answered at thread room can = can_after_seen thread room a c can answered.seen at
 can_after (Some e) clock clock' a c plain answered at thread room can = can_after_called thread room (entry_now clock answered.before e) a c can plain answered.called at
+
+-- the same of a call in a turn that was given
+pub can_after_turn : (e : Option PortEvent) (clock clock' : Clock) (b c : PortSeat) → IsPlain e → HasAnsweredAtTurn e clock clock' b c → IsAtPort c → (thread : ThreadId) (room : ℕ) (a : PortSeat) → CanTake thread room a → IsGiven by_number a b → CanTake thread room c
+can_after_turn None clock clock' b c plain answered at thread room a can given =
+    let after : c ≡ at_leisure (at_turn (later a given.between)) = answered.0 ∙ ap (λ (s : PortSeat). at_leisure s) given.after in
+    can_still thread room a c given.between can (ap (λ s. s.opening) after) (ap (λ s. s.front) after)
+    (subst (λ (s : PortSeat). All (IsNoRest s.front) s.own) (sym after) (All-still a.front given.between a.own can.unrested)) at
+can_after_turn (Some e) clock clock' b c plain answered at thread room a can given =
+    let mid = a.front ++ given.between in
+    let x = entry_now clock mid e in
+    let left : PortSeat → PortSeat = λ s. record s { front = s.front ++ entry_now clock s.front e ∷ []; own = s.own ++ length s.front ∷ []; turn = false } in
+    let after : c ≡ left (at_turn (later a given.between)) = answered.0 ∙ ap left given.after in
+    can_still thread room a c (given.between ++ x ∷ []) can (ap (λ s. s.opening) after) (ap (λ s. s.front) after ∙ append_assoc a.front given.between (x ∷ []))
+    (subst (λ (s : PortSeat). All (IsNoRest s.front) s.own) (sym after)
+    (All-append (IsNoRest (mid ++ x ∷ [])) a.own (length mid ∷ []) (All-still mid (x ∷ []) a.own (All-still a.front given.between a.own can.unrested))
+    (All-cons (IsNoRest (mid ++ x ∷ [])) (length mid) [] (no_rest_last mid x plain) (All-nil (IsNoRest (mid ++ x ∷ []))))))
+    at
 
 -- a write and a closing are no Rest
 pub write_plain : (answer : WriteAnswer) (item : ItemData) → IsPlain (write_entry answer item)

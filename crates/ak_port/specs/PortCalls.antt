@@ -16,7 +16,7 @@ use Rattle.ak_port.specs.declared.port_entry.CloseAnswer.{CloseAnswer}
 use Rattle.ak_port.specs.declared.port_entry.CloseAnswer.TheVariants as closed
 use Rattle.ak_port.specs.declared.port_entry.Refusal.{Refusal}
 use Rattle.ak_port.specs.declared.port_entry.Refusal.TheVariants as refusal
-use Rattle.ak_port.specs.PortMachine.{IsPort, state_of}
+use Rattle.ak_port.specs.PortMachine.{IsPort, state_of, taken_items}
 
 -- A port: its taker, and its list
 pub record PortData : Type 0 where
@@ -114,6 +114,14 @@ abbrev pub IsFull : WriteAnswer → Bool
 IsFull (written.Full back) = true
 IsFull _ = false
 
+-- what holds where memory ran out
+abbrev pub IfNoMemory : WriteAnswer → Type 0 → Type 0
+IfNoMemory (written.Wrote p) P = Unit {0}
+IfNoMemory (written.Closed back) P = Unit {0}
+IfNoMemory (written.Spent back) P = Unit {0}
+IfNoMemory (written.Full back) P = Unit {0}
+IfNoMemory (written.NoMemory back) P = P
+
 abbrev pub take_event : TakeAnswer → PortEvent
 take_event (taken.Took k) = event.Took k
 take_event (taken.Rest k) = event.Rest k
@@ -149,3 +157,8 @@ pub record CanTake (thread : ThreadId) (room : ℕ) (seat : PortSeat) : Type 0 w
   pub unrested : All (IsNoRest seat.front) seat.own
   pub made : (state_of seat.front).made ≡ true
   pub capacity : (state_of seat.front).capacity ≤ room
+
+-- ---- what other calls leave of what was taken
+-- where it is the seat of the port's taker, what it knew as taken is what it knows as taken
+abbrev pub KeepsTaken : PortSeat → PortSeat → Type 0
+KeepsTaken seat seat' = (thread : ThreadId) → seat.opening ≡ Some thread → seat.thread ≡ thread.0 → taken_items (state_of seat'.front) ≡ taken_items (state_of seat.front)

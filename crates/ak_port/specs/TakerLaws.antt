@@ -1,12 +1,14 @@
 -- What holds of every taker.
-use Rattle.std.specs.Prelude.{◌≡◌, ℕ, ◌≤◌, true, List, [], ◌++◌, Option, Some}
+use Rattle.std.specs.Prelude.{◌≡◌, ℕ, ◌≤◌, Bool, true, false, List, [], ◌++◌, Option, Some, None}
 use Rattle.ak_base.specs.declared.thread.ThreadId.{ThreadId}
 use Rattle.ak_turn.specs.declared.clock.Clock.{Clock}
 use Rattle.ak_turn.specs.Lines.{AreByOthers}
-use Rattle.ak_turn.specs.Seats.{new_seat, titled_seat}
+use Rattle.ak_turn.specs.Seats.{IsGiven, new_seat, titled_seat}
 use Rattle.ak_port.specs.declared.port_entry.PortEntry.{PortEntry}
+use Rattle.ak_port.specs.declared.port_entry.PortEvent.{PortEvent}
+use Rattle.ak_port.specs.declared.port_entry.PortEvent.TheVariants as event
 use Rattle.ak_port.specs.declared.port_entry.TakeAnswer.{TakeAnswer}
-use Rattle.ak_port.specs.PortCalls.{PortSeat, CanTake, HasEntered, IsAtPort, by_number, take_count, take_event}
+use Rattle.ak_port.specs.PortCalls.{PortSeat, CanTake, HasAnswered, HasAnsweredAtTurn, HasEntered, IsAtPort, KeepsTaken, by_number, take_count, take_event}
 use Rattle.ak_port.specs.PortMachine.{IsPort, state_of, handed_from, last_taken, pending_items, taken_items, written_in}
 
 -- a take adds what it hands out to what its seat knew as taken
@@ -21,6 +23,25 @@ OthersTakeNothing = (taker : ℕ) (entries between : List PortEntry) → AreByOt
 -- what was written is what the taker knows as taken, and then what is pending
 abbrev pub TakenThenPending : Type 0
 TakenThenPending = (taker : ℕ) (entries between : List PortEntry) → AreByOthers by_number taker between → IsPort taker (entries ++ between) → written_in (entries ++ between) ≡ taken_items (state_of entries) ++ pending_items (state_of (entries ++ between))
+
+-- an event by which items are taken
+abbrev pub takes_items : PortEvent → Bool
+takes_items (event.Took k) = true
+takes_items (event.Rest k) = true
+takes_items _ = false
+
+-- a call made no such entry
+abbrev pub IsNoTake : Option PortEvent → Type 0
+IsNoTake None = Unit {0}
+IsNoTake (Some e) = takes_items e ≡ false
+
+-- such a call of the taker's own leaves what its seat knew as taken
+abbrev pub OwnCallsTakeNothing : Type 0
+OwnCallsTakeNothing = (e : Option PortEvent) (clock clock' : Clock) (seat seat' : PortSeat) → HasAnswered e clock clock' seat seat' → IsNoTake e → IsAtPort seat' → KeepsTaken seat seat'
+
+-- and so it is where the call was made in a turn that the seat had
+abbrev pub OwnTurnsTakeNothing : Type 0
+OwnTurnsTakeNothing = (e : Option PortEvent) (clock clock' : Clock) (seat seat' : PortSeat) → HasAnsweredAtTurn e clock clock' seat seat' → IsNoTake e → IsAtPort seat' → (before : PortSeat) → IsGiven by_number before seat → KeepsTaken before seat'
 
 -- a new seat for the port's taker can take
 abbrev pub NewSeatsTake : Type 0

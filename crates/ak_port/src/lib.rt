@@ -20,7 +20,7 @@ mod taker_laws;
 pub use ak_base::CAPACITY_LIMIT;
 pub use port::{LIFE_LIMIT, Port, close, make, take, write, write_at_turn};
 pub use port_book::PortBook;
-pub use port_entry::{CloseAnswer, How, PortEntry, PortEvent, TakeAnswer, WriteAnswer};
+pub use port_entry::{CloseAnswer, PortEntry, PortEvent, TakeAnswer, WriteAnswer};
 pub use port_laws::{
     a_write_has_one_answer, nothing_is_written_after_shut, ports_stay_within_limits,
     written_is_taken_or_pending,

@@ -3,16 +3,16 @@ ghost use Rattle.std.specs.Prelude.{◌≡◌, ℕ, ◌+◌, ◌-◌, ◌∷◌,
 ghost use Rattle.std.specs.Arc.{arc_value};
 ghost use Rattle.std.specs.VecDeque.{deque_len, deque_capacity};
 ghost use Rattle.ak_turn.specs.Lines.{last_stamp_of};
-ghost use Rattle.ak_turn.specs.Seats.{at_leisure, first_seat, KnowsWhole};
+ghost use Rattle.ak_turn.specs.Seats.{at_leisure, first_seat, IsGiven, KnowsWhole};
 ghost use Rattle.ak_port.specs.PortMachine.{last_taken, pending_count, refusal_of, state_of, taken_items, write_event, IsRested, LacksItems, LacksRoom};
-ghost use Rattle.ak_port.specs.PortCalls.{by_number, clock_after, close_entry, making, stamp_number, take_count, take_event, write_entry, CanTake, GivesBack, HasAnswered, HasAnsweredAtTurn, HasEntered, HasLooked, IfRefused, IfRest, IfTook, IsAtPort, IsFull};
+ghost use Rattle.ak_port.specs.PortCalls.{by_number, clock_after, close_entry, making, stamp_number, take_count, take_event, write_entry, CanTake, GivesBack, HasAnswered, HasAnsweredAtTurn, HasEntered, HasLooked, IfNoMemory, IfRefused, IfRest, IfTook, IsAtPort, IsFull, KeepsTaken, PortSeat};
 ghost use Rattle.ak_port.specs.SeatKept.{KeepsSeat};
 ghost use Rattle.ak_base.specs.declared.thread.ThreadId.{ThreadId};
 ghost use Rattle.ak_base.specs.Limits.{capacity_limit};
 ghost use Rattle.ak_port.specs.Limits.{life_limit};
 
 use crate::port_book::PortBook;
-use crate::port_entry::{CloseAnswer, How, TakeAnswer, WriteAnswer};
+use crate::port_entry::{CloseAnswer, TakeAnswer, WriteAnswer};
 use ak_base::{CAPACITY_LIMIT, NoMemory, ThreadId};
 use ak_flatten::{Item, Taken};
 use ak_turn::{Clock, Seat, Turn, TurnLock};
@@ -46,6 +46,7 @@ pub fn make(
     ensures limits { (CAPACITY_LIMIT ≡ capacity_limit) × (LIFE_LIMIT ≡ life_limit) }
     ensures made { IfOk result (λ made. made.1 ≡ first_seat (arc_value made.0) taker (making clock.old capacity life ∷ []) (0 ∷ []) clock.old.thread.0) }
     ensures port { IfOk result (λ made. IsAtPort made.1) }
+    ensures known { IfOk result (λ made. KnowsWhole by_number made.1) }
     ensures taking { IfOk result (λ made. CanTake taker capacity made.1) }
     ensures clock { OnOk result (clock.new ≡ clock_after clock.old []) }
     ensures err { OnErr result (clock.new ≡ clock.old) }
@@ -56,9 +57,11 @@ pub fn make(
     Ok(made)
 }
 
-/// Writes an item at the end of what is pending in the turn that the seat has, or notes why not, and passes the turn
-/// on. It is handed nothing to wait with: its answer is the one for the list as the turn shows it. Whoever is not to
-/// wait for room takes a turn and calls it, as a `write` with `NoWait` does.
+/// Writes an item at the end of what is pending in the turn that the seat has, answers its position, and passes the
+/// turn on. Refused, in this order, with `Closed`, `Spent` and `Full`; the item is given back as it was. Each of
+/// these is one entry. `NoMemory` gives the item back too, and makes none. It is handed nothing to wait with: its
+/// answer is the one for the list as the turn shows it. So whoever is not to wait for room takes a turn, readies the
+/// clock and calls it.
 pub fn write_at_turn(
     turn: Turn<'_, PortBook>,
     seat: &mut Seat<PortBook>,
@@ -79,32 +82,13 @@ pub fn write_at_turn(
     ensures clock { clock.new.thread ≡ clock.old.thread }
     ensures port { IsAtPort seat.new }
     ensures known { KnowsWhole by_number seat.old → KnowsWhole by_number seat.new }
+    ensures taking { (thread : ThreadId) (room : ℕ) (before : PortSeat) → CanTake thread room before → IsGiven by_number before seat.old → CanTake thread room seat.new }
+    ensures taken { (before : PortSeat) → IsGiven by_number before seat.old → KeepsTaken before seat.new }
 {
     let mut turn = turn;
     let answer = turn.book().write(clock, item);
     turn.finish(seat);
     answer
-}
-
-// A write that does not wait for room: one turn, and its answer.
-fn write_once<R: Wait>(
-    port: &Port,
-    rt: &R,
-    seat: &mut Seat<PortBook>,
-    clock: &mut Clock,
-    item: Item,
-) -> WriteAnswer
-    requires of { seat.old.lock ≡ port.now }
-    requires idle { seat.old.turn ≡ false }
-    requires thread { seat.old.thread ≡ clock.old.thread.0 }
-    ensures answered { HasAnswered (write_entry result item) clock.old clock.new seat.old seat.new }
-    ensures back { GivesBack result item }
-    ensures port { IsAtPort seat.new }
-    ensures known { KnowsWhole by_number seat.new }
-{
-    let turn = port.lock(rt, seat);
-    clock.ready(rt);
-    write_at_turn(turn, seat, clock, item)
 }
 
 // One try of a write that waits for room: `Err` gives the item back, without an entry, where the port is full.
@@ -121,6 +105,7 @@ fn try_write<R: Wait>(
     ensures answered { IfOk result (λ answer. HasAnswered (write_entry answer item) clock.old clock.new seat.old seat.new) }
     ensures back { IfOk result (λ answer. GivesBack answer item) }
     ensures room { IfOk result (λ answer. IsFull answer ≡ true → ⊥) }
+    ensures wanting { IfOk result (λ answer. IfNoMemory answer (¬ (LacksRoom seat.new.front))) }
     ensures looked { OnErr result (HasLooked clock.old clock.new seat.old seat.new) }
     ensures item { IfErr result (λ back. back ≡ item) }
     ensures waits { OnErr result (LacksRoom seat.new.front) }
@@ -150,6 +135,7 @@ fn write_once_free<R: Wait>(
     ensures answered { HasAnswered (write_entry result item) clock.old clock.new seat.old seat.new }
     ensures back { GivesBack result item }
     ensures room { IsFull result ≡ true → ⊥ }
+    ensures wanting { IfNoMemory result (¬ (LacksRoom seat.new.front)) }
     ensures port { IsAtPort seat.new }
     ensures known { KnowsWhole by_number seat.new }
 {
@@ -165,18 +151,17 @@ fn write_once_free<R: Wait>(
 }
 
 /// Writes an item at the end of what is pending, and answers its position, counted from 0. Refused, in this
-/// order, with `Closed`, `Spent`, and, where it is not to wait, `Full`; the item is given back as it was. Each
-/// of these is one entry. `NoMemory` gives the item back too, and makes none. It waits for its turn. A write
-/// that finds the port full and is to wait gives its turn back, and tries again once there is a new entry; one
-/// that is not to wait has its answer in its one turn. It copies the flat text, which stays in the history, and
-/// reserves what taking the item needs. (The Be Book, The Kernel Kit, Ports: write_port().)
+/// order, with `Closed` and `Spent`; the item is given back as it was. Each of these is one entry. `NoMemory`
+/// gives the item back too, and makes none; no full port is answered so. It waits for its turn. Where it finds the
+/// port full it gives its turn back, and tries again once there is a new entry: `Full` is not answered. Whoever is
+/// not to wait for room calls `write_at_turn`. It copies the flat text, which stays in the history, and reserves
+/// what taking the item needs. (The Be Book, The Kernel Kit, Ports: write_port().)
 pub fn write<R: Wait>(
     port: &Port,
     rt: &R,
     seat: &mut Seat<PortBook>,
     clock: &mut Clock,
     item: Item,
-    how: How,
 ) -> WriteAnswer
     requires of { seat.old.lock ≡ port.now }
     requires idle { seat.old.turn ≡ false }
@@ -188,13 +173,12 @@ pub fn write<R: Wait>(
     ensures port { IsAtPort seat.new }
     ensures known { KnowsWhole by_number seat.new }
     ensures back { GivesBack result item }
-    ensures full { IsFull result ≡ true → how ≡ How.NoWait }
+    ensures not_full { IsFull result ≡ true → ⊥ }
+    ensures wanting { IfNoMemory result (¬ (LacksRoom seat.new.front)) }
     ensures taking { (thread : ThreadId) (room : ℕ) → CanTake thread room seat.old → CanTake thread room seat.new }
+    ensures taken { KeepsTaken seat.old seat.new }
 {
-    match how {
-        How::NoWait => write_once(port, rt, seat, clock, item),
-        How::Wait => write_once_free(port, rt, seat, clock, item),
-    }
+    write_once_free(port, rt, seat, clock, item)
 }
 
 // One try of a take.
@@ -314,6 +298,7 @@ pub fn close<R: Wait>(
     ensures known { KnowsWhole by_number seat.new }
     ensures shut { (state_of seat.new.front).shut ≡ true }
     ensures taking { (thread : ThreadId) (room : ℕ) → CanTake thread room seat.old → CanTake thread room seat.new }
+    ensures taken { KeepsTaken seat.old seat.new }
 {
     try_close(port, rt, seat, clock)
 }

@@ -36,15 +36,6 @@ pub enum PortEvent {
     Shut,
 }
 
-/// Whether a write to a full port waits.
-#[derive(Clone, Copy, Debug, PartialEq, Eq)]
-pub enum How {
-    /// It waits for room.
-    Wait,
-    /// It is answered `Full`.
-    NoWait,
-}
-
 /// What a write answers. The refusals are tested in the order in which they stand. A refused item is given back
 /// as it was. Each answer but `NoMemory` is an entry.
 #[derive(Debug, Drop)]
@@ -55,7 +46,7 @@ pub enum WriteAnswer {
     Closed(Item),
     /// As many items were written as the port accepts in all.
     Spent(Item),
-    /// As many items are pending as the port holds, and the write was not to wait.
+    /// As many items are pending as the port holds. `write` waits then, and never answers it.
     Full(Item),
     /// Memory ran out: nothing was written, and there is no entry.
     NoMemory(Item),

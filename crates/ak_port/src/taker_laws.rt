@@ -2,11 +2,13 @@
 
 ghost use Rattle.ak_port.specs.TakerLaws as law;
 
-/// A take adds what it hands out to what was taken before it, and no other thread takes; so what was written is what
-/// the taker's seat knows as taken, and then what is pending.
+/// A take adds what it hands out to what was taken before it. No other thread takes, and no other call of the taker's
+/// own. So what was written is what the taker's seat knows as taken, and then what is pending.
 pub fn takes_go_on()
     ensures more { law.TakesGoOn }
     ensures others { law.OthersTakeNothing }
+    ensures own { law.OwnCallsTakeNothing }
+    ensures at_turn { law.OwnTurnsTakeNothing }
     ensures pending { law.TakenThenPending }
 {}
 

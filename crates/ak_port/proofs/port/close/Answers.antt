@@ -1,4 +1,5 @@
 use Rattle.ak_port.proofs.PortTaking.{can_after, close_plain, shut_after}
+use Rattle.ak_port.proofs.PortTaken.{close_takes_nothing, kept_taken}
 use Rattle.ak_port.specs.PortCalls.{close_entry}
 use Rattle.ak_port.proofs.PortCalled.{answered_keeps}
 use Rattle.ak_port.proofs.port.close.Goals as goal
@@ -14,3 +15,6 @@ returns-clause-shut g c = shut_after c.try_close.result _ _ _ _ c.try_close.ensu
 
 pub returns-clause-taking : goal.returns-clause-taking
 returns-clause-taking g c = can_after (close_entry c.try_close.result) _ _ _ _ (close_plain c.try_close.result) c.try_close.ensures.answered c.try_close.ensures.port
+
+pub returns-clause-taken : goal.returns-clause-taken
+returns-clause-taken g c = kept_taken (close_entry c.try_close.result) _ _ _ _ c.try_close.ensures.answered (close_takes_nothing c.try_close.result) c.try_close.ensures.port
