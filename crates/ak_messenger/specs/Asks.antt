@@ -6,6 +6,7 @@ use Rattle.ak_turn.specs.declared.clock.Clock.{Clock}
 use Rattle.ak_port.specs.declared.port_entry.PortEvent.TheVariants as event
 use Rattle.ak_port.specs.declared.reply_entry.ReplyEvent.TheVariants as entry
 use Rattle.ak_port.specs.PortCalls.{PortSeat, HasEntered, HasLooked}
+use Rattle.ak_port.specs.PortMachine.{LacksRoom}
 use Rattle.ak_port.specs.Reply.{FillsWith}
 use Rattle.ak_port.specs.ReplySeats.{ReplySeat, HasEnteredBook, HasLookedAtBook, HasFoundFilled}
 use Rattle.ak_messenger.specs.declared.fault.SendFault.{SendFault}
@@ -32,12 +33,17 @@ IsReplied n c c' b b' (Err fault.Spent) = ⊥
 IsReplied n c c' b b' (Err fault.WouldBlock) = ⊥
 
 -- ---- at the port
+-- memory was wanting, at a port that did not lack room
+pub record HasWanted (c c' : Clock) (s s' : PortSeat) : Type 0 where
+  pub looked : HasLooked c c' s s'
+  pub room : ¬ (LacksRoom s'.front)
+
 -- the item was written, or refused, and why; a write that waits for room is not refused for want of it
 abbrev pub IsWritten : ItemData → Clock → Clock → PortSeat → PortSeat → Option SendFault → Type 0
 IsWritten item c c' s s' None = (position : ℕ) × HasEntered c c' (event.Written position item) s s'
 IsWritten item c c' s s' (Some fault.BadPort) = HasEntered c c' event.Refused s s'
 IsWritten item c c' s s' (Some fault.Spent) = HasEntered c c' event.Spent s s'
-IsWritten item c c' s s' (Some fault.NoMemory) = HasLooked c c' s s'
+IsWritten item c c' s s' (Some fault.NoMemory) = HasWanted c c' s s'
 IsWritten item c c' s s' (Some fault.TooLong) = ⊥
 IsWritten item c c' s s' (Some fault.WouldBlock) = ⊥
 

@@ -6,7 +6,7 @@ ghost use Rattle.ak_flatten.specs.Laws.{Spells};
 ghost use Rattle.ak_flatten.specs.Spelling.{spelling};
 ghost use Rattle.ak_turn.specs.Seats.{KnowsWhole};
 ghost use Rattle.ak_flatten.specs.Limits.{flat_limit};
-ghost use Rattle.ak_port.specs.PortCalls.{by_number, CanTake, IsAtPort};
+ghost use Rattle.ak_port.specs.PortCalls.{by_number, CanTake, IsAtPort, KeepsTaken};
 ghost use Rattle.ak_port.specs.ReplySeats.{maker_of, MayCancel, MayTake};
 ghost use Rattle.ak_port.specs.SeatKept.{KeepsSeat};
 ghost use Rattle.ak_messenger.specs.Sends.{item_in, write_fault, IfReached};
@@ -18,7 +18,7 @@ use crate::hands::Hands;
 use ak_base::Bytes;
 use ak_flatten::{Duty, Item, unflatten};
 use ak_message::Message;
-use ak_port::{How, Port, PortBook, WriteAnswer, cancel, open_ask, wait_for, write};
+use ak_port::{Port, PortBook, WriteAnswer, cancel, open_ask, wait_for, write};
 use ak_turn::{Clock, Seat};
 use std::alloc::Global;
 use std::sync::Wait;
@@ -63,9 +63,10 @@ fn write_once_free<R: Wait>(
     ensures known { KnowsWhole by_number seat.new }
     ensures seat { KeepsSeat seat.old seat.new }
     ensures taking { (thread : ThreadId) (room : ℕ) → CanTake thread room seat.old → CanTake thread room seat.new }
+    ensures taken { KeepsTaken seat.old seat.new }
     ensures clock { clock.new.thread ≡ clock.old.thread }
 {
-    refusal(write(port, rt, seat, clock, item, How::Wait))
+    refusal(write(port, rt, seat, clock, item))
 }
 
 // Cancels a slot whose item was not written. The answer is that fault.
@@ -128,6 +129,7 @@ fn converse<R: Wait>(
     ensures book_known { KnowsWhole maker_of h.new.book_seat }
     ensures seat { KeepsSeat seat.old seat.new }
     ensures taking { (thread : ThreadId) (room : ℕ) → CanTake thread room seat.old → CanTake thread room seat.new }
+    ensures taken { KeepsTaken seat.old seat.new }
     ensures book { h.new.book ≡ h.old.book }
     ensures book_seat { KeepsSeat h.old.book_seat h.new.book_seat }
     ensures clock { h.new.clock.thread ≡ h.old.clock.thread }
@@ -156,11 +158,13 @@ fn ask_by<R: Wait>(
     ensures message { IfOk result (λ reply. reply.message ≡ spelled reply.flat) }
     ensures spells { IfOk result (λ reply. Spells reply.flat reply.message) }
     ensures port { IsAtPort seat.old → IsAtPort seat.new }
+    ensures at_port { IfReached result (IsAtPort seat.new) }
     ensures known { IfReached result (KnowsWhole by_number seat.new) }
     ensures knows_still { KnowsWhole by_number seat.old → KnowsWhole by_number seat.new }
     ensures book_known { KnowsWhole maker_of h.new.book_seat }
     ensures seat { KeepsSeat seat.old seat.new }
     ensures taking { (thread : ThreadId) (room : ℕ) → CanTake thread room seat.old → CanTake thread room seat.new }
+    ensures taken { KeepsTaken seat.old seat.new }
     ensures book { h.new.book ≡ h.old.book }
     ensures book_seat { KeepsSeat h.old.book_seat h.new.book_seat }
     ensures clock { h.new.clock.thread ≡ h.old.clock.thread }
@@ -173,10 +177,10 @@ fn ask_by<R: Wait>(
 /// turns, for room at the port, and for the reply. `TooLong`, exactly where the flat text has over 4,096 bytes,
 /// comes before any step. Then a slot is opened, and the item written with the duty to fill it. Where the item
 /// is not written, for `BadPort`, `Spent` or want of memory, the slot is cancelled, unless it was filled by
-/// then. `WouldBlock` is not answered. After `NoMemory` the entries so far stay; the reply is lost where memory
-/// ran out for its message. The seat is one at this port, without a turn, and of the thread of these hands. The
-/// envelope has no address for a reply, and pops no more specifiers than there are. (The Be Book, The
-/// Application Kit, BMessenger: SendMessage(), with a reply that is waited for.)
+/// then. `WouldBlock` is not answered, nor want of memory in place of waiting for room. After `NoMemory` the entries
+/// so far stay; the reply is lost where memory ran out for its message. The seat is one at this port, without a turn,
+/// and of the thread of these hands. The envelope has no address for a reply, and pops no more specifiers than there
+/// are. (The Be Book, The Application Kit, BMessenger: SendMessage(), with a reply that is waited for.)
 pub fn ask<R: Wait>(
     alloc: Global,
     h: &mut Hands,
@@ -196,12 +200,14 @@ pub fn ask<R: Wait>(
     ensures message { IfOk result (λ reply. reply.message ≡ spelled reply.flat) }
     ensures spells { IfOk result (λ reply. Spells reply.flat reply.message) }
     ensures port { IsAtPort seat.old → IsAtPort seat.new }
+    ensures at_port { IfReached result (IsAtPort seat.new) }
     ensures known { IfReached result (KnowsWhole by_number seat.new) }
     ensures knows_still { KnowsWhole by_number seat.old → KnowsWhole by_number seat.new }
     ensures book_known { IfReached result (KnowsWhole maker_of h.new.book_seat) }
     ensures book_knows_still { KnowsWhole maker_of h.old.book_seat → KnowsWhole maker_of h.new.book_seat }
     ensures seat { KeepsSeat seat.old seat.new }
     ensures taking { (thread : ThreadId) (room : ℕ) → CanTake thread room seat.old → CanTake thread room seat.new }
+    ensures taken { KeepsTaken seat.old seat.new }
     ensures book { h.new.book ≡ h.old.book }
     ensures book_seat { KeepsSeat h.old.book_seat h.new.book_seat }
     ensures clock { h.new.clock.thread ≡ h.old.clock.thread }

@@ -15,7 +15,7 @@ pub enum SendFault {
     BadPort,
     /// The port has accepted as many items as it ever does.
     Spent,
-    /// The port has no room, and the sender does not wait. An ask never answers it.
+    /// The port has no room. `post_at_turn` alone answers it; `post` and `ask` wait.
     WouldBlock,
 }
 
