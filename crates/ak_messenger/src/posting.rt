@@ -112,7 +112,7 @@ pub fn post_at_turn(
     requires popped { e.popped ≤ specifier_count m.now.fields }
     ensures answered { HasAnsweredAtTurn (post_event e m.now result) clock.old clock.new seat.old seat.new }
     ensures machine { IfSome (post_event e m.now result) (λ event. event ≡ write_event (state_of seat.old.front) (item_in e (back_duty e.back) m.now)) }
-    ensures too_long { IsErrOf result SendFault.TooLong ↔ (4096 < length (spelling m.now)) }
+    ensures too_long { IsErrOf result SendFault.TooLong ↔ (flat_limit < length (spelling m.now)) }
     ensures seat { KeepsSeat (at_leisure seat.old) seat.new }
     ensures clock { clock.new.thread ≡ clock.old.thread }
     ensures port { IsAtPort seat.new }

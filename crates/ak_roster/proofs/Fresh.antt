@@ -15,8 +15,8 @@ use Rattle.ak_roster.specs.declared.answer.Decision.TheVariants as decision
 use Rattle.ak_roster.specs.declared.answer.Launched.{Launched}
 use Rattle.ak_roster.specs.declared.answer.Launched.TheVariants as answer
 use Rattle.ak_roster.specs.Answers.{OnRefusal, UnlessRefusal, OnStarted, UnlessStarted}
-use Rattle.ak_roster.specs.Machine.{LooperData, after, loopers_at, loopers_of}
-use Rattle.ak_roster.specs.Roster.{RosterData, Enters, Stays, IsStranger, holders, new_line, state}
+use Rattle.ak_roster.specs.Machine.{LooperData, after, holders, loopers_at, loopers_of}
+use Rattle.ak_roster.specs.Roster.{RosterData, Enters, Stays, IsStranger, new_line, state}
 use Rattle.ak_roster.proofs.Sound.{state-line}
 
 abbrev pub AreFresh : List LooperData → Type 0

@@ -10,3 +10,5 @@ pub mod Carried
 pub mod Apart
 pub mod Once
 pub mod Holders
+pub mod Strangers
+pub mod Teams

@@ -1,5 +1,5 @@
 -- What holds of all histories of the roster.
-use Rattle.std.specs.Prelude.{◌≡◌, ◌≢◌, ◌<◌, ◌≤◌, ◌⊎◌, ◌↔◌, ℕ, false, IsTrue, List, [], ◌∷◌, ◌++◌, length, All, AllPairs, Any, Contains, IfSome, MatchOption, Some, slice_get}
+use Rattle.std.specs.Prelude.{◌≡◌, ◌≢◌, ◌<◌, ◌≤◌, ◌⊎◌, ◌↔◌, ◌+◌, ℕ, false, IsTrue, List, [], ◌∷◌, ◌++◌, length, All, AllPairs, Any, Contains, IfSome, IsSomeAnd, MatchOption, Some, slice_get}
 use Rattle.std.specs.List.{flat_map, list_any}
 use Rattle.ak_base.specs.declared.app_word.AppWord.{AppWord}
 use Rattle.ak_base.specs.Limits.{looper_limit}
@@ -9,16 +9,18 @@ use Rattle.ak_roster.specs.declared.head.Mode.{Mode}
 use Rattle.ak_roster.specs.declared.head.Mode.TheVariants as mode
 use Rattle.ak_roster.specs.declared.team.Running.{Running}
 use Rattle.ak_roster.specs.declared.entry.RosterEntry.{RosterEntry}
+use Rattle.ak_roster.specs.declared.entry.RosterLine.{RosterLine}
 use Rattle.ak_roster.specs.declared.entry.RosterEvent.{RosterEvent}
 use Rattle.ak_roster.specs.declared.entry.RosterEvent.TheVariants as event
 use Rattle.ak_roster.specs.declared.entry.LaunchOutcome.{LaunchOutcome}
 use Rattle.ak_roster.specs.declared.entry.LaunchOutcome.TheVariants as launch
 use Rattle.ak_roster.specs.declared.entry.FindOutcome.{FindOutcome}
 use Rattle.ak_roster.specs.Heads.{last_part, team_fits, team_for}
-use Rattle.ak_roster.specs.Machine.{IsHistory, LooperData, RosterState, runs_team, state_of}
-use Rattle.ak_roster.specs.Roster.{IsStranger, holders}
+use Rattle.ak_roster.specs.Machine.{IsHistory, LooperData, RosterState, holders, loopers_at, runs_team, state_of}
+use Rattle.ak_roster.specs.Roster.{IsStranger, entries_of}
 use Rattle.ak_turn.specs.Lines.{made_by}
 use Rattle.ak_roster.specs.Limits.{team_limit}
+use Rattle.ak_turn.specs.Seats.{SeatData, KnowsWhole}
 
 -- ---- an answer is a function of what stands before it: where two histories have the same beginning, and then the same question, they have
 -- the same answer
@@ -127,6 +129,55 @@ abbrev pub StrangersAreTold : Type 0
 StrangersAreTold =
     (heads : List AppHead) (entries : List RosterEntry) (thread number : ℕ) → IsHistory heads entries → IfSome (slice_get (state_of heads entries).loopers number) (IsNoneOfFour thread number)
     → All (λ entry. entry.event ≢ event.Door number) (made_by (λ entry. entry.by.0) thread entries) → IsStranger thread number (slice_get (state_of heads entries).loopers number)
+
+-- and none of the four has an entry of the door
+abbrev pub FourTakeNoDoor : Type 0
+FourTakeNoDoor =
+    (heads : List AppHead) (entries : List RosterEntry) (number : ℕ) (looper : LooperData) → IsHistory heads entries → slice_get (state_of heads entries).loopers number ≡ Some looper
+    → (thread : ℕ) → TookDoor entries number thread → IsNoneOfFour thread number looper
+
+-- ---- seats at the roster's lock see lines: of each thread just its entries are theirs
+abbrev pub LinesTellEntries : Type 0 → Type 0
+LinesTellEntries O = (thread : ℕ) (lines : List (RosterLine O)) → made_by (λ (entry : RosterEntry). entry.by.0) thread (entries_of lines) ≡ entries_of (made_by (λ (line : RosterLine O). line.entry.by.0) thread lines)
+
+-- the line at a place is none of that door
+abbrev pub IsNotOfDoor : {O : Type 0} → List (RosterLine O) → ℕ → ℕ → Type 0
+IsNotOfDoor {O} lines number place = IfSome (slice_get lines place) (λ (line : RosterLine O). line.entry.event ≢ event.Door number)
+
+-- so a seat that knows its list, whose thread is none of the four and has the door in none of its own places, is a stranger's
+abbrev pub SeatsAreStrangers : Type 0 → Type 0
+SeatsAreStrangers O =
+    (heads : List AppHead) (seat : SeatData (List AppHead) (RosterLine O)) (number : ℕ) → IsHistory heads (entries_of seat.front) → KnowsWhole (λ (line : RosterLine O). line.entry.by.0) seat
+    → IfSome (slice_get (state_of heads (entries_of seat.front)).loopers number) (IsNoneOfFour seat.thread number) → All (IsNotOfDoor seat.front number) seat.own
+    → IsStranger seat.thread number (slice_get (state_of heads (entries_of seat.front)).loopers number)
+
+-- ---- so many loopers are there from that number on, and of each of them P holds
+abbrev pub AreThere : (LooperData → Type 0) → List LooperData → ℕ → ℕ → Type 0
+AreThere P loopers first count = (number : ℕ) → first ≤ number → number < first + count → IsSomeAnd (slice_get loopers number) P
+
+-- the loopers of a team that runs have its first one as their team's own
+abbrev pub TeamsHaveLoopers : Type 0
+TeamsHaveLoopers =
+    (heads : List AppHead) (entries : List RosterEntry) → IsHistory heads entries
+    → All (λ (team : Running). AreThere (λ looper. looper.own ≡ team.first) (state_of heads entries).loopers team.first team.loopers) (state_of heads entries).running
+
+-- so have those of a launch that started one, also once it is gone, and they are started by its thread
+abbrev pub HasStarted : List AppHead → List LooperData → ℕ → LaunchOutcome → Type 0
+HasStarted heads loopers by (launch.Started place team first) = AreThere (λ looper. (looper.own ≡ first) × (looper.starter ≡ by)) loopers first (loopers_at heads place)
+HasStarted heads loopers by (launch.AlreadyRunning team) = Unit {0}
+HasStarted heads loopers by launch.NotFound = Unit {0}
+HasStarted heads loopers by launch.Limit = Unit {0}
+
+abbrev pub HasLaunched : List AppHead → List LooperData → ℕ → RosterEvent → Type 0
+HasLaunched heads loopers by (event.Launch word result) = HasStarted heads loopers by result
+HasLaunched heads loopers by (event.Find word result) = Unit {0}
+HasLaunched heads loopers by (event.Gone team) = Unit {0}
+HasLaunched heads loopers by (event.Door looper) = Unit {0}
+
+abbrev pub LaunchesHaveLoopers : Type 0
+LaunchesHaveLoopers =
+    (heads : List AppHead) (entries : List RosterEntry) → IsHistory heads entries
+    → All (λ (entry : RosterEntry). HasLaunched heads (state_of heads entries).loopers entry.by.0 entry.event) entries
 
 -- ---- the last part of a path has no slash, and is the whole path or stands after a slash
 pub record IsLastPart (path part : List ℕ) : Type 0 where

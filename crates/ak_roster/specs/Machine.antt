@@ -3,6 +3,7 @@ use Rattle.std.specs.Prelude.{◌≡◌, ◌<◌, ℕ, zero, suc, ◌+◌, Bool,
 use Rattle.std.specs.List.{list_any}
 use Rattle.ak_base.specs.declared.app_word.AppWord.{AppWord}
 use Rattle.ak_base.specs.Limits.{looper_limit}
+use Rattle.ak_base.specs.Thread.{main_thread, looper_thread, keeper_thread}
 use Rattle.ak_turn.specs.Lines.{last_stamp_of}
 use Rattle.ak_roster.specs.declared.head.AppHead.{AppHead}
 use Rattle.ak_roster.specs.declared.team.Running.{Running}
@@ -109,16 +110,22 @@ with_given thread (suc number) (looper ∷ rest) = looper ∷ with_given thread 
 abbrev pub with_door : ℕ → ℕ → RosterState → RosterState
 with_door thread number s = record s { loopers = with_given thread number s.loopers }
 
+-- the threads that have a part of what the door of looper L leads to: main, looper L, the first looper of its team, the keeper of the
+-- doors, and those that got the door since
+abbrev pub holders : ℕ → LooperData → List ℕ
+holders number looper = main_thread ∷ looper_thread number ∷ looper_thread looper.own ∷ keeper_thread ∷ looper.given
+
 -- ---- the table: when an event may come by a thread, and what it changes
-abbrev pub HasNoDoor : ℕ → Option LooperData → Type 0
-HasNoDoor thread None = ⊥
-HasNoDoor thread (Some looper) = ¬ (Contains looper.given thread)
+-- there is a looper with that number, and the thread has no part of what its door leads to
+abbrev pub HasNoDoor : ℕ → ℕ → Option LooperData → Type 0
+HasNoDoor thread number None = ⊥
+HasNoDoor thread number (Some looper) = ¬ (Contains (holders number looper) thread)
 
 abbrev pub IsLegal : List AppHead → RosterState → ℕ → RosterEvent → Type 0
 IsLegal heads s by (event.Launch word result) = result ≡ launch_of heads s word
 IsLegal heads s by (event.Find word result) = result ≡ find_of heads s word
 IsLegal heads s by (event.Gone team) = IsTrue (list_any (runs_team team) s.running)
-IsLegal heads s by (event.Door looper) = HasNoDoor by (slice_get s.loopers looper)
+IsLegal heads s by (event.Door looper) = HasNoDoor by looper (slice_get s.loopers looper)
 
 abbrev pub after : List AppHead → RosterState → ℕ → RosterEvent → RosterState
 after heads s by (event.Launch word result) = launched heads by result s

@@ -10,7 +10,7 @@ use Rattle.ak_roster.specs.declared.entry.RosterLine.{RosterLine}
 use Rattle.ak_roster.specs.declared.entry.RosterEvent.{RosterEvent}
 use Rattle.ak_roster.specs.Heads.{IsHeads}
 use Rattle.ak_roster.specs.Told.{told_with}
-use Rattle.ak_roster.specs.Machine.{LooperData, RosterState, IsHistory, state_of}
+use Rattle.ak_roster.specs.Machine.{LooperData, RosterState, IsHistory, holders, state_of}
 
 -- the described applications; what was done, of which the line of a launch that started a team has the objects that its doors told, in the
 -- order of the loopers; and the doors that the book keeps, by the loopers' numbers
@@ -41,11 +41,6 @@ module _ {O : Type 0} where
   abbrev pub new_line : Clock → List (RosterLine O) → RosterEvent → List (Option O) → RosterLine O
   new_line clock lines what objects =
       record { entry = record { stamp = next_stamp clock lines; by = clock.thread; event = what }; objects = objects }
-
--- the threads that have a part of what the door of looper L leads to: main, looper L, the first looper of its team, the keeper of the
--- doors, and those that got the door since
-abbrev pub holders : ℕ → LooperData → List ℕ
-holders number looper = main_thread ∷ looper_thread number ∷ looper_thread looper.own ∷ keeper_thread ∷ looper.given
 
 -- the same threads, in whatever order
 abbrev pub AreSame : List ℕ → List ℕ → Type 0

@@ -2,6 +2,8 @@
 
 ghost use Rattle.ak_roster.specs.Laws as law;
 
+use crate::grant::Grant;
+
 /// An answer is a function of what stands before it in the history.
 pub fn answers_follow()
     ensures launches { law.OneLaunch }
@@ -34,9 +36,25 @@ pub fn limits_hold()
 /// The threads that have a part of a looper's door that tells its threads are main, the looper, the one that the
 /// door names as its team's own, the keeper, and just those by which the list has an entry `Door` of it. A thread
 /// that is none of these four, and whose own entries have none of that door, is a stranger to it, as `grant` asks.
+/// None of the four has an entry `Door` of it.
 pub fn holders_are_told()
     ensures holders { law.HoldersAreTold }
     ensures strangers { law.StrangersAreTold }
+    ensures four { law.FourTakeNoDoor }
+{}
+
+/// What a seat at the roster's lock knows of its own lines tells whether its thread is a stranger to a door, as
+/// `grant` asks: where it is none of the four, and none of the lines at its own places is of that door.
+pub fn seats_tell_strangers<D: Grant>()
+    ensures lines { law.LinesTellEntries D.Object }
+    ensures strangers { law.SeatsAreStrangers D.Object }
+{}
+
+/// The loopers of a team, by the numbers from its first one on, were started, and have that first one as their team's
+/// own. So it is of each team that runs, and of each launch that started one.
+pub fn loopers_are_of_their_teams()
+    ensures teams { law.TeamsHaveLoopers }
+    ensures launches { law.LaunchesHaveLoopers }
 {}
 
 /// What a name is compared with is what stands after the last slash of a path.

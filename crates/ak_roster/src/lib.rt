@@ -24,7 +24,7 @@ pub use entry::{FindOutcome, LaunchOutcome, RosterEntry, RosterEvent, RosterLine
 pub use grant::Grant;
 pub use head::{AppHead, Mode};
 pub use laws::{
-    answers_follow, holders_are_told, last_parts_are_so, limits_hold, modes_hold, no_team_returns,
-    the_least_is_found,
+    answers_follow, holders_are_told, last_parts_are_so, limits_hold, loopers_are_of_their_teams,
+    modes_hold, no_team_returns, seats_tell_strangers, the_least_is_found,
 };
 pub use team::{APP_LIMIT, Running, TEAM_LIMIT};
