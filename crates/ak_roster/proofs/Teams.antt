@@ -1,5 +1,5 @@
 -- The loopers of a team were started, and have its first one as their team's own.
-use Rattle.std.proofs.Common.{◌≡◌, ◌<◌, ◌≤◌, ◌+◌, ℕ, zero, suc, not, List, [], ◌∷◌, ◌++◌, length, refl, sym, arith, All, filter}
+use Rattle.std.proofs.Common.{◌≡◌, ◌<◌, ◌≤◌, ◌+◌, ℕ, zero, suc, not, List, [], ◌∷◌, ◌++◌, length, refl, sym, arith, All}
 use Rattle.std.specs.Prelude.{IsSomeAnd, replicate, slice_get}
 use Rattle.std.proofs.lemmas.List.Elements.{All-append, All-cons, All-filter, All-nil, All-push, All-weaker}
 use Rattle.ak_base.specs.declared.app_word.AppWord.{AppWord}
@@ -10,7 +10,7 @@ use Rattle.ak_roster.specs.declared.entry.RosterEvent.{RosterEvent}
 use Rattle.ak_roster.specs.declared.entry.RosterEvent.TheVariants as event
 use Rattle.ak_roster.specs.declared.entry.LaunchOutcome.{LaunchOutcome}
 use Rattle.ak_roster.specs.declared.entry.LaunchOutcome.TheVariants as launch
-use Rattle.ak_roster.specs.Machine.{IsHistory, IsLegal, LooperData, RosterState, after, given_to, launch_of, loopers_at, loopers_of, runs_team, state_of, team_of, with_given}
+use Rattle.ak_roster.specs.Machine.{IsLegal, LooperData, RosterState, after, given_to, launch_of, loopers_at, loopers_of, runs_team, state_of, team_of, with_given}
 use Rattle.ak_roster.specs.Laws.{AreThere, HasLaunched, LaunchesHaveLoopers, TeamsHaveLoopers}
 use Rattle.ak_roster.proofs.Carried.{carried}
 use Rattle.ak_roster.proofs.Launching.{started_facts}
@@ -50,8 +50,9 @@ module _ (heads : List AppHead) (s : RosterState) (by : ℕ) where
       let f = started_facts heads s word place t first (sym legal) in
       let team : Running = record { team = t; description = place; first = first; loopers = loopers_at heads place } in
       let looper : LooperData = record { own = first; starter = by; given = [] } in
-      All-cons (HasLoopers (s.loopers ++ replicate (loopers_at heads place) looper)) team []
-      (λ number low high. some_new (IsOwn first) s.loopers looper (loopers_at heads place) number refl (omega (arith, low, f.first_is)) (omega (arith, high, f.first_is)))
+      let there : AreThere (IsOwn first) (s.loopers ++ replicate (loopers_at heads place) looper) first (loopers_at heads place) =
+      λ number low high. some_new (IsOwn first) s.loopers looper (loopers_at heads place) number refl (omega (arith, low, f.first_is)) (omega (arith, high, f.first_is)) in
+      All-cons (HasLoopers (s.loopers ++ replicate (loopers_at heads place) looper)) team [] there
       (All-nil (HasLoopers (s.loopers ++ replicate (loopers_at heads place) looper)))
   new_team word (launch.AlreadyRunning t) legal = All-nil (HasLoopers (s.loopers ++ []))
   new_team word launch.NotFound legal = All-nil (HasLoopers (s.loopers ++ []))

@@ -1,7 +1,7 @@
 -- What contracts see of the roster's book.
 use Rattle.std.specs.Prelude.{◌≡◌, ℕ, suc, ◌+◌, max, List, [], ◌∷◌, ◌++◌, length, map, Contains, Option, None, Some, IfSome, slice_get, slice_set, ◌↔◌}
 use Rattle.std.specs.List.{flat_map}
-use Rattle.ak_base.specs.Thread.{main_thread, looper_thread, keeper_thread}
+use Rattle.ak_base.specs.Thread.{main_thread}
 use Rattle.ak_turn.specs.declared.clock.Clock.{Clock}
 use Rattle.ak_turn.specs.Lines.{last_stamp_of}
 use Rattle.ak_roster.specs.declared.head.AppHead.{AppHead}

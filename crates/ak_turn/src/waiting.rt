@@ -1,4 +1,4 @@
-//! How a thread waits. No clause depends on it, and nobody burns a processor.
+//! How a thread waits: nobody burns a processor. That a wait ends, or when, is said by no clause.
 ghost use Rattle.std.specs.Prelude.{◌<◌, ◌≢◌};
 ghost use Rattle.ak_turn.specs.Steps.{IsWide};
 

@@ -12,7 +12,7 @@ use ak_base::{Bytes, Code, NoMemory, ThreadId};
 use ak_flatten::{Duty, Item, Taken};
 use ak_message::{Message, Target, Value};
 use ak_port::{
-    FillAnswer, How, LIFE_LIMIT, Port, PortBook, ReplyBook, TakeAnswer, WriteAnswer, close, fill,
+    FillAnswer, LIFE_LIMIT, Port, PortBook, ReplyBook, TakeAnswer, WriteAnswer, close, fill,
     fill_none, make, open_ask, wait_for, write,
 };
 use ak_turn::{Clock, Seat, TurnLock};
@@ -216,7 +216,7 @@ fn ask<R: Wait>(
 {
     let slot = open_ask(book, rt, at_book, clock)?;
     let owed = item.with_duty(Duty::Slot(slot));
-    match write(port, rt, at_port, clock, owed, How::Wait) {
+    match write(port, rt, at_port, clock, owed) {
         WriteAnswer::Wrote(_) => Ok(wait_for(book, rt, at_book, clock, slot)),
         _ => Err(NoMemory),
     }

@@ -13,7 +13,7 @@ use ak_base::{NoMemory, ThreadId};
 use ak_flatten::{Duty, Item, Taken};
 use ak_message::Target;
 use ak_port::{
-    CloseAnswer, How, LIFE_LIMIT, Port, PortBook, TakeAnswer, WriteAnswer, close, make, take, write,
+    CloseAnswer, LIFE_LIMIT, Port, PortBook, TakeAnswer, WriteAnswer, close, make, take, write,
 };
 use ak_turn::{Clock, Seat};
 use std::alloc::Global;
@@ -237,7 +237,7 @@ fn write_some<R: Wait>(
     let mut clock = Clock { thread, time: 0 };
     for _ in 0..each {
         let next = item.try_clone(alloc)?;
-        match write(port, rt, &mut seat, &mut clock, next, How::Wait) {
+        match write(port, rt, &mut seat, &mut clock, next) {
             WriteAnswer::Wrote(_) => {}
             _ => return Err(NoMemory),
         }

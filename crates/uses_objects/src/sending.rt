@@ -13,8 +13,8 @@ use crate::reply_text::reply_text;
 use ak_base::{Bytes, Code, NoMemory, Text, ThreadId};
 use ak_flatten::{Duty, Item};
 use ak_message::{AddFault, Address, Message, Target, Value};
-use ak_messenger::{Envelope, Hands, Reply, SendFault, ask, post};
-use ak_port::{FillAnswer, How, Port, PortBook, ReplyBook, ReplyEvent, close, fill, make, take};
+use ak_messenger::{Envelope, Hands, Reply, SendFault, ask, post, post_at_turn};
+use ak_port::{FillAnswer, Port, PortBook, ReplyBook, ReplyEvent, close, fill, make, take};
 use ak_turn::{Book, Clock, Seat, TurnLock};
 use std::alloc::Global;
 use std::collections::VecDeque;
@@ -120,7 +120,19 @@ fn long(alloc: Global) -> Result<Message, Fail> {
     Ok(message)
 }
 
-// Posts the message, without waiting, and with all its specifiers popped.
+// The envelope of a post with all of the message's specifiers popped, and an address.
+fn posting(m: &Message) -> Envelope
+    ensures { result.popped ≡ specifier_count m.now.fields }
+{
+    let mut e = envelope(m.specifiers());
+    e.back = Some(Address {
+        looper: 2,
+        target: Target::Preferred,
+    });
+    e
+}
+
+// Posts the message once there is room.
 fn post_one<R: Wait>(
     rt: &R,
     alloc: Global,
@@ -135,12 +147,27 @@ fn post_one<R: Wait>(
     ensures seat { KeepsSeat seat.old seat.new }
     ensures clock { hands.new.clock.thread ≡ hands.old.clock.thread }
 {
-    let mut e = envelope(m.specifiers());
-    e.back = Some(Address {
-        looper: 2,
-        target: Target::Preferred,
-    });
-    post(alloc, hands, rt, port, seat, e, m, How::NoWait)
+    post(alloc, hands, rt, port, seat, posting(m), m)
+}
+
+// Posts the message in a turn that is taken first, without waiting for room.
+fn post_now<R: Wait>(
+    rt: &R,
+    alloc: Global,
+    hands: &mut Hands,
+    port: &Port,
+    seat: &mut Seat<PortBook>,
+    m: &Message,
+) -> Result<u64, SendFault>
+    requires of { seat.old.lock ≡ port.now }
+    requires idle { seat.old.turn ≡ false }
+    requires thread { seat.old.thread ≡ hands.old.clock.thread.0 }
+    ensures seat { KeepsSeat seat.old seat.new }
+    ensures clock { hands.new.clock.thread ≡ hands.old.clock.thread }
+{
+    let turn = port.lock(rt, seat);
+    hands.clock.ready(rt);
+    post_at_turn(alloc, &mut hands.clock, turn, seat, posting(m), m)
 }
 
 // Takes an item as the looper.
@@ -178,13 +205,13 @@ fn post_in_turn<R: Wait>(rt: &R, alloc: Global) -> Result<Posts, Fail> {
     } = make_scene(alloc, 2)?;
     let m = question(alloc)?;
     let first = post_one(rt, alloc, &mut hands, &port, &mut seat, &m);
-    let full = post_one(rt, alloc, &mut hands, &port, &mut seat, &m);
-    let long = post_one(rt, alloc, &mut hands, &port, &mut seat, &long(alloc)?);
+    let full = post_now(rt, alloc, &mut hands, &port, &mut seat, &m);
+    let long = post_now(rt, alloc, &mut hands, &port, &mut seat, &long(alloc)?);
     let item = take_one(rt, alloc, &port, &mut taker)?;
     let second = post_one(rt, alloc, &mut hands, &port, &mut seat, &m);
     let spent = post_one(rt, alloc, &mut hands, &port, &mut seat, &m);
     close(&port, rt, &mut seat, &mut hands.clock);
-    let shut = post_one(rt, alloc, &mut hands, &port, &mut seat, &m);
+    let shut = post_now(rt, alloc, &mut hands, &port, &mut seat, &m);
     Ok((
         [first, full, long, second, spent, shut],
         told_by(&item.ok_or("an item")?),

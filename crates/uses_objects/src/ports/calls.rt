@@ -7,7 +7,7 @@ ghost use Rattle.ak_port.specs.SeatKept.{KeepsSeat};
 use ak_base::{Code, NoMemory};
 use ak_flatten::{Duty, FlattenFault, Item, Taken};
 use ak_message::{Message, Target};
-use ak_port::{How, Port, PortBook, TakeAnswer, WriteAnswer, take, write, write_at_turn};
+use ak_port::{Port, PortBook, TakeAnswer, WriteAnswer, take, write, write_at_turn};
 use ak_turn::{Clock, Seat};
 use std::alloc::Global;
 use std::collections::VecDeque;
@@ -51,7 +51,7 @@ pub fn said_by(answer: WriteAnswer) -> Said {
     }
 }
 
-/// Writes an item with that code, without waiting.
+/// Writes an item with that code, without waiting for room: in a turn that is taken first.
 pub fn put<R: Wait>(
     rt: &R,
     alloc: Global,
@@ -68,11 +68,13 @@ pub fn put<R: Wait>(
     ensures taking { (thread : ThreadId) (room : ℕ) → CanTake thread room seat.old → CanTake thread room seat.new }
 {
     let item = item(alloc, code)?;
-    Ok(said_by(write(port, rt, seat, clock, item, How::NoWait)))
+    let turn = port.lock(rt, seat);
+    clock.ready(rt);
+    Ok(said_by(write_at_turn(turn, seat, clock, item)))
 }
 
-/// The same, in a turn that is taken first.
-pub fn put_at_turn<R: Wait>(
+/// The same, once there is room.
+pub fn put_once_free<R: Wait>(
     rt: &R,
     alloc: Global,
     port: &Port,
@@ -87,9 +89,7 @@ pub fn put_at_turn<R: Wait>(
     ensures clock { clock.new.thread ≡ clock.old.thread }
 {
     let item = item(alloc, code)?;
-    let turn = port.lock(rt, seat);
-    clock.ready(rt);
-    Ok(said_by(write_at_turn(turn, seat, clock, item)))
+    Ok(said_by(write(port, rt, seat, clock, item)))
 }
 
 /// Takes one item: what it answered, and the item's position and code.

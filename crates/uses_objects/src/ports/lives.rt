@@ -3,7 +3,7 @@ ghost use Rattle.std.specs.Prelude.{◌≡◌, false};
 ghost use Rattle.ak_turn.specs.Steps.{IsNewName};
 ghost use Rattle.ak_port.specs.PortCalls.{CanTake};
 
-use super::calls::{Said, put, put_at_turn, take_first, take_one};
+use super::calls::{Said, put, put_once_free, take_first, take_one};
 use crate::compare::same;
 use ak_base::{NoMemory, ThreadId};
 use ak_port::{
@@ -16,36 +16,22 @@ use std::alloc::Global;
 use std::sync::Wait;
 use std::test::Fail;
 
-// What three writes answer at a port of capacity 2 and life 2.
+// What three writes answer at a port of capacity 2 and life 2. None has to wait for room.
 fn write_three<R: Wait>(rt: &R, alloc: Global) -> Result<[Said; 3], Fail> {
     let mut clock = Clock {
         thread: ThreadId::MAIN,
         time: 0,
     };
     let (port, mut seat) = make(alloc, 2, 2, ThreadId::MAIN, &mut clock)?;
-    let first = put(rt, alloc, &port, &mut seat, &mut clock, 1)?;
-    let second = put(rt, alloc, &port, &mut seat, &mut clock, 2)?;
-    let third = put(rt, alloc, &port, &mut seat, &mut clock, 3)?;
+    let first = put_once_free(rt, alloc, &port, &mut seat, &mut clock, 1)?;
+    let second = put_once_free(rt, alloc, &port, &mut seat, &mut clock, 2)?;
+    let third = put_once_free(rt, alloc, &port, &mut seat, &mut clock, 3)?;
     Ok([first, second, third])
 }
 
-// What two writes answer at a port of capacity 1 and life 3, each in a turn that is taken first.
-fn write_two_at_turns<R: Wait>(rt: &R, alloc: Global) -> Result<[Said; 2], Fail> {
-    let mut clock = Clock {
-        thread: ThreadId::MAIN,
-        time: 0,
-    };
-    let (port, mut seat) = make(alloc, 1, 3, ThreadId::MAIN, &mut clock)?;
-    let first = put_at_turn(rt, alloc, &port, &mut seat, &mut clock, 1)?;
-    let second = put_at_turn(rt, alloc, &port, &mut seat, &mut clock, 2)?;
-    Ok([first, second])
-}
-
-const AT_TURNS: [Said; 2] = [Said::Wrote(0), Said::Full];
-
 const THREE: [Said; 3] = [Said::Wrote(0), Said::Wrote(1), Said::Spent];
 
-// What is answered at a port of capacity 1 and life 3 before it is shut, and what after.
+// What is answered at a port of capacity 1 and life 3 before it is shut, and what after. Each write has its turn.
 fn write_take_and_shut<R: Wait>(rt: &R, alloc: Global) -> Result<(Start, End), Fail> {
     let mut clock = Clock {
         thread: ThreadId::FIRST_LOOPER,
@@ -177,12 +163,6 @@ fn a_port_is_made_filled_emptied_and_shut(rt: HostRuntime) -> Result<(), Fail> {
     takes_go_on();
     new_seats_can_take();
     nothing_comes_after_the_rest();
-    same(
-        &rt,
-        "writes at turns",
-        write_two_at_turns(&rt, alloc)?,
-        AT_TURNS,
-    );
     same(
         &rt,
         "capacity 2 and life 2",

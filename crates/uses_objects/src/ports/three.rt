@@ -10,7 +10,7 @@ ghost use Rattle.ak_port.specs.PortWriters.{teams_in, HasSent, HasTaken, KnowsSe
 use ak_base::{Code, NoMemory, ThreadId};
 use ak_flatten::{Duty, Item, Taken};
 use ak_message::{Message, Target};
-use ak_port::{How, Port, PortBook, TakeAnswer, WriteAnswer, make, take, write};
+use ak_port::{Port, PortBook, TakeAnswer, WriteAnswer, make, take, write};
 use ak_turn::{Clock, Seat};
 use std::alloc::Global;
 use std::collections::VecDeque;
@@ -81,7 +81,7 @@ fn send<R: Wait>(
     let mut sent = Vec::new(alloc);
     for number in first..first + each {
         let item = item(alloc, number)?;
-        match write(port, rt, &mut seat, &mut clock, item, How::Wait) {
+        match write(port, rt, &mut seat, &mut clock, item) {
             WriteAnswer::Wrote(_) => sent.push(number)?,
             _ => return Err(NoMemory),
         }

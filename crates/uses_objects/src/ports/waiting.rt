@@ -6,7 +6,7 @@ use super::calls::{Said, item, put, said_by, take_one};
 use crate::compare::same;
 use ak_base::{NoMemory, ThreadId};
 use ak_flatten::FlattenFault;
-use ak_port::{CloseAnswer, How, Port, PortBook, TakeAnswer, close, make, write};
+use ak_port::{CloseAnswer, Port, PortBook, TakeAnswer, close, make, write};
 use ak_turn::{Clock, Seat};
 use std::alloc::Global;
 use std::sync::Wait;
@@ -31,7 +31,7 @@ fn write_waiting<R: Wait>(
         time: 0,
     };
     let item = item(alloc, 2)?;
-    Ok(said_by(write(port, rt, &mut seat, &mut clock, item, How::Wait)))
+    Ok(said_by(write(port, rt, &mut seat, &mut clock, item)))
 }
 
 // What main's closing answers, or its take.

@@ -9,8 +9,8 @@ use crate::compare::same;
 use ak_base::ThreadId;
 use ak_roster::{
     Decision, FindAnswer, FindOutcome, LaunchOutcome, Mode, RosterEntry, RosterEvent,
-    answers_follow, last_parts_are_so, limits_hold, modes_hold, no_team_returns,
-    the_least_is_found,
+    answers_follow, holders_are_told, last_parts_are_so, limits_hold, loopers_are_of_their_teams,
+    modes_hold, no_team_returns, seats_tell_strangers, the_least_is_found,
 };
 use ak_turn::{Book, Clock};
 use std::alloc::Global;
@@ -308,10 +308,13 @@ const ENTRIES: [Option<Told>; 4] = [
 
 fn call_the_laws() {
     answers_follow();
+    holders_are_told();
     last_parts_are_so();
     limits_hold();
+    loopers_are_of_their_teams();
     modes_hold();
     no_team_returns();
+    seats_tell_strangers::<()>();
     the_least_is_found();
 }
 

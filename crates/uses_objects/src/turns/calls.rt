@@ -7,7 +7,7 @@ use super::stamps::{BOOKS, first_stamp, two_entries, two_stamps};
 use super::tally::Tally;
 use crate::compare::same;
 use ak_base::ThreadId;
-use ak_turn::{Book, Clock, Seat, TurnLock, fronts_go_on};
+use ak_turn::{Book, Clock, Seat, TurnLock, fronts_go_on, new_seats_know};
 use std::alloc::Global;
 use std::sync::{Arc, Wait};
 use std::test::Fail;
@@ -49,6 +49,7 @@ const CALLED: Called = (7, [1, 0, 1, 1], 1, true);
 fn turns_are_entries_with_stamps(rt: HostRuntime) -> Result<(), Fail> {
     let alloc = rt.alloc();
     fronts_go_on::<Tally>();
+    new_seats_know::<Tally>();
     same(
         &rt,
         "seats split, call and join",
