@@ -26,9 +26,9 @@ module _ (old given new : DeskSeat) (b b' : DeskData) (clock clock' : Clock) (op
       at_front new b' (ap (λ (s : DeskSeat). s.opening) after ∙ given_opening (ap (λ (d : DeskData). d.opening) added.0)) (ap (λ (s : DeskSeat). s.front) after ∙ sym lines) h
   at_desk (Some e) added =
       let line : LineData = line_after b.lines clock e None in
-      let lines : b'.lines ≡ given.front ++ line ∷ [] = added.1 ∙ ap (λ (l : List LineData). l ++ line ∷ []) list in
+      let lines : b'.lines ≡ given.front ++ line ∷ [] = added.0.1 ∙ ap (λ (l : List LineData). l ++ line ∷ []) list in
       let after = entered line lines in
-      at_front new b' (ap (λ (s : DeskSeat). s.opening) after ∙ given_opening added.0) (ap (λ (s : DeskSeat). s.front) after ∙ sym lines) h
+      at_front new b' (ap (λ (s : DeskSeat). s.opening) after ∙ given_opening added.0.0) (ap (λ (s : DeskSeat). s.front) after ∙ sym lines) h
 
 -- ---- one entry of the looper's own thread
 record EntersThere (line : LineData) (opening : DeskState) (lines' : List LineData) (seat seat' : DeskSeat) : Type 0 where

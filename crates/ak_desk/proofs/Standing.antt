@@ -228,9 +228,11 @@ history_at_rest opening lines o s d same h none =
 -- ---- what an edit adds
 added_by : (d : DeskData) (clock : Clock) (e : Edit) (answer : EditAnswer) (d' : DeskData) (clock' : Clock) → answer ≡ (edit_of d.state.handlers e).answer → d' ≡ edited_to d clock e (edit_of d.state.handlers e) → clock' ≡ clock_after d clock → HasAdded (Some (event.Edited e answer)) clock clock' d d'
 added_by d clock e answer d' clock' is same c = (
-  ap (λ (x : DeskData). x.opening) same,
-  ap (λ (x : DeskData). x.lines) same ∙ ap (λ (a : EditAnswer). d.lines ++ line_after d.lines clock (event.Edited e a) None ∷ []) (sym is),
-  ap (λ (x : DeskData). x.begun) same,
+  (
+    ap (λ (x : DeskData). x.opening) same,
+    ap (λ (x : DeskData). x.lines) same ∙ ap (λ (a : EditAnswer). d.lines ++ line_after d.lines clock (event.Edited e a) None ∷ []) (sym is),
+    ap (λ (x : DeskData). x.begun) same,
+  ),
   c,
 )
 

@@ -1,8 +1,10 @@
 -- What contracts see of a desk, and what each call makes of it.
-use Rattle.std.specs.Prelude.{◌≡◌, ℕ, ◌+◌, ◌≤◌, Bool, true, false, is_some, if◌then◌else◌, max, List, [], ◌∷◌, ◌++◌, Option, None, Some, IsSome, option_map, slice_get}
+use Rattle.std.specs.Prelude.{◌≡◌, ℕ, ◌+◌, ◌≤◌, Bool, true, false, is_some, if◌then◌else◌, List, [], ◌∷◌, ◌++◌, Option, None, Some, IsSome, option_map, slice_get}
+use Rattle.ak_base.specs.declared.thread.ThreadId.{ThreadId}
 use Rattle.ak_flatten.specs.Item.{ItemData, message_of}
 use Rattle.ak_flatten.specs.declared.item.Taken.{Taken}
 use Rattle.ak_turn.specs.declared.clock.Clock.{Clock}
+use Rattle.ak_turn.specs.Called as at_lock
 use Rattle.ak_turn.specs.Lines.{last_stamp_of}
 use Rattle.ak_message.specs.Fields.{specifier_count}
 use Rattle.ak_message.specs.Message.{MessageData}
@@ -207,23 +209,29 @@ DeskAwaits (want.Post _ _ _) d = (a : Answer) → AnswersPost a → DeskTakes d 
 DeskAwaits (want.Ask _ _) d = (a : Answer) → AnswersAsk a → DeskTakes d a
 DeskAwaits (want.Forward _ _) d = (a : Answer) → AnswersForward a → DeskTakes d a
 
--- ---- a new line
+-- ---- a new line, in the words for every object
+abbrev pub stamp_number : LineData → ℕ
+stamp_number line = line.entry.stamp
+
+-- the line with that stamp, thread and event, and the item of a dispatch
+abbrev pub line_with : Option ItemData → ℕ → ThreadId → DeskEvent → LineData
+line_with item stamp by e = record { entry = record { stamp = stamp; by = by; event = e }; item = item }
+
 abbrev pub stamp_in : List LineData → ℕ
-stamp_in lines = last_stamp_of (λ line. line.entry.stamp) lines
+stamp_in lines = last_stamp_of stamp_number lines
 
 abbrev pub stamp_after : List LineData → Clock → ℕ
-stamp_after lines clock = 1 + max clock.time (stamp_in lines)
+stamp_after lines clock = at_lock.stamp_due stamp_number clock lines
 
 -- the clock of the thread, and the item of a dispatch
 abbrev pub line_after : List LineData → Clock → DeskEvent → Option ItemData → LineData
-line_after lines clock e item =
-    record { entry = record { stamp = stamp_after lines clock; by = clock.thread; event = e }; item = item }
+line_after lines clock e item = at_lock.entry_now stamp_number (line_with item) clock lines e
 
 abbrev pub with_line : DeskData → Clock → DeskEvent → Option ItemData → DeskData
 with_line d clock e item = record d { lines = d.lines ++ line_after d.lines clock e item ∷ [] }
 
 abbrev pub clock_after : DeskData → Clock → Clock
-clock_after d clock = record clock { time = stamp_after d.lines clock }
+clock_after d clock = at_lock.clock_after stamp_number clock d.lines
 
 -- ---- ending
 abbrev pub words_in : Option Came → List AnswerWord
@@ -286,7 +294,7 @@ pub record HasDispatched (clock clock' : Clock) (position : ℕ) (item : ItemDat
   pub replies : Replies before item words reply
   pub grown : lines' ≡ lines ++ dispatched_line lines clock position item before words quit ∷ []
   pub goes_on : IsHistory opening lines' after
-  pub clocked : clock' ≡ record clock { time = stamp_after lines clock }
+  pub clocked : clock' ≡ at_lock.clock_after stamp_number clock lines
   pub made_is : made ≡ made_of (record { words = words; reply = reply; quit = quit })
 
 -- of what was begun
@@ -315,7 +323,7 @@ pub record HasGivenUp (clock clock' : Clock) (position : ℕ) (item : ItemData) 
   pub position_is : position ≡ dispatches lines
   pub grown : lines' ≡ lines ++ given_up_line lines clock position item ∷ []
   pub goes_on : IsHistory opening lines' state
-  pub clocked : clock' ≡ record clock { time = stamp_after lines clock }
+  pub clocked : clock' ≡ at_lock.clock_after stamp_number clock lines
   pub made_is : made ≡ made_without_memory
 
 abbrev pub GivesUp : Clock → Clock → DeskData → DeskData → Taken → Made → Type 0
@@ -336,8 +344,10 @@ abbrev pub edit_entry : Edit → EditAnswer → Option DeskEvent
 edit_entry e answered.NoMemory = None
 edit_entry e answer = Some (event.Edited e answer)
 
+-- that line more; the handlers may be others
+abbrev pub HasOneMore : DeskData → LineData → DeskData → Type 0
+HasOneMore d line d' = (d'.opening ≡ d.opening) × (d'.lines ≡ d.lines ++ line ∷ []) × (d'.begun ≡ d.begun)
+
 -- one line more of no message, or none
 abbrev pub HasAdded : Option DeskEvent → Clock → Clock → DeskData → DeskData → Type 0
-HasAdded (Some e) clock clock' d d' =
-    (d'.opening ≡ d.opening) × (d'.lines ≡ d.lines ++ line_after d.lines clock e None ∷ []) × (d'.begun ≡ d.begun) × (clock' ≡ clock_after d clock)
-HasAdded None clock clock' d d' = (d' ≡ d) × (clock' ≡ clock)
+HasAdded e clock clock' d d' = at_lock.HasAdded stamp_number (line_with None) (λ (x : DeskData). x.lines) HasOneMore e clock clock' d d'

@@ -1,14 +1,15 @@
 -- What a call on a desk that threads share says.
-use Rattle.std.specs.Prelude.{◌≡◌, ℕ, List, [], ◌∷◌, ◌++◌, Option, None, Some, IsSomeAnd}
+use Rattle.std.specs.Prelude.{◌≡◌, ℕ, List, Option, None, Some, IsSomeAnd}
 use Rattle.ak_flatten.specs.Item.{ItemData}
 use Rattle.ak_turn.specs.declared.clock.Clock.{Clock}
-use Rattle.ak_turn.specs.Seats.{SeatData, HasSeen, HasCalled}
+use Rattle.ak_turn.specs.Called as at_lock
+use Rattle.ak_turn.specs.Seats.{SeatData, HasCalled}
 use Rattle.ak_action.specs.declared.answer.Answer.{Answer}
 use Rattle.ak_action.specs.declared.answer.Want.{Want}
 use Rattle.ak_action.specs.declared.state.DeskState.{DeskState}
 use Rattle.ak_desk.specs.declared.entry.DeskEvent.{DeskEvent}
 use Rattle.ak_desk.specs.declared.made.Made.{Made}
-use Rattle.ak_desk.specs.Desk.{HasDispatched, HasGivenUp, dispatched_line, given_up_line, line_after, stamp_after}
+use Rattle.ak_desk.specs.Desk.{HasDispatched, HasGivenUp, dispatched_line, given_up_line, line_with, stamp_number}
 use Rattle.ak_desk.specs.Line.{LineData}
 use Rattle.ak_desk.specs.Machine.{IsHistory}
 
@@ -19,21 +20,9 @@ DeskSeat = SeatData DeskState LineData
 abbrev pub by_number : LineData → ℕ
 by_number line = line.entry.by.0
 
--- the seat's thread made one entry with that event: it is the last of the seat's front, and goes on from all that was there before
-pub record HasEntered (clock clock' : Clock) (e : DeskEvent) (seat seat' : DeskSeat) : Type 0 where
-  pub before : List LineData
-  pub front : seat'.front ≡ before ++ line_after before clock e None ∷ []
-  pub called : HasCalled by_number (line_after before clock e None) seat seat'
-  pub clocked : clock' ≡ record clock { time = stamp_after before clock }
-
--- it made none
-pub record HasLooked (clock clock' : Clock) (seat seat' : DeskSeat) : Type 0 where
-  pub seen : HasSeen by_number seat seat'
-  pub clocked : clock' ≡ clock
-
+-- in the words for every object: the seat's thread made one entry with that event, of no message, or it made none
 abbrev pub HasAnswered : Option DeskEvent → Clock → Clock → DeskSeat → DeskSeat → Type 0
-HasAnswered (Some e) clock clock' seat seat' = HasEntered clock clock' e seat seat'
-HasAnswered None clock clock' seat seat' = HasLooked clock clock' seat seat'
+HasAnswered e clock clock' seat seat' = at_lock.HasAnswered by_number stamp_number (line_with None) e clock clock' seat seat'
 
 -- the seat's thread dispatched one message in one turn, having asked for these and heard these answers: its entry is the last of the
 -- seat's front, and goes on from all that was there before

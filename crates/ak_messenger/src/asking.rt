@@ -8,7 +8,7 @@ ghost use Rattle.ak_turn.specs.Seats.{KnowsWhole};
 ghost use Rattle.ak_flatten.specs.Limits.{flat_limit};
 ghost use Rattle.ak_port.specs.PortCalls.{by_number, CanTake, IsAtPort, KeepsTaken};
 ghost use Rattle.ak_port.specs.ReplySeats.{maker_of, MayCancel, MayTake};
-ghost use Rattle.ak_port.specs.SeatKept.{KeepsSeat};
+ghost use Rattle.ak_turn.specs.Called.{KeepsSeat};
 ghost use Rattle.ak_messenger.specs.Sends.{item_in, write_fault, IfReached};
 ghost use Rattle.ak_messenger.specs.Asks.{AskTells, BecameOf, HasClosed, IsReplied, IsWritten};
 

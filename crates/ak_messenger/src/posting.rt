@@ -7,7 +7,7 @@ ghost use Rattle.ak_turn.specs.Lines.{last_stamp_of};
 ghost use Rattle.ak_turn.specs.Seats.{at_leisure, IsGiven, KnowsWhole};
 ghost use Rattle.ak_port.specs.PortCalls.{by_number, stamp_number, CanTake, HasAnswered, HasAnsweredAtTurn, IsAtPort, KeepsTaken, PortSeat};
 ghost use Rattle.ak_port.specs.PortMachine.{state_of, write_event, LacksRoom};
-ghost use Rattle.ak_port.specs.SeatKept.{KeepsSeat};
+ghost use Rattle.ak_turn.specs.Called.{KeepsSeat};
 ghost use Rattle.ak_messenger.specs.Sends.{back_duty, item_in, post_answer, post_event, IfReached};
 
 use crate::envelope::Envelope;

@@ -19,7 +19,7 @@ use Rattle.ak_port.specs.declared.port_entry.WriteAnswer.TheVariants as written
 use Rattle.ak_port.specs.PortCalls.{PortData, PortSeat, by_number, entry_now, clock_after, making, write_entry, HasAdded, HasAnswered, HasAnsweredAtTurn, HasEntered, HasLooked, IfNoMemory, IfRefused, IsAtPort, IsPortBook}
 use Rattle.ak_port.specs.PortLaws.{IsOfWrite}
 use Rattle.ak_port.specs.PortMachine.{PortState, AreSteps, IsPort, IsAllowed, LacksRoom, refusal_of, refused_event, state_of, unmade, write_event}
-use Rattle.ak_port.specs.SeatKept.{KeepsSeat}
+use Rattle.ak_turn.specs.Called.{KeepsSeat}
 use Rattle.ak_port.proofs.PortReplays.{AreSteps-behind, state_of-push}
 use Rattle.ak_port.proofs.PortSound.{refused_stays}
 

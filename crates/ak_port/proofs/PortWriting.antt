@@ -12,7 +12,7 @@ use Rattle.ak_port.specs.declared.port_entry.PortEvent.TheVariants as event
 use Rattle.ak_base.specs.declared.thread.ThreadId.{ThreadId}
 use Rattle.ak_port.specs.declared.port_entry.TakeAnswer.{TakeAnswer}
 use Rattle.ak_port.specs.PortCalls.{PortSeat, by_number, entry_now, HasEntered, IsAtPort, take_count, take_event}
-use Rattle.ak_port.specs.SeatKept.{KeepsSeat}
+use Rattle.ak_turn.specs.Called.{KeepsSeat}
 use Rattle.ak_port.specs.PortMachine.{last_taken, state_of, written_in, written_item}
 use Rattle.ak_port.specs.PortWriters.{teams_in, HasSent, HasTaken, KnowsSent}
 use Rattle.ak_port.proofs.PortTaken.{takes_more}

@@ -2,20 +2,19 @@
 use Rattle.std.proofs.Common.{◌≡◌, ◌≢◌, ℕ, ◌⊎◌, Bool, false, List, [], ◌∷◌, ◌++◌, length, Option, Some, None, Result, Ok, Err, sym, refl, ap, ◌∙◌, subst, append-nil, inl, inr, ⊎_elim}
 use Rattle.std.specs.Prelude.{slice_get, IfOk, OnOk, IfSome, IfNone, IsSome}
 use Rattle.std.proofs.lemmas.Bool.{cases_eq}
-use Rattle.std.proofs.lemmas.List.{append_cancel_right}
 use Rattle.std.proofs.lemmas.List.Elements.{All-head, All-tail, All-nil}
 use Rattle.std.proofs.lemmas.Option.{slice_get_within}
 use Rattle.ak_base.specs.declared.no_memory.NoMemory.{NoMemory}
 use Rattle.ak_turn.specs.declared.clock.Clock.{Clock}
 use Rattle.ak_turn.specs.Lines.{AreByOthers}
-use Rattle.ak_turn.specs.Seats.{HasSeen, IsGiven, at_leisure, entered_by, with_own}
+use Rattle.ak_turn.specs.Called.{KeepsSeat}
+use Rattle.ak_turn.specs.Seats.{HasCalled, HasSeen, IsGiven, at_leisure, entered_by, with_own}
 use Rattle.ak_turn.proofs.Calls.{seen_then_seen, seen_then_called}
 use Rattle.ak_port.specs.declared.reply_entry.ReplyEntry.{ReplyEntry}
 use Rattle.ak_port.specs.declared.reply_entry.ReplyEvent.{ReplyEvent}
 use Rattle.ak_port.specs.declared.reply_entry.ReplyEvent.TheVariants.{Opened, Filled, Cancelled, Taken}
 use Rattle.ak_port.specs.Reply.{Stage, open_stage, filled_stage, cancelled_stage, taken_stage, SlotData, slot_of, with_stage, changed, slots_from, slots_after, BookStep, Replays, IsLegal}
-use Rattle.ak_port.specs.ReplySeats.{ReplySeat, maker_of, entry_at, stamped, HasEnteredBook, HasLookedAtBook, HasFoundSettled, IsItsSlot, IsUntaken, IsUncancelled, MayTake, MayCancel}
-use Rattle.ak_port.specs.SeatKept.{KeepsSeat}
+use Rattle.ak_port.specs.ReplySeats.{ReplySeat, maker_of, clock_after, entry_at, entry_now, HasEnteredBook, HasFoundSettled, HasLooked, IsItsSlot, IsUntaken, IsUncancelled, MayTake, MayCancel}
 use Rattle.ak_port.proofs.ReplyHistory.{Replays-append, slots_from-append, slots_push}
 use Rattle.ak_port.proofs.ReplySlots.{get_left, get_last, get_same, get_other}
 
@@ -114,39 +113,48 @@ module _ (old given : ReplySeat) (lines : List ReplyEntry) (seen : IsGiven maker
   module _ (clock clock' : Clock) (lines' : List ReplyEntry) (new : ReplySeat) (idle : old.turn ≡ false) (thread : old.thread ≡ clock.thread.0)
       (finish : (line : ReplyEntry) → lines' ≡ given.front ++ line ∷ [] → new ≡ at_leisure (entered_by given line)) (legal : IsLegal lines') where
     -- the book has one entry more, and the turn was ended
-    pub entered : (event : ReplyEvent) → lines' ≡ lines ++ entry_at clock' event ∷ [] → clock' ≡ stamped clock lines → HasEnteredBook clock clock' event old new
-    entered event more clock_after =
-        let line : ReplyEntry = entry_at clock' event in
-        let after = finish line (more ∙ ap (λ (all : List ReplyEntry). all ++ line ∷ []) list) in
-        let at : ReplySeat → ReplySeat = λ s. at_leisure (entered_by s line) in
+    pub entered : (event : ReplyEvent) → lines' ≡ lines ++ entry_at clock' event ∷ [] → clock' ≡ clock_after clock lines → HasEnteredBook clock clock' event old new
+    entered event more clocked =
+        let before : List ReplyEntry = old.front ++ seen.between in
+        let x : ReplyEntry = entry_now clock before event in
+        let is : entry_at clock' event ≡ x = ap (λ (k : Clock). entry_at k event) (clocked ∙ ap (clock_after clock) lines_are) in
+        let grown : lines' ≡ lines ++ x ∷ [] = more ∙ ap (λ (e : ReplyEntry). lines ++ e ∷ []) is in
+        let after = finish x (grown ∙ ap (λ (all : List ReplyEntry). all ++ x ∷ []) list) in
+        let at : ReplySeat → ReplySeat = λ s. at_leisure (entered_by s x) in
         let turned : ReplySeat → Bool → ReplySeat = λ s b. record s { turn = b } in
-        let called : new ≡ with_own old seen.between line = after ∙ ap at seen.after ∙ ap (turned (with_own old seen.between line)) (sym idle) in
+        let called : new ≡ with_own old seen.between x = after ∙ ap at seen.after ∙ ap (turned (with_own old seen.between x)) (sym idle) in
+        let front : new.front ≡ before ++ x ∷ [] = ap (λ (s : ReplySeat). s.front) called in
         record {
-          called = record { between = seen.between; others = seen.others; mine = ap (λ (k : Clock). k.thread.0) clock_after ∙ sym thread; after = called };
-          clock_after = clock_after ∙ ap (stamped clock) lines_are;
-          legal = subst IsLegal (more ∙ ap (λ (all : List ReplyEntry). all ++ line ∷ []) lines_are ∙ sym (ap (λ (s : ReplySeat). s.front) called)) legal;
+          entered = record {
+            before = before;
+            front = front;
+            called = record { between = seen.between; others = seen.others; mine = sym thread; after = called };
+            clocked = clocked ∙ ap (clock_after clock) lines_are;
+          };
+          legal = subst IsLegal (grown ∙ ap (λ (all : List ReplyEntry). all ++ x ∷ []) lines_are ∙ sym front) legal;
         }
 
-    pub opened : (r : Result ℕ NoMemory) → IfOk r (λ n. lines' ≡ lines ++ entry_at clock' (Opened n) ∷ []) → OnOk r (clock' ≡ stamped clock lines) → IfOk r (λ n. HasEnteredBook clock clock' (Opened n) old new)
-    opened (Ok n) more clock_after = entered (Opened n) more clock_after
-    opened (Err e) more clock_after = tt
+    pub opened : (r : Result ℕ NoMemory) → IfOk r (λ n. lines' ≡ lines ++ entry_at clock' (Opened n) ∷ []) → OnOk r (clock' ≡ clock_after clock lines) → IfOk r (λ n. HasEnteredBook clock clock' (Opened n) old new)
+    opened (Ok n) more clocked = entered (Opened n) more clocked
+    opened (Err e) more clocked = tt
 
-    pub taken : (n : ℕ) (r : Option (List ℕ)) → (IsSome r → lines' ≡ lines ++ entry_at clock' (Taken n) ∷ []) → (IsSome r → clock' ≡ stamped clock lines) → IfSome r (λ _. HasEnteredBook clock clock' (Taken n) old new)
-    taken n (Some flat) more clock_after = entered (Taken n) (more refl) (clock_after refl)
-    taken n None more clock_after = tt
+    pub taken : (n : ℕ) (r : Option (List ℕ)) → (IsSome r → lines' ≡ lines ++ entry_at clock' (Taken n) ∷ []) → (IsSome r → clock' ≡ clock_after clock lines) → IfSome r (λ _. HasEnteredBook clock clock' (Taken n) old new)
+    taken n (Some flat) more clocked = entered (Taken n) (more refl) (clocked refl)
+    taken n None more clocked = tt
 
     -- the new slot is its opener's
     its : (n : ℕ) → HasEnteredBook clock clock' (Opened n) old new → IsItsSlot new.thread n open_stage new.front
     its n call =
-        let before = old.front ++ call.called.between in
-        let line : ReplyEntry = entry_at clock' (Opened n) in
-        let front : new.front ≡ before ++ line ∷ [] = ap (λ (s : ReplySeat). s.front) call.called.after in
-        let legal' : IsLegal (before ++ line ∷ []) = subst IsLegal front call.legal in
-        let place : n ≡ length (slots_after before) = ((Replays-append [] before (line ∷ []) legal'.replays).1).0 in
-        let by : clock'.thread.0 ≡ new.thread = call.called.mine ∙ sym (ap (λ (s : ReplySeat). s.thread) call.called.after) in
+        let made = call.entered in
+        let before : List ReplyEntry = made.before in
+        let x : ReplyEntry = entry_now clock before (Opened n) in
+        let front : new.front ≡ before ++ x ∷ [] = made.front in
+        let legal' : IsLegal (before ++ x ∷ []) = subst IsLegal front call.legal in
+        let place : n ≡ length (slots_after before) = ((Replays-append [] before (x ∷ []) legal'.replays).1).0 in
+        let by : clock.thread.0 ≡ new.thread = made.called.mine ∙ sym (ap (λ (s : ReplySeat). s.thread) made.called.after) in
         record {
-          there = ap (λ (all : List ReplyEntry). slice_get (slots_after all) n) front ∙ ap (λ (all : List SlotData). slice_get all n) (slots_push before line)
-              ∙ ap (slice_get (slots_after before ++ slot_of clock'.thread.0 open_stage ∷ [])) place ∙ get_last (slots_after before) (slot_of clock'.thread.0 open_stage) ∙ ap (λ (t : ℕ). Some (slot_of t open_stage)) by;
+          there = ap (λ (all : List ReplyEntry). slice_get (slots_after all) n) front ∙ ap (λ (all : List SlotData). slice_get all n) (slots_push before x)
+              ∙ ap (slice_get (slots_after before ++ slot_of clock.thread.0 open_stage ∷ [])) place ∙ get_last (slots_after before) (slot_of clock.thread.0 open_stage) ∙ ap (λ (t : ℕ). Some (slot_of t open_stage)) by;
         }
 
     pub opened_takes : (r : Result ℕ NoMemory) → IfOk r (λ n. HasEnteredBook clock clock' (Opened n) old new) → IfOk r (λ n. MayTake new.thread n new.front)
@@ -171,20 +179,22 @@ seen_nothing x = record { between = []; others = All-nil (λ entry. maker_of ent
 
 pub seen_then_entered : (event : ReplyEvent) (clock a b : Clock) (x y z : ReplySeat) → HasSeen maker_of x y → a ≡ clock → HasEnteredBook a b event y z → HasEnteredBook clock b event x z
 seen_then_entered event clock a b x y z one same two =
-    let line : ReplyEntry = entry_at b event in
-    let both = seen_then_called maker_of line x y z one two.called in
-    let front : (y.front ++ two.called.between) ++ line ∷ [] ≡ (x.front ++ both.between) ++ line ∷ [] = ap (λ (s : ReplySeat). s.front) (sym two.called.after ∙ both.after) in
+    let made = two.entered in
     record {
-      called = both;
-      clock_after = two.clock_after ∙ ap (λ (k : Clock). stamped k (y.front ++ two.called.between)) same ∙ ap (stamped clock) (append_cancel_right (y.front ++ two.called.between) (x.front ++ both.between) (line ∷ []) front);
+      entered = record {
+        before = made.before;
+        front = made.front ∙ ap (λ (k : Clock). made.before ++ entry_now k made.before event ∷ []) same;
+        called = subst (λ (k : Clock). HasCalled maker_of (entry_now k made.before event) x z) same (seen_then_called maker_of (entry_now a made.before event) x y z one made.called);
+        clocked = made.clocked ∙ ap (λ (k : Clock). clock_after k made.before) same;
+      };
       legal = two.legal;
     }
 
-seen_then_looked : (clock a b : Clock) (x y z : ReplySeat) → HasSeen maker_of x y → a ≡ clock → HasLookedAtBook a b y z → HasLookedAtBook clock b x z
-seen_then_looked clock a b x y z one same two = record { seen = seen_then_seen maker_of x y z one two.seen; clock_after = two.clock_after ∙ same; legal = two.legal }
+seen_then_looked : (clock a b : Clock) (x y z : ReplySeat) → HasSeen maker_of x y → a ≡ clock → HasLooked a b y z → HasLooked clock b x z
+seen_then_looked clock a b x y z one same two = record { seen = seen_then_seen maker_of x y z one two.seen; clocked = two.clocked ∙ same }
 
 pub seen_then_settled : (n : ℕ) (clock a b : Clock) (x y z : ReplySeat) → HasSeen maker_of x y → a ≡ clock → HasFoundSettled n a b y z → HasFoundSettled n clock b x z
-seen_then_settled n clock a b x y z one same two = record { looked = seen_then_looked clock a b x y z one same two.looked; settled = two.settled }
+seen_then_settled n clock a b x y z one same two = record { looked = seen_then_looked clock a b x y z one same two.looked; legal = two.legal; settled = two.settled }
 
 -- ---- what calls keep of a seat, one after another
 pub keeps_twice : (x y z : ReplySeat) → KeepsSeat x y → KeepsSeat y z → KeepsSeat x z

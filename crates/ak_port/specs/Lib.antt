@@ -9,6 +9,5 @@ pub mod ReplyInside
 pub mod ReplyKept
 pub mod ReplyLaws
 pub mod ReplySeats
-pub mod SeatKept
 pub mod Stamps
 pub mod TakerLaws

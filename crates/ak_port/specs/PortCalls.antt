@@ -1,9 +1,9 @@
 -- What the calls of a port say.
-use Rattle.std.specs.Prelude.{◌≡◌, ℕ, ◌+◌, ◌<◌, ◌≤◌, Bool, true, false, List, [], ◌∷◌, ◌++◌, length, max, All, Option, Some, None, IfSome, IsSomeAnd, slice_get}
+use Rattle.std.specs.Prelude.{◌≡◌, ℕ, ◌<◌, ◌≤◌, Bool, true, false, List, [], ◌∷◌, ◌++◌, length, All, Option, Some, None, IfSome, IsSomeAnd, slice_get}
 use Rattle.ak_base.specs.declared.thread.ThreadId.{ThreadId}
 use Rattle.ak_turn.specs.declared.clock.Clock.{Clock}
-use Rattle.ak_turn.specs.Lines.{last_stamp_of}
-use Rattle.ak_turn.specs.Seats.{SeatData, HasSeen, HasCalled, at_leisure, entered_by}
+use Rattle.ak_turn.specs.Called as at_lock
+use Rattle.ak_turn.specs.Seats.{SeatData}
 use Rattle.ak_flatten.specs.Item.{ItemData}
 use Rattle.ak_port.specs.declared.port_entry.PortEntry.{PortEntry}
 use Rattle.ak_port.specs.declared.port_entry.PortEvent.{PortEvent}
@@ -33,45 +33,46 @@ by_number entry = entry.by.0
 abbrev pub stamp_number : PortEntry → ℕ
 stamp_number entry = entry.stamp
 
--- ---- one entry
+-- ---- one entry, in the words for every object
+-- the entry with that stamp, thread and event
+abbrev pub entry_of : ℕ → ThreadId → PortEvent → PortEntry
+entry_of stamp by event = record { stamp = stamp; by = by; event = event }
+
 -- the new entry of a list, by the thread of that clock
 abbrev pub entry_now : Clock → List PortEntry → PortEvent → PortEntry
-entry_now clock entries event = record { stamp = 1 + max clock.time (last_stamp_of stamp_number entries); by = clock.thread; event = event }
+entry_now clock entries event = at_lock.entry_now stamp_number entry_of clock entries event
 
 -- the clock after it
 abbrev pub clock_after : Clock → List PortEntry → Clock
-clock_after clock entries = record clock { time = 1 + max clock.time (last_stamp_of stamp_number entries) }
+clock_after clock entries = at_lock.clock_after stamp_number clock entries
 
--- the seat's thread made one entry with that event: it is the last of the seat's front, and goes on from all that was there before
-pub record HasEntered (clock clock' : Clock) (event : PortEvent) (seat seat' : PortSeat) : Type 0 where
-  pub before : List PortEntry
-  pub front : seat'.front ≡ before ++ entry_now clock before event ∷ []
-  pub called : HasCalled by_number (entry_now clock before event) seat seat'
-  pub clocked : clock' ≡ clock_after clock before
+-- the seat's thread made one entry with that event
+abbrev pub HasEntered : Clock → Clock → PortEvent → PortSeat → PortSeat → Type 0
+HasEntered clock clock' event seat seat' = at_lock.HasEntered by_number stamp_number entry_of clock clock' event seat seat'
 
 -- it made none
-pub record HasLooked (clock clock' : Clock) (seat seat' : PortSeat) : Type 0 where
-  pub seen : HasSeen by_number seat seat'
-  pub clocked : clock' ≡ clock
+abbrev pub HasLooked : Clock → Clock → PortSeat → PortSeat → Type 0
+HasLooked clock clock' seat seat' = at_lock.HasLooked by_number clock clock' seat seat'
 
 abbrev pub HasAnswered : Option PortEvent → Clock → Clock → PortSeat → PortSeat → Type 0
-HasAnswered (Some event) clock clock' seat seat' = HasEntered clock clock' event seat seat'
-HasAnswered None clock clock' seat seat' = HasLooked clock clock' seat seat'
+HasAnswered e clock clock' seat seat' = at_lock.HasAnswered by_number stamp_number entry_of e clock clock' seat seat'
 
 -- in the turn that the seat had its thread made one entry with that event, or none; the turn was passed on
 abbrev pub HasAnsweredAtTurn : Option PortEvent → Clock → Clock → PortSeat → PortSeat → Type 0
-HasAnsweredAtTurn (Some event) clock clock' seat seat' = (seat' ≡ at_leisure (entered_by seat (entry_now clock seat.front event))) × (clock' ≡ clock_after clock seat.front)
-HasAnsweredAtTurn None clock clock' seat seat' = (seat' ≡ at_leisure seat) × (clock' ≡ clock)
+HasAnsweredAtTurn e clock clock' seat seat' = at_lock.HasAnsweredAtTurn stamp_number entry_of e clock clock' seat seat'
 
 -- the seat's front is the history of a port with the seat's taker
 abbrev pub IsAtPort : PortSeat → Type 0
 IsAtPort seat = IsSomeAnd seat.opening (λ (taker : ThreadId). IsPort taker.0 seat.front)
 
 -- ---- a book with the turn
+-- that entry more
+abbrev pub HasOneMore : PortData → PortEntry → PortData → Type 0
+HasOneMore port entry port' = port' ≡ record port { entries = port.entries ++ entry ∷ [] }
+
 -- one entry more, or none
 abbrev pub HasAdded : Option PortEvent → Clock → Clock → PortData → PortData → Type 0
-HasAdded (Some event) clock clock' port port' = (port' ≡ record port { entries = port.entries ++ entry_now clock port.entries event ∷ [] }) × (clock' ≡ clock_after clock port.entries)
-HasAdded None clock clock' port port' = (port' ≡ port) × (clock' ≡ clock)
+HasAdded e clock clock' port port' = at_lock.HasAdded stamp_number entry_of (λ (p : PortData). p.entries) HasOneMore e clock clock' port port'
 
 abbrev pub IsPortBook : PortData → Type 0
 IsPortBook port = IsPort port.taker.0 port.entries

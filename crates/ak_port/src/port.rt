@@ -6,7 +6,7 @@ ghost use Rattle.ak_turn.specs.Lines.{last_stamp_of};
 ghost use Rattle.ak_turn.specs.Seats.{at_leisure, first_seat, IsGiven, KnowsWhole};
 ghost use Rattle.ak_port.specs.PortMachine.{last_taken, pending_count, refusal_of, state_of, taken_items, write_event, IsRested, LacksItems, LacksRoom};
 ghost use Rattle.ak_port.specs.PortCalls.{by_number, clock_after, close_entry, making, stamp_number, take_count, take_event, write_entry, CanTake, GivesBack, HasAnswered, HasAnsweredAtTurn, HasEntered, HasLooked, IfNoMemory, IfRefused, IfRest, IfTook, IsAtPort, IsFull, KeepsTaken, PortSeat};
-ghost use Rattle.ak_port.specs.SeatKept.{KeepsSeat};
+ghost use Rattle.ak_turn.specs.Called.{KeepsSeat};
 ghost use Rattle.ak_base.specs.declared.thread.ThreadId.{ThreadId};
 ghost use Rattle.ak_base.specs.Limits.{capacity_limit};
 ghost use Rattle.ak_port.specs.Limits.{life_limit};

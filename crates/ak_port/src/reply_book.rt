@@ -203,7 +203,7 @@ fn shown(alloc: Global, store: &[u8], entry: &Kept) -> Result<ReplyEntry, NoMemo
 
 impl ReplyBook {
     ghost use Rattle.ak_turn.specs.declared.clock.Clock.{Clock};
-    ghost use Rattle.ak_port.specs.ReplySeats.{entry_at, stamp_of, stamped, IsItsSlot, MayCancel, MayTake};
+    ghost use Rattle.ak_port.specs.ReplySeats.{clock_after, entry_at, stamp_of, IsItsSlot, MayCancel, MayTake};
 
     /// A book without slots and without entries, or `NoMemory` where memory ran out.
     pub fn new(alloc: Global) -> Result<ReplyBook, NoMemory>
@@ -226,7 +226,7 @@ impl ReplyBook {
         requires last { last_stamp_of stamp_of self.old < 2 ^ 63 }
         ensures legal { IsLegal self.new }
         ensures entered { IfOk result (λ n. self.new ≡ self.old ++ entry_at clock.new (ReplyEvent.Opened n) ∷ []) }
-        ensures clock { OnOk result (clock.new ≡ stamped clock.old self.old) }
+        ensures clock { OnOk result (clock.new ≡ clock_after clock.old self.old) }
         ensures err { OnErr result (self.new ≡ self.old) }
         ensures err_clock { OnErr result (clock.new ≡ clock.old) }
     {
@@ -261,7 +261,7 @@ impl ReplyBook {
         requires text { IfSome flat IsFlatText }
         ensures legal { IsLegal self.new }
         ensures filled { result ≡ Ok FillAnswer.Filled → self.new ≡ self.old ++ entry_at clock.new (ReplyEvent.Filled n (unwrap_or flat none_text)) ∷ [] }
-        ensures clock { result ≡ Ok FillAnswer.Filled → clock.new ≡ stamped clock.old self.old }
+        ensures clock { result ≡ Ok FillAnswer.Filled → clock.new ≡ clock_after clock.old self.old }
         ensures settled { result ≡ Ok FillAnswer.Duplicate → IsSettled n self.new }
         ensures duplicate { result ≡ Ok FillAnswer.Duplicate → self.new ≡ self.old }
         ensures duplicate_clock { result ≡ Ok FillAnswer.Duplicate → clock.new ≡ clock.old }
@@ -292,7 +292,7 @@ impl ReplyBook {
         requires own { IsLegal self.old → MayCancel clock.old.thread.0 n self.old }
         ensures legal { IsLegal self.new }
         ensures cancelled { result ≡ CancelAnswer.Cancelled → self.new ≡ self.old ++ entry_at clock.new (ReplyEvent.Cancelled n) ∷ [] }
-        ensures clock { result ≡ CancelAnswer.Cancelled → clock.new ≡ stamped clock.old self.old }
+        ensures clock { result ≡ CancelAnswer.Cancelled → clock.new ≡ clock_after clock.old self.old }
         ensures filled { result ≡ CancelAnswer.Duplicate → IsFilled n self.new }
         ensures duplicate { result ≡ CancelAnswer.Duplicate → self.new ≡ self.old }
         ensures duplicate_clock { result ≡ CancelAnswer.Duplicate → clock.new ≡ clock.old }
@@ -314,7 +314,7 @@ impl ReplyBook {
         requires own { IsLegal self.old → MayTake clock.old.thread.0 n self.old }
         ensures legal { IsLegal self.new }
         ensures taken { IsSome result → self.new ≡ self.old ++ entry_at clock.new (ReplyEvent.Taken n) ∷ [] }
-        ensures clock { IsSome result → clock.new ≡ stamped clock.old self.old }
+        ensures clock { IsSome result → clock.new ≡ clock_after clock.old self.old }
         ensures filled { IfSome result (λ flat. FillsWith n flat self.new) }
         ensures text { IfSome result IsFlatText }
         ensures open { IfNone result (IsItsSlot clock.old.thread.0 n open_stage self.old) }

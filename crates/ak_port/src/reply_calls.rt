@@ -3,7 +3,7 @@ ghost use Rattle.std.specs.Prelude.{◌≡◌, ◌≤◌, false, length, None, S
 ghost use Rattle.ak_turn.specs.Seats.{KnowsWhole};
 ghost use Rattle.ak_port.specs.Reply.{IsFlatText, FillsWith, none_text, open_stage, slots_after};
 ghost use Rattle.ak_port.specs.ReplySeats.{maker_of, HasEnteredBook, HasLookedAtBook, HasFoundSettled, HasFoundFilled, IsItsSlot, MayCancel, MayTake};
-ghost use Rattle.ak_port.specs.SeatKept.{KeepsSeat};
+ghost use Rattle.ak_turn.specs.Called.{KeepsSeat};
 
 use crate::reply_book::ReplyBook;
 use crate::reply_entry::{CancelAnswer, FillAnswer, ReplyEvent};

@@ -49,10 +49,7 @@ module _ {D O : Type 0} (object : D → Option O) (threads : D → Option (List 
     pub entered : Entered object threads what added doors roster new clock later
     entered = record {
       sound = sound_grows object threads old new e added sound g;
-      entry = record {
-        line = line_is;
-        time = time ∙ ap (λ (n : ℕ). (let c : Clock = record clock { time = 1 + max clock.time n } in c)) stamp;
-      };
+      entry = (line_is, time ∙ ap (λ (n : ℕ). (let c : Clock = record clock { time = 1 + max clock.time n } in c)) stamp);
       state_is = state_is object threads old new e added sound g ∙ after_for;
     }
 
@@ -154,4 +151,4 @@ module _ {D O : Type 0} (object : D → Option O) (threads : D → Option (List 
     (new : Kept D) (clock later : Clock) (done : Entered object threads what added doors roster new clock later) where
   -- it is at rest where there are as many doors as loopers
   pub rests : length doors ≡ length (after roster.heads (state roster) clock.thread.0 what).loopers → IsAtRest (roster_seen object new)
-  rests enough = ap (λ (r : RosterData D O). length r.doors) done.entry.line ∙ enough ∙ sym (ap (λ (s : RosterState). length s.loopers) done.state_is)
+  rests enough = ap (λ (r : RosterData D O). length r.doors) done.entry.0 ∙ enough ∙ sym (ap (λ (s : RosterState). length s.loopers) done.state_is)

@@ -32,7 +32,7 @@ fresh_of heads by launch.Limit = All-nil (λ l. l.given ≡ [])
 -- the state after an entry
 pub state-enters : {D O : Type 0} (what : RosterEvent) (added : List (Option O)) (doors : List D) (old new : RosterData D O) (clock later : Clock)
     → Enters what added doors old new clock later → state new ≡ after old.heads (state old) clock.thread.0 what
-state-enters what added doors old new clock later e = ap (λ r. state r) e.line ∙ state-line old.heads old.lines (new_line clock old.lines what added)
+state-enters what added doors old new clock later e = ap (λ r. state r) e.0 ∙ state-line old.heads old.lines (new_line clock old.lines what added)
 
 -- a launch leaves them so
 pub fresh_launched : {D O : Type 0} (word : AppWord) (o : LaunchOutcome) (added : List (Option O)) (doors : List D) (old new : RosterData D O) (clock later : Clock)
@@ -48,8 +48,8 @@ pub fresh_decided : {D O : Type 0} (d : Decision) (word : AppWord) (o : LaunchOu
 fresh_decided decision.NotFound word o added doors old new clock later entered stays fresh = fresh_launched word o added doors old new clock later entered fresh
 fresh_decided (decision.AlreadyRunning t) word o added doors old new clock later entered stays fresh = fresh_launched word o added doors old new clock later entered fresh
 fresh_decided decision.Limit word o added doors old new clock later entered stays fresh = fresh_launched word o added doors old new clock later entered fresh
-fresh_decided (decision.Starts p t f) word o added doors old new clock later entered stays fresh = subst (λ r. AreFresh (state r).loopers) (sym stays.roster) fresh
-fresh_decided decision.NoMemory word o added doors old new clock later entered stays fresh = subst (λ r. AreFresh (state r).loopers) (sym stays.roster) fresh
+fresh_decided (decision.Starts p t f) word o added doors old new clock later entered stays fresh = subst (λ r. AreFresh (state r).loopers) (sym stays.0) fresh
+fresh_decided decision.NoMemory word o added doors old new clock later entered stays fresh = subst (λ r. AreFresh (state r).loopers) (sym stays.0) fresh
 
 -- and so does a launch, whatever it is answered
 pub fresh_launch : {D O : Type 0} (r : Launched D) (word : AppWord) (o : LaunchOutcome) (added : List (Option O)) (doors : List D) (first old new : RosterData D O) (clock later : Clock)
@@ -58,7 +58,7 @@ pub fresh_launch : {D O : Type 0} (r : Launched D) (word : AppWord) (o : LaunchO
 fresh_launch (answer.Started t f) word o added doors first old new clock later same entered stays fresh =
     fresh_launched word o added doors old new clock later entered (subst (λ r. AreFresh (state r).loopers) (sym same) fresh)
 fresh_launch (answer.NoMemory back) word o added doors first old new clock later same entered stays fresh =
-    subst (λ r. AreFresh (state r).loopers) (sym (stays.roster ∙ same)) fresh
+    subst (λ r. AreFresh (state r).loopers) (sym (stays.0 ∙ same)) fresh
 
 others : (thread number own : ℕ) → 1 ≤ thread → thread < 10000 → All (λ t. t ≢ thread) (0 ∷ (10000 + number) ∷ (10000 + own) ∷ 20000 ∷ [])
 others thread number own low high =

@@ -1,8 +1,10 @@
 -- What contracts see of the roster's book.
-use Rattle.std.specs.Prelude.{◌≡◌, ℕ, suc, ◌+◌, max, List, [], ◌∷◌, ◌++◌, length, map, Contains, Option, None, Some, IfSome, slice_get, slice_set, ◌↔◌}
+use Rattle.std.specs.Prelude.{◌≡◌, ℕ, suc, List, [], ◌∷◌, ◌++◌, length, map, Contains, Option, None, Some, IfSome, slice_get, slice_set, ◌↔◌}
 use Rattle.std.specs.List.{flat_map}
 use Rattle.ak_base.specs.Thread.{main_thread}
+use Rattle.ak_base.specs.declared.thread.ThreadId.{ThreadId}
 use Rattle.ak_turn.specs.declared.clock.Clock.{Clock}
+use Rattle.ak_turn.specs.Called as at_lock
 use Rattle.ak_turn.specs.Lines.{last_stamp_of}
 use Rattle.ak_roster.specs.declared.head.AppHead.{AppHead}
 use Rattle.ak_roster.specs.declared.entry.RosterEntry.{RosterEntry}
@@ -31,16 +33,15 @@ module _ {O : Type 0} where
   stamp_of_line line = line.entry.stamp
 
   abbrev pub last_stamp : List (RosterLine O) → ℕ
-  last_stamp lines = last_stamp_of (λ line. line.entry.stamp) lines
+  last_stamp lines = last_stamp_of stamp_of_line lines
 
-  -- the stamp of a new entry by that clock
-  abbrev pub next_stamp : Clock → List (RosterLine O) → ℕ
-  next_stamp clock lines = 1 + max clock.time (last_stamp lines)
+  -- the line with that stamp, thread and event, and those objects
+  abbrev pub line_with : List (Option O) → ℕ → ThreadId → RosterEvent → RosterLine O
+  line_with objects stamp by what = record { entry = record { stamp = stamp; by = by; event = what }; objects = objects }
 
   -- the line of a new entry by that clock
   abbrev pub new_line : Clock → List (RosterLine O) → RosterEvent → List (Option O) → RosterLine O
-  new_line clock lines what objects =
-      record { entry = record { stamp = next_stamp clock lines; by = clock.thread; event = what }; objects = objects }
+  new_line clock lines what objects = at_lock.entry_now stamp_of_line (line_with objects) clock lines what
 
 -- the same threads, in whatever order
 abbrev pub AreSame : List ℕ → List ℕ → Type 0
@@ -70,15 +71,24 @@ module _ {D O : Type 0} where
   abbrev pub with_line : RosterLine O → RosterData D O → RosterData D O
   with_line line roster = record roster { lines = roster.lines ++ line ∷ [] }
 
--- it has one line more, of an entry by that clock, which has its stamp then
-pub record Enters {D O : Type 0} (what : RosterEvent) (objects : List (Option O)) (doors : List D) (old new : RosterData D O) (clock later : Clock) : Type 0 where
-  pub line : new ≡ record { heads = old.heads; lines = old.lines ++ new_line clock old.lines what objects ∷ []; doors = doors }
-  pub time : later ≡ record clock { time = next_stamp clock old.lines }
+-- ---- a call at the book, in the words for every object
+module _ {D O : Type 0} where
+  -- that line more, and these doors
+  abbrev pub HasOneMore : List D → RosterData D O → RosterLine O → RosterData D O → Type 0
+  HasOneMore doors old line new = new ≡ record { heads = old.heads; lines = old.lines ++ line ∷ []; doors = doors }
 
--- nothing has changed
-pub record Stays {D O : Type 0} (old new : RosterData D O) (clock later : Clock) : Type 0 where
-  pub roster : new ≡ old
-  pub time : later ≡ clock
+  -- one line more, with those objects, and these doors; or nothing has changed
+  abbrev pub HasAdded : List (Option O) → List D → Option RosterEvent → Clock → Clock → RosterData D O → RosterData D O → Type 0
+  HasAdded objects doors what clock later old new =
+      at_lock.HasAdded stamp_of_line (line_with objects) (λ (r : RosterData D O). r.lines) (HasOneMore doors) what clock later old new
+
+  -- it has one line more, of an entry by that clock, which has its stamp then
+  abbrev pub Enters : RosterEvent → List (Option O) → List D → RosterData D O → RosterData D O → Clock → Clock → Type 0
+  Enters what objects doors old new clock later = HasAdded objects doors (Some what) clock later old new
+
+  -- nothing has changed
+  abbrev pub Stays : RosterData D O → RosterData D O → Clock → Clock → Type 0
+  Stays old new clock later = HasAdded [] old.doors None clock later old new
 
 -- what is always true of it
 pub record IsRoster {D O : Type 0} (object : D → Option O) (threads : D → Option (List ℕ)) (roster : RosterData D O) : Type 0 where

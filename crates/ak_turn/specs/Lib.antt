@@ -1,3 +1,4 @@
+pub mod Called
 pub mod Laws
 pub mod Lending
 pub mod Lines

@@ -4,7 +4,7 @@ use Rattle.ak_base.specs.declared.thread.ThreadId.{ThreadId}
 use Rattle.ak_turn.specs.Seats.{LockId}
 use Rattle.ak_port.specs.PortCalls.{CanTake, PortSeat}
 use Rattle.ak_port.specs.ReplySeats.{ReplySeat}
-use Rattle.ak_port.specs.SeatKept.{KeepsSeat}
+use Rattle.ak_turn.specs.Called.{KeepsSeat}
 use Rattle.kit_bench.specs.Ports.{IsSeated}
 
 -- by the thread of its clock as it is then

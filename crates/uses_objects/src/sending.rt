@@ -6,7 +6,7 @@ ghost use Rattle.ak_base.specs.Thread.{looper_thread};
 ghost use Rattle.ak_message.specs.Fields.{specifier_count};
 ghost use Rattle.ak_port.specs.PortCalls.{CanTake};
 ghost use Rattle.ak_port.specs.Reply.{IsFlatText};
-ghost use Rattle.ak_port.specs.SeatKept.{KeepsSeat};
+ghost use Rattle.ak_turn.specs.Called.{KeepsSeat};
 
 use crate::compare::same;
 use crate::reply_text::reply_text;

@@ -2,7 +2,7 @@
 ghost use Rattle.std.specs.Prelude.{◌≡◌, ℕ, false, OnOk};
 ghost use Rattle.ak_base.specs.declared.thread.ThreadId.{ThreadId};
 ghost use Rattle.ak_port.specs.PortCalls.{CanTake};
-ghost use Rattle.ak_port.specs.SeatKept.{KeepsSeat};
+ghost use Rattle.ak_turn.specs.Called.{KeepsSeat};
 
 use ak_base::{Code, NoMemory};
 use ak_flatten::{Duty, FlattenFault, Item, Taken};

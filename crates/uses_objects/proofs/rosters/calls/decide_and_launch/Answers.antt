@@ -12,7 +12,7 @@ launch-requires-clause-doors c =
     doors_for_start c.decide-decision.new.self.heads c.decide-decision.new.clock.thread.0
     (launch_of c.decide-decision.new.self.heads (state c.decide-decision.new.self) c.args.word.now) c.in-Starts.description c.in-Starts.team c.in-Starts.first
     (length (state c.decide-decision.new.self).loopers) c.in_ok-doors.doors.items
-    (c.in-Starts.ensures.answer ∙ ap (λ r. decision_of (launch_of r.heads (state r) c.args.word.now)) (sym c.in-Starts.ensures.stays.roster))
+    (c.in-Starts.ensures.answer ∙ ap (λ r. decision_of (launch_of r.heads (state r) c.args.word.now)) (sym c.in-Starts.ensures.stays.0))
     (c.in_ok-doors.ensures ∙ ap (λ hs. loopers_at hs c.in-Starts.description) c.heads.ensures.value)
 
 pub returns-in_default-clause-fresh : goal.returns-in_default-clause-fresh
@@ -23,5 +23,5 @@ returns-in_default-clause-fresh c =
 pub returns-clause-fresh : goal.returns-clause-fresh
 returns-clause-fresh c =
     fresh_launch c.launch.result c.args.word.now (launch_of c.decide-decision.new.self.heads (state c.decide-decision.new.self) c.args.word.now) _ _
-    c.args.roster.now c.decide-decision.new.self c.launch.new.self c.decide-decision.new.clock c.launch.new.clock c.in-Starts.ensures.stays.roster
+    c.args.roster.now c.decide-decision.new.self c.launch.new.self c.decide-decision.new.clock c.launch.new.clock c.in-Starts.ensures.stays.0
     c.launch.ensures.entry c.launch.ensures.stays
