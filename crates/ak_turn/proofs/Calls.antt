@@ -45,7 +45,7 @@ module _ {L : Type 0} (by : L → ℕ) where
   made_by-own : (thread : ℕ) (line : L) → by line ≡ thread → made_by by thread (line ∷ []) ≡ line ∷ []
   made_by-own thread line mine = ap (λ b. cond b (line ∷ []) []) (eq-eqb (by line) thread mine)
 
-  made_by-called : (thread : ℕ) (front between : List L) (line : L) → AreByOthers by thread between → by line ≡ thread → made_by by thread ((front ++ between) ++ line ∷ []) ≡ made_by by thread front ++ line ∷ []
+  pub made_by-called : (thread : ℕ) (front between : List L) (line : L) → AreByOthers by thread between → by line ≡ thread → made_by by thread ((front ++ between) ++ line ∷ []) ≡ made_by by thread front ++ line ∷ []
   made_by-called thread front between line others mine =
       filter-append _ (front ++ between) (line ∷ [])
       ∙ ap (λ l. l ++ made_by by thread (line ∷ [])) (filter-append _ front between ∙ ap (λ l. made_by by thread front ++ l) (made_by-others thread between others) ∙ append-nil (made_by by thread front))

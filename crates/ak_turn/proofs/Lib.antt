@@ -13,3 +13,4 @@ pub mod Finishing
 pub mod Knowing
 pub mod NewSeats
 pub mod Calls
+pub mod Making

@@ -78,10 +78,10 @@ module _ {L : Type 0} where
   at_seam (y ∷ ys) xs x = at_seam ys xs x
 
 module _ {L : Type 0} (by : L → ℕ) (thread : ℕ) where
-  made_own : (x : L) (xs : List L) → by x ≡ thread → made_by by thread (x ∷ xs) ≡ x ∷ made_by by thread xs
+  pub made_own : (x : L) (xs : List L) → by x ≡ thread → made_by by thread (x ∷ xs) ≡ x ∷ made_by by thread xs
   made_own x xs e = ap (λ b. cond b (x ∷ made_by by thread xs) (made_by by thread xs)) (eq-eqb (by x) thread e)
 
-  made_other : (x : L) (xs : List L) → by x ≢ thread → made_by by thread (x ∷ xs) ≡ made_by by thread xs
+  pub made_other : (x : L) (xs : List L) → by x ≢ thread → made_by by thread (x ∷ xs) ≡ made_by by thread xs
   made_other x xs e = ap (λ b. cond b (x ∷ made_by by thread xs) (made_by by thread xs)) (ne_eqb (by x) thread e)
 
   made_from : (ys xs : List L) → filter_map (slice_get (ys ++ xs)) (places_from by thread (length ys) xs) ≡ made_by by thread xs

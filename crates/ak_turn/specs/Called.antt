@@ -1,9 +1,9 @@
 -- What a call has done at a lock, in the same words for every object. Each word is told who made an entry (`by`), what stamp it has
 -- (`stamp`), and how an entry is made of a stamp, a thread and an event (`entry_of`).
-use Rattle.std.specs.Prelude.{◌≡◌, ℕ, ◌+◌, max, List, [], ◌∷◌, ◌++◌, Option, None, Some}
+use Rattle.std.specs.Prelude.{◌≡◌, ℕ, ◌+◌, max, List, [], ◌∷◌, ◌++◌, length, Option, None, Some}
 use Rattle.ak_base.specs.declared.thread.ThreadId.{ThreadId}
 use Rattle.ak_turn.specs.declared.clock.Clock.{Clock}
-use Rattle.ak_turn.specs.Lines.{last_stamp_of}
+use Rattle.ak_turn.specs.Lines.{StartsWith, last_stamp_of, made_by}
 use Rattle.ak_turn.specs.Seats.{SeatData, HasSeen, HasCalled, at_leisure, entered_by}
 
 -- ---- a new entry
@@ -55,6 +55,16 @@ module _ {O L E : Type 0} where
   HasAnsweredAtTurn stamp entry_of (Some event) clock clock' seat seat' =
       (seat' ≡ at_leisure (entered_by seat (entry_now stamp entry_of clock seat.front event))) × (clock' ≡ clock_after stamp clock seat.front)
   HasAnsweredAtTurn stamp entry_of None clock clock' seat seat' = (seat' ≡ at_leisure seat) × (clock' ≡ clock)
+
+-- ---- calls one after another
+module _ {O L : Type 0} where
+  -- From one seat to a later one its thread made just these entries, in order: all that it made goes on by them, and the places of its
+  -- own have grown by as many
+  pub record Makes (by : L → ℕ) (entries : List L) (seat seat' : SeatData O L) : Type 0 where
+    pub keeps : KeepsSeat seat seat'
+    pub goes_on : StartsWith seat'.front seat.front
+    pub made : made_by by seat.thread seat'.front ≡ made_by by seat.thread seat.front ++ entries
+    pub own : length seat'.own ≡ length seat.own + length entries
 
 -- ---- a book with the turn
 module _ {B L E : Type 0} where

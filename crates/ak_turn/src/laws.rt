@@ -22,3 +22,16 @@ pub fn new_seats_know<B: Book>()
     ensures split { law.SplitSeatsKnow B.Opening B.Line (maker B.plain B.by) }
     ensures split_head { law.SplitHeadsKnow B.Opening B.Line (maker B.plain B.by) }
 {}
+
+/// What a thread makes from one of its seats to a later one. It makes nothing where the seat has seen, and one entry
+/// where it has called. Who makes some and then makes others makes the others behind them. What the front has by the
+/// thread goes on by what it makes, and so does what it has made. A thread whose seat began with nothing of its own had
+/// made nothing before.
+pub fn makings_go_on<B: Book>()
+    ensures seen { law.SeenMakesNothing B.Opening B.Line (maker B.plain B.by) }
+    ensures called { law.CalledMakesOne B.Opening B.Line (maker B.plain B.by) }
+    ensures both { law.MakesThenMakes B.Opening B.Line (maker B.plain B.by) }
+    ensures made { law.MadeGoesOn B.Opening B.Line (maker B.plain B.by) }
+    ensures more { law.MakesMore B.Opening B.Line (maker B.plain B.by) }
+    ensures before { law.NothingBefore B.Opening B.Line (maker B.plain B.by) }
+{}

@@ -1,0 +1,95 @@
+-- What a thread makes from one seat to a later one.
+use Rattle.std.proofs.Common.{◌≡◌, ℕ, suc, ◌+◌, List, [], ◌∷◌, ◌++◌, length, refl, sym, ap, ◌∙◌, arith, append_assoc, append-nil, length-append}
+use Rattle.std.proofs.lemmas.List.Elements.{filter-append}
+use mathlib.Core.Logic.{dite}
+use native.Mathlib.Decide.{ℕ_discrete}
+use Rattle.ak_turn.specs.Called.{Makes}
+use Rattle.ak_turn.specs.Lines.{made_by, places, places_from}
+use Rattle.ak_turn.specs.Seats.{LockId, SeatData, HasSeen, HasCalled, HasMade}
+use Rattle.ak_turn.proofs.Calls.{made_by-others, made_by-called}
+use Rattle.ak_turn.proofs.NewSeats.{made_own, made_other}
+use Rattle.ak_turn.proofs.Placing.{own_first, other_first}
+
+module _ {O L : Type 0} (by : L → ℕ) where
+  pub seen_makes : (a b : SeatData O L) → HasSeen by a b → Makes by [] a b
+  seen_makes a b seen =
+      let same : length b.own ≡ length a.own = ap (λ s. length s.own) seen.after in
+      record {
+        keeps = record {
+          lock = ap (λ s. s.lock) seen.after;
+          opening = ap (λ s. s.opening) seen.after;
+          thread = ap (λ s. s.thread) seen.after;
+          joined = ap (λ s. s.joined) seen.after;
+          turn = ap (λ s. s.turn) seen.after;
+          names = ap (λ s. s.names) seen.after;
+        };
+        goes_on = (seen.between, ap (λ s. s.front) seen.after);
+        made = ap (λ s. made_by by a.thread s.front) seen.after ∙ filter-append _ a.front seen.between
+            ∙ ap (λ l. made_by by a.thread a.front ++ l) (made_by-others by a.thread seen.between seen.others);
+        own = omega (arith, same);
+      }
+
+  pub called_makes : (entry : L) (a b : SeatData O L) → HasCalled by entry a b → Makes by (entry ∷ []) a b
+  called_makes entry a b call = record {
+    keeps = record {
+      lock = ap (λ s. s.lock) call.after;
+      opening = ap (λ s. s.opening) call.after;
+      thread = ap (λ s. s.thread) call.after;
+      joined = ap (λ s. s.joined) call.after;
+      turn = ap (λ s. s.turn) call.after;
+      names = ap (λ s. s.names) call.after;
+    };
+    goes_on = (call.between ++ entry ∷ [], ap (λ s. s.front) call.after ∙ append_assoc a.front call.between (entry ∷ []));
+    made = ap (λ s. made_by by a.thread s.front) call.after ∙ made_by-called by a.thread a.front call.between entry call.others call.mine;
+    own = ap (λ s. length s.own) call.after ∙ length-append a.own (length (a.front ++ call.between) ∷ []);
+  }
+
+  pub makes_then_makes : (these those : List L) (a b c : SeatData O L) → Makes by these a b → Makes by those b c → Makes by (these ++ those) a c
+  makes_then_makes these those a b c one two = record {
+    keeps = record {
+      lock = two.keeps.lock ∙ one.keeps.lock;
+      opening = two.keeps.opening ∙ one.keeps.opening;
+      thread = two.keeps.thread ∙ one.keeps.thread;
+      joined = two.keeps.joined ∙ one.keeps.joined;
+      turn = two.keeps.turn ∙ one.keeps.turn;
+      names = two.keeps.names ∙ one.keeps.names;
+    };
+    goes_on = (one.goes_on.0 ++ two.goes_on.0, two.goes_on.1 ∙ ap (λ l. l ++ two.goes_on.0) one.goes_on.1 ∙ append_assoc a.front one.goes_on.0 two.goes_on.0);
+    made = ap (λ t. made_by by t c.front) (sym one.keeps.thread) ∙ two.made ∙ ap (λ t. made_by by t b.front ++ those) one.keeps.thread
+        ∙ ap (λ l. l ++ those) one.made ∙ append_assoc (made_by by a.thread a.front) these those;
+    own = omega (arith, one.own, two.own, length-append these those);
+  }
+
+  pub made_goes_on : (entries : List L) (a b : SeatData O L) → Makes by entries a b → made_by by b.thread b.front ≡ made_by by a.thread a.front ++ entries
+  made_goes_on entries a b makes = ap (λ t. made_by by t b.front) makes.keeps.thread ∙ makes.made
+
+  pub makes_more : (lock : LockId) (thread : ℕ) (these those : List L) (a b : SeatData O L) → HasMade by lock thread these a → Makes by those a b → HasMade by lock thread (these ++ those) b
+  makes_more lock thread these those a b has more = record {
+    of = more.keeps.lock ∙ has.of;
+    idle = more.keeps.turn ∙ has.idle;
+    is = more.keeps.thread ∙ has.is;
+    made_so = ap (λ t. made_by by t b.front) (sym has.is) ∙ more.made ∙ ap (λ t. made_by by t a.front ++ those) has.is ∙ ap (λ l. l ++ those) has.made_so;
+  }
+
+-- ---- a thread has as many places as entries
+module _ {L : Type 0} (by : L → ℕ) (thread : ℕ) where
+  as_many : (n : ℕ) (xs : List L) → length (places_from by thread n xs) ≡ length (made_by by thread xs)
+  as_many n [] = refl
+  as_many n (x ∷ xs) =
+      dite (ℕ_discrete (by x) thread)
+      (λ e. ap (λ (ks : List ℕ). length ks) (own_first by thread n x xs e) ∙ ap suc (as_many (suc n) xs) ∙ sym (ap (λ (l : List L). length l) (made_own by thread x xs e)))
+      (λ e. ap (λ (ks : List ℕ). length ks) (other_first by thread n x xs e) ∙ as_many (suc n) xs ∙ sym (ap (λ (l : List L). length l) (made_other by thread x xs e)))
+
+nothing_there : {L : Type 0} (xs : List L) → length xs ≡ 0 → xs ≡ []
+nothing_there [] e = refl
+nothing_there (x ∷ xs) e = absurd (omega arith)
+
+module _ {O L : Type 0} (by : L → ℕ) where
+  pub nothing_before : (entries : List L) (a b : SeatData O L) → a.own ≡ [] → b.own ≡ places by b.thread b.front → Makes by entries a b → (made_by by a.thread a.front ≡ []) × (made_by by b.thread b.front ≡ entries)
+  nothing_before entries a b none own makes =
+      let goes_on : made_by by b.thread b.front ≡ made_by by a.thread a.front ++ entries = made_goes_on by entries a b makes in
+      let all : length (made_by by b.thread b.front) ≡ length (made_by by a.thread a.front) + length entries = ap (λ (l : List L). length l) goes_on ∙ length-append (made_by by a.thread a.front) entries in
+      let there : length b.own ≡ length (made_by by b.thread b.front) = ap (λ (ks : List ℕ). length ks) own ∙ as_many by b.thread 0 b.front in
+      let began : length a.own ≡ 0 = ap (λ (ks : List ℕ). length ks) none in
+      let before : made_by by a.thread a.front ≡ [] = nothing_there (made_by by a.thread a.front) (omega (arith, makes.own, all, there, began)) in
+      (before, goes_on ∙ ap (λ (l : List L). l ++ entries) before)
