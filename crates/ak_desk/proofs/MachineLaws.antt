@@ -32,7 +32,7 @@ use Rattle.ak_desk.specs.Machine.{DeskStep, DispatchStep, Dispatches, EventStep,
 use Rattle.ak_desk.specs.Place.{routed_of}
 use Rattle.ak_desk.specs.Replies.{none_reply}
 use Rattle.ak_desk.specs.Shared.{by_number}
-use Rattle.ak_turn.specs.Lines.{made_by}
+use Rattle.ak_turn.specs.Entries.{made_by}
 
 -- ---- one line among the others
 -- with so many dispatches before them

@@ -5,7 +5,7 @@ use Rattle.ak_flatten.specs.Item.{ItemData, message_of}
 use Rattle.ak_flatten.specs.declared.item.Taken.{Taken}
 use Rattle.ak_turn.specs.declared.clock.Clock.{Clock}
 use Rattle.ak_turn.specs.Called as at_lock
-use Rattle.ak_turn.specs.Lines.{last_stamp_of}
+use Rattle.ak_turn.specs.Entries.{last_stamp_of}
 use Rattle.ak_message.specs.Fields.{specifier_count}
 use Rattle.ak_message.specs.Message.{MessageData}
 use Rattle.ak_route.specs.declared.outcome.Route.TheVariants as routes

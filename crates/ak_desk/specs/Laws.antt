@@ -7,7 +7,7 @@ use Rattle.ak_flatten.specs.Item.{ItemData}
 use Rattle.ak_message.specs.declared.kind.Kind.{Kind}
 use Rattle.ak_message.specs.Message.{FieldData, MessageData, ValueData, depth_of_value, kind_of}
 use Rattle.ak_turn.specs.declared.clock.Clock.{Clock}
-use Rattle.ak_turn.specs.Lines.{made_by}
+use Rattle.ak_turn.specs.Entries.{made_by}
 use Rattle.ak_turn.specs.Seats.{IsGiven, at_leisure, entered_by}
 use Rattle.ak_message.specs.Limits.{value_limit, depth_limit}
 use Rattle.ak_action.specs.declared.answer.Answer.{Answer}

@@ -3,7 +3,7 @@ ghost use Rattle.ak_base.specs.declared.thread.ThreadId.{ThreadId};
 ghost use Rattle.ak_message.specs.Fields.{specifier_count};
 ghost use Rattle.ak_flatten.specs.Spelling.{spelling};
 ghost use Rattle.ak_flatten.specs.Limits.{flat_limit};
-ghost use Rattle.ak_turn.specs.Lines.{last_stamp_of};
+ghost use Rattle.ak_turn.specs.Entries.{last_stamp_of};
 ghost use Rattle.ak_turn.specs.Seats.{at_leisure, IsGiven, KnowsWhole};
 ghost use Rattle.ak_port.specs.PortCalls.{by_number, stamp_number, CanTake, HasAnswered, HasAnsweredAtTurn, IsAtPort, KeepsTaken, PortSeat};
 ghost use Rattle.ak_port.specs.PortMachine.{state_of, write_event, LacksRoom};

@@ -3,7 +3,7 @@ use Rattle.std.proofs.Common.{◌≡◌, ℕ, ◌<◌, true, List, [], ◌∷◌
 use Rattle.ak_port.specs.declared.port_entry.PortEntry.{PortEntry}
 use Rattle.ak_port.specs.declared.port_entry.PortEvent.{PortEvent}
 use Rattle.ak_port.specs.declared.port_entry.PortEvent.TheVariants as event
-use Rattle.ak_turn.specs.Lines.{last_stamp_of}
+use Rattle.ak_turn.specs.Entries.{last_stamp_of}
 use Rattle.ak_port.specs.PortCalls.{stamp_number}
 use Rattle.ak_port.specs.PortMachine.{PortState, PortStep, AreSteps, IsPort, replayed, state_after, state_of, unmade}
 use Rattle.ak_port.proofs.Stamps.{rise_push}

@@ -11,7 +11,7 @@ use Rattle.ak_port.specs.declared.port_entry.PortEntry.{PortEntry}
 use Rattle.ak_port.specs.declared.port_entry.PortEvent.TheVariants as event
 use Rattle.ak_port.specs.declared.port_entry.Refusal.{Refusal}
 use Rattle.ak_port.specs.declared.port_entry.Refusal.TheVariants as refusal
-use Rattle.ak_turn.specs.Lines.{last_stamp_of}
+use Rattle.ak_turn.specs.Entries.{last_stamp_of}
 use Rattle.ak_port.specs.PortCalls.{stamp_number}
 use Rattle.ak_port.specs.PortInside.{IsSound, Tells, reserved, one_unless}
 use Rattle.ak_port.specs.PortLaws.{IsWithin}

@@ -5,7 +5,7 @@ use Rattle.std.proofs.lemmas.List.{drop_all, take-append-le}
 use Rattle.std.proofs.lemmas.List.Elements.{All-head, All-tail}
 use Rattle.ak_base.specs.declared.thread.ThreadId.{ThreadId}
 use Rattle.ak_turn.specs.declared.clock.Clock.{Clock}
-use Rattle.ak_turn.specs.Lines.{AreByOthers}
+use Rattle.ak_turn.specs.Entries.{AreByOthers}
 use Rattle.ak_turn.specs.Seats.{IsGiven, at_leisure, at_turn, later}
 use Rattle.ak_port.specs.declared.port_entry.PortEntry.{PortEntry}
 use Rattle.ak_port.specs.declared.port_entry.PortEvent.{PortEvent}

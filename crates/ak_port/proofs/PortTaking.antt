@@ -6,7 +6,7 @@ use mathlib.Core.Logic.{dite}
 use native.Mathlib.Decide.{ℕ_discrete}
 use Rattle.ak_base.specs.declared.thread.ThreadId.{ThreadId}
 use Rattle.ak_turn.specs.declared.clock.Clock.{Clock}
-use Rattle.ak_turn.specs.Lines.{places, places_from}
+use Rattle.ak_turn.specs.Entries.{places, places_from}
 use Rattle.ak_turn.specs.Seats.{HasSeen, HasCalled, IsGiven, KnowsWhole, at_leisure, at_turn, later, new_seat, titled_seat}
 use Rattle.ak_port.specs.declared.port_entry.PortEntry.{PortEntry}
 use Rattle.ak_port.specs.declared.port_entry.PortEvent.{PortEvent}

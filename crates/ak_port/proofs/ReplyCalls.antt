@@ -6,7 +6,7 @@ use Rattle.std.proofs.lemmas.List.Elements.{All-head, All-tail, All-nil}
 use Rattle.std.proofs.lemmas.Option.{slice_get_within}
 use Rattle.ak_base.specs.declared.no_memory.NoMemory.{NoMemory}
 use Rattle.ak_turn.specs.declared.clock.Clock.{Clock}
-use Rattle.ak_turn.specs.Lines.{AreByOthers}
+use Rattle.ak_turn.specs.Entries.{AreByOthers}
 use Rattle.ak_turn.specs.Called.{KeepsSeat}
 use Rattle.ak_turn.specs.Seats.{HasCalled, HasSeen, IsGiven, at_leisure, entered_by, with_own}
 use Rattle.ak_turn.proofs.Calls.{seen_then_seen, seen_then_called}

@@ -1,6 +1,6 @@
 -- A history of a reply book that goes on by one entry, or by several.
 use Rattle.std.proofs.Common.{◌≡◌, ℕ, ◌+◌, max, List, [], ◌∷◌, ◌++◌, refl, arith}
-use Rattle.ak_turn.specs.Lines.{last_stamp_of}
+use Rattle.ak_turn.specs.Entries.{last_stamp_of}
 use Rattle.ak_port.specs.declared.reply_entry.ReplyEntry.{ReplyEntry}
 use Rattle.ak_port.specs.Reply.{SlotData, changed, slots_from, slots_after, BookStep, Replays, IsLegal}
 use Rattle.ak_port.specs.ReplySeats.{stamp_of}

@@ -2,7 +2,7 @@
 ghost use Rattle.std.specs.Prelude.{◌≡◌, ℕ, ◌+◌, ◌-◌, ◌∷◌, ◌++◌, [], ◌<◌, ◌≤◌, ◌^◌, false, true, min, Some, IfOk, IfErr, IfSome, IfNone, OnOk, OnErr};
 ghost use Rattle.std.specs.Arc.{arc_value};
 ghost use Rattle.std.specs.VecDeque.{deque_len, deque_capacity};
-ghost use Rattle.ak_turn.specs.Lines.{last_stamp_of};
+ghost use Rattle.ak_turn.specs.Entries.{last_stamp_of};
 ghost use Rattle.ak_turn.specs.Seats.{at_leisure, first_seat, IsGiven, KnowsWhole};
 ghost use Rattle.ak_port.specs.PortMachine.{last_taken, pending_count, refusal_of, state_of, taken_items, write_event, IsRested, LacksItems, LacksRoom};
 ghost use Rattle.ak_port.specs.PortCalls.{by_number, clock_after, close_entry, making, stamp_number, take_count, take_event, write_entry, CanTake, GivesBack, HasAnswered, HasAnsweredAtTurn, HasEntered, HasLooked, IfNoMemory, IfRefused, IfRest, IfTook, IsAtPort, IsFull, KeepsTaken, PortSeat};

@@ -1,7 +1,7 @@
 ghost use Rattle.std.specs.Prelude.{◌≡◌, ◌+◌, ◌∷◌, ◌++◌, [], ◌<◌, ◌≤◌, ◌^◌, false, true, min, take, drop, length, IfOk, IfErr, IfSome, IfNone, OnErr, None, Some, vec_len, vec_capacity};
 ghost use Rattle.std.specs.VecDeque.{deque_len, deque_capacity};
 ghost use Rattle.ak_base.specs.Limits.{capacity_limit};
-ghost use Rattle.ak_turn.specs.Lines.{last_stamp_of};
+ghost use Rattle.ak_turn.specs.Entries.{last_stamp_of};
 ghost use Rattle.ak_port.specs.PortInside.{one_unless};
 ghost use Rattle.ak_port.specs.PortMachine.{numbered, last_taken, pending_count, refusal_of, refused_event, state_of, write_event, LacksItems, LacksRoom};
 ghost use Rattle.ak_port.specs.PortCalls.{clock_after, entry_now, making, stamp_number, GivesBack, HasAdded, IfTook, IsFull, IsPortBook, refused_answer, take_count, take_event, write_entry};

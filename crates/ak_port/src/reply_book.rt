@@ -1,5 +1,5 @@
 ghost use Rattle.std.specs.Prelude.{◌≡◌, ◌+◌, ◌*◌, ◌-◌, ◌<◌, ◌≤◌, ◌^◌, ◌↔◌, [], ◌∷◌, ◌++◌, length, IsNone, None, Some, IfOk, IfErr, IfNone, IfSome, IsSome, IsTrue, OnOk, OnErr, option_map, slice_get, unwrap_or, vec_len, vec_capacity, max};
-ghost use Rattle.ak_turn.specs.Lines.{last_stamp_of};
+ghost use Rattle.ak_turn.specs.Entries.{last_stamp_of};
 ghost use Rattle.ak_flatten.specs.Limits.{flat_limit};
 ghost use Rattle.ak_port.specs.ReplyKept.{entry_seen, IsMoved, IsWithin};
 ghost use Rattle.ak_port.specs.Reply.{IsFlatText, IsLegal, FillsWith, IsFilled, IsSettled, none_text, open_stage, slots_after};

@@ -3,7 +3,7 @@ use Rattle.std.proofs.Common.{◌≡◌, ◌≤◌, ℕ, ◌+◌, ◌-◌, List,
 use Rattle.std.specs.Prelude.{option_map, slice_get, unwrap_or}
 use Rattle.std.proofs.lemmas.List.{length-drop, length-map, take-append-le, drop-append-le, take-append-drop, nil_from_length}
 use Rattle.std.proofs.lemmas.Option.{slice_get-map}
-use Rattle.ak_turn.specs.Lines.{last_stamp_of}
+use Rattle.ak_turn.specs.Entries.{last_stamp_of}
 use Rattle.ak_roster.specs.declared.head.AppHead.{AppHead}
 use Rattle.ak_roster.specs.declared.entry.RosterEntry.{RosterEntry}
 use Rattle.ak_roster.specs.declared.entry.RosterLine.{RosterLine}

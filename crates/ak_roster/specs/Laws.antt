@@ -18,7 +18,7 @@ use Rattle.ak_roster.specs.declared.entry.FindOutcome.{FindOutcome}
 use Rattle.ak_roster.specs.Heads.{last_part, team_fits, team_for}
 use Rattle.ak_roster.specs.Machine.{IsHistory, LooperData, RosterState, holders, loopers_at, runs_team, state_of}
 use Rattle.ak_roster.specs.Roster.{IsStranger, entries_of}
-use Rattle.ak_turn.specs.Lines.{made_by}
+use Rattle.ak_turn.specs.Entries.{made_by}
 use Rattle.ak_roster.specs.Limits.{team_limit}
 use Rattle.ak_turn.specs.Seats.{SeatData, KnowsWhole}
 

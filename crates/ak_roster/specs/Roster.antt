@@ -5,7 +5,7 @@ use Rattle.ak_base.specs.Thread.{main_thread}
 use Rattle.ak_base.specs.declared.thread.ThreadId.{ThreadId}
 use Rattle.ak_turn.specs.declared.clock.Clock.{Clock}
 use Rattle.ak_turn.specs.Called as at_lock
-use Rattle.ak_turn.specs.Lines.{last_stamp_of}
+use Rattle.ak_turn.specs.Entries.{last_stamp_of}
 use Rattle.ak_roster.specs.declared.head.AppHead.{AppHead}
 use Rattle.ak_roster.specs.declared.entry.RosterEntry.{RosterEntry}
 use Rattle.ak_roster.specs.declared.entry.RosterLine.{RosterLine}

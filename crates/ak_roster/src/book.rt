@@ -1,5 +1,5 @@
 ghost use Rattle.std.specs.Prelude.{◌≡◌, [], IfOk, slice_get};
-ghost use Rattle.ak_turn.specs.Lines.{last_stamp_of};
+ghost use Rattle.ak_turn.specs.Entries.{last_stamp_of};
 ghost use Rattle.ak_roster.specs.Heads.{IsHeads};
 ghost use Rattle.ak_roster.specs.Roster.{entries_of, IsAtRest, IsRoster, state};
 

@@ -26,12 +26,12 @@ module _ {O L : Type 0} where
   others_wait w thread part (HasTurn ticket) other t = (t.0, at_longer w.queue (thread ∷ []) 0 part.thread t.1, t.2, t.3)
   others_wait w thread part Spent other t = tt
 
-module _ {B O L : Type 0} (opening : B → O) (lines : B → List L) (at_rest : B → Type 0) (by : L → ℕ) where
+module _ {B O L : Type 0} (opening : B → O) (entries : B → List L) (at_rest : B → Type 0) (by : L → ℕ) where
   abbrev St : Type 0
   St = State (Option B) (View O L)
 
-  drawn : (w : World O L) (s : St) (id : ℕ) (v : View O L) → Holds opening lines at_rest by w s → get_elem? s.views id ≡ some v → v.stage ≡ Idle
-      → Holds opening lines at_rest by (queued w v.me.thread) record { words = set s.words 0 ((get_or s.words 0 0 + 1) % 2 ^ 64); homes = s.homes; views = set s.views id (staged (Waits (w.served + length w.queue)) v) }
+  drawn : (w : World O L) (s : St) (id : ℕ) (v : View O L) → Holds opening entries at_rest by w s → get_elem? s.views id ≡ some v → v.stage ≡ Idle
+      → Holds opening entries at_rest by (queued w v.me.thread) record { words = set s.words 0 ((get_or s.words 0 0 + 1) % 2 ^ 64); homes = s.homes; views = set s.views id (staged (Waits (w.served + length w.queue)) v) }
   drawn w s id v h at idle =
       let live : IsLive by w id v = h.seats id v at (not_spent_idle v.stage idle) in
       let away : Absent w.queue v.me.thread = subst (IsTimely w v.me) idle live.timely in
@@ -45,7 +45,7 @@ module _ {B O L : Type 0} (opening : B → O) (lines : B → List L) (at_rest : 
         queue = distinct_push w.queue v.me.thread h.queue away;
         queued = All-push (Contains w.names) w.queue v.me.thread h.queued live.me.named;
         names = h.names;
-        entries = h.entries;
+        makers = h.makers;
         seats = each_stays (Fits by (queued w v.me.thread)) s.views id (staged (Waits (w.served + length w.queue)) v)
             (λ _. record {
               opening = live.opening;
@@ -67,7 +67,7 @@ module _ {B O L : Type 0} (opening : B → O) (lines : B → List L) (at_rest : 
             });
       }
 
-  pub draws : (slots id : ℕ) (m : Sat B O L) → m.0.stage ≡ Idle → m.1 ≡ [] → Allows (Kept opening lines at_rest by) slots id m 0 (λ n. (n + 1) % 2 ^ 64) (drew (step slots 0 1 0 none) m)
+  pub draws : (slots id : ℕ) (m : Sat B O L) → m.0.stage ≡ Idle → m.1 ≡ [] → Allows (Kept opening entries at_rest by) slots id m 0 (λ n. (n + 1) % 2 ^ 64) (drew (step slots 0 1 0 none) m)
   draws slots id m idle empty s kept long at small =
       let w = kept.0 in
       let h = kept.1 in (

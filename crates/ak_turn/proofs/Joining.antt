@@ -26,7 +26,7 @@ was_not : (id other owner : ℕ) → owner ≢ other → moved_to id other owner
 was_not id other owner e = ap (λ b. cond b id owner) (ne_eqb owner other e)
 
 module _ {O L : Type 0} where
-  -- the world in which the lines of the other seat belong to the seat
+  -- the world in which the entries of the other seat belong to the seat
   abbrev merged : World O L → ℕ → ℕ → World O L
   merged w id other = record w { owner = λ x. moved_to id other (w.owner x); head = moved_to id other w.head }
 
@@ -36,7 +36,7 @@ module _ {O L : Type 0} where
   same_times w id other part (HasTurn ticket) t = t
   same_times w id other part Spent t = t
 
-module _ {B O L : Type 0} (opening : B → O) (lines : B → List L) (at_rest : B → Type 0) (by : L → ℕ) where
+module _ {B O L : Type 0} (opening : B → O) (entries : B → List L) (at_rest : B → Type 0) (by : L → ℕ) where
   abbrev St : Type 0
   St = State (Option B) (View O L)
 
@@ -59,7 +59,7 @@ module _ {B O L : Type 0} (opening : B → O) (lines : B → List L) (at_rest : 
   names_fit w id other away (Some names) two first second ns is =
       let e = first ns is in (e.0, e.1 ∙ sym (was_not id other w.head (λ same. away (sym same ∙ sym e.1))))
 
-  both : (w : World O L) (s : St) (id other : ℕ) (v u : View O L) → Holds opening lines at_rest by w s → get_elem? s.views id ≡ some v → other ≢ id → get_elem? s.views other ≡ some u → v.stage ≡ Idle → u.stage ≡ Idle
+  both : (w : World O L) (s : St) (id other : ℕ) (v u : View O L) → Holds opening entries at_rest by w s → get_elem? s.views id ≡ some v → other ≢ id → get_elem? s.views other ≡ some u → v.stage ≡ Idle → u.stage ≡ Idle
       → IsLive by (merged w id other) id (joined_view v u)
   both w s id other v u h at away there idle their_idle =
       let live : IsLive by w id v = h.seats id v at (not_spent_idle v.stage idle) in
@@ -78,8 +78,8 @@ module _ {B O L : Type 0} (opening : B → O) (lines : B → List L) (at_rest : 
         names = names_fit w id other away v.names u.names live.names theirs.names;
       }
 
-  one_seat : (w : World O L) (s : St) (id other : ℕ) (v u : View O L) → Holds opening lines at_rest by w s → get_elem? s.views id ≡ some v → other ≢ id → get_elem? s.views other ≡ some u → v.stage ≡ Idle → u.stage ≡ Idle
-      → Holds opening lines at_rest by (merged w id other) record { words = s.words; homes = s.homes; views = set (set s.views id (joined_view v u)) other spent_view }
+  one_seat : (w : World O L) (s : St) (id other : ℕ) (v u : View O L) → Holds opening entries at_rest by w s → get_elem? s.views id ≡ some v → other ≢ id → get_elem? s.views other ≡ some u → v.stage ≡ Idle → u.stage ≡ Idle
+      → Holds opening entries at_rest by (merged w id other) record { words = s.words; homes = s.homes; views = set (set s.views id (joined_view v u)) other spent_view }
   one_seat w s id other v u h at away there idle their_idle = record {
     words = h.words;
     slot = h.slot;
@@ -87,7 +87,7 @@ module _ {B O L : Type 0} (opening : B → O) (lines : B → List L) (at_rest : 
     queue = h.queue;
     queued = h.queued;
     names = h.names;
-    entries = h.entries;
+    makers = h.makers;
     seats = each_stays (Fits by (merged w id other)) (set s.views id (joined_view v u)) other spent_view (λ alive. absurd (alive refl))
         (λ j x not_other in_set.
         each_stays (λ i y. i ≢ other → Fits by (merged w id other) i y) s.views id (joined_view v u)
@@ -105,7 +105,7 @@ module _ {B O L : Type 0} (opening : B → O) (lines : B → List L) (at_rest : 
         j x in_set not_other);
   }
 
-  pub joins : (id other : ℕ) (v u : View O L) → v.stage ≡ Idle → u.stage ≡ Idle → Joins (Kept opening lines at_rest by) id v other u (joined_view v u) spent_view
+  pub joins : (id other : ℕ) (v u : View O L) → v.stage ≡ Idle → u.stage ≡ Idle → Joins (Kept opening entries at_rest by) id v other u (joined_view v u) spent_view
   joins id other v u idle their_idle s kept at away there = (
     merged kept.0 id other,
     one_seat kept.0 s id other v u kept.1 at away (sym (set_else s.views id other (joined_view v u) away) ∙ there) idle their_idle,

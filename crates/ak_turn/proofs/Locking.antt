@@ -11,18 +11,18 @@ if_some : (names : Option (List ℕ)) (P : List ℕ → Type 0) → ((ns : List 
 if_some None P every = tt
 if_some (Some ns) P every = every ns refl
 
-module _ {B O L : Type 0} (opening : B → O) (lines : B → List L) (at_rest : B → Type 0) (by : L → ℕ) where
+module _ {B O L : Type 0} (opening : B → O) (entries : B → List L) (at_rest : B → Type 0) (by : L → ℕ) where
   abbrev Given : SeatData O L → SeatData O L → Type 0
   Given old new = IsGiven by old new × KnowsWhole by new
 
-  from_view : (lock : LockId) (v : View O L) (waits ticket : ℕ) (m : Sat B O L) → TakesTurn opening lines at_rest by ticket (staged (Waits waits) v, []) m → Given (seat_seen lock v) (seat_seen lock m.0)
+  from_view : (lock : LockId) (v : View O L) (waits ticket : ℕ) (m : Sat B O L) → TakesTurn opening entries at_rest by ticket (staged (Waits waits) v, []) m → Given (seat_seen lock v) (seat_seen lock m.0)
   from_view lock v waits ticket m t =
-      let now : m.0 ≡ staged (HasTurn ticket) (fronted (lines t.book) v) = ap (λ x. x.0) t.after in
-      let base : KnowsWhole by (seat_seen lock (staged (HasTurn ticket) (fronted (lines t.book) v))) = record {
+      let now : m.0 ≡ staged (HasTurn ticket) (fronted (entries t.book) v) = ap (λ x. x.0) t.after in
+      let base : KnowsWhole by (seat_seen lock (staged (HasTurn ticket) (fronted (entries t.book) v))) = record {
         own = t.shown.me.all_own;
         joined = t.shown.joined;
         apart = t.shown.apart;
-        names = if_some v.names (λ names. All (λ line. Contains names (by line)) (lines t.book)) t.shown.names;
+        names = if_some v.names (λ names. All (λ entry. Contains names (by entry)) (entries t.book)) t.shown.names;
         named = if_some v.names (λ names. Contains names v.me.thread) t.shown.named;
       } in (
         record {
@@ -34,7 +34,7 @@ module _ {B O L : Type 0} (opening : B → O) (lines : B → List L) (at_rest : 
       )
 
   pub seat_given : (old : SeatData O L) (lock lock' : LockId) (v : View O L) (waits ticket : ℕ) (m n p : Sat B O L) (slots : List (ℕ × Option B)) → seat_seen lock v ≡ old → lock' ≡ lock
-      → m ≡ (staged (Waits waits) v, []) → TakesTurn opening lines at_rest by ticket m n → p ≡ (n.0, slots) → IsGiven by old (seat_seen lock' p.0) × KnowsWhole by (seat_seen lock' p.0)
+      → m ≡ (staged (Waits waits) v, []) → TakesTurn opening entries at_rest by ticket m n → p ≡ (n.0, slots) → IsGiven by old (seat_seen lock' p.0) × KnowsWhole by (seat_seen lock' p.0)
   seat_given old lock lock' v waits ticket m n p slots was same m_is t p_is =
-      let base = from_view lock v waits ticket n (subst (λ x. TakesTurn opening lines at_rest by ticket x n) m_is t) in
+      let base = from_view lock v waits ticket n (subst (λ x. TakesTurn opening entries at_rest by ticket x n) m_is t) in
       subst (λ (q : SeatData O L × LockId × View O L). Given q.0 (seat_seen q.1 q.2)) (λ i. (was i, sym same i, (sym p_is i).0)) base

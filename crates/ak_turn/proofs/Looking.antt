@@ -13,7 +13,7 @@ use Rattle.ak_turn.specs.declared.view.Stage.{Stage}
 use Rattle.ak_turn.specs.declared.view.Stage.TheVariants.{Idle, Waits, HasTurn, Spent}
 use Rattle.ak_turn.specs.declared.view.Part.{Part}
 use Rattle.ak_turn.specs.declared.view.View.{View}
-use Rattle.ak_turn.specs.Lines.{places}
+use Rattle.ak_turn.specs.Entries.{places}
 use Rattle.ak_turn.specs.Rule.{World, IsTimely, IsKnown, IsOurs, IsLive, Fits, IsSlot, Holds, Kept}
 use Rattle.ak_turn.specs.Steps.{Sat, staged, fronted, looked, IsShown, TakesTurn}
 use Rattle.ak_turn.proofs.Lists.{at_within, each_stays}
@@ -39,26 +39,26 @@ module _ {O L : Type 0} where
   others_wait_on w thread part (HasTurn ticket) other first free t = let no : true ≡ false = sym t.2 ∙ free in absurd (cc)
   others_wait_on w thread part Spent other first free t = tt
 
-module _ {B O L : Type 0} (opening : B → O) (lines : B → List L) (at_rest : B → Type 0) (by : L → ℕ) where
+module _ {B O L : Type 0} (opening : B → O) (entries : B → List L) (at_rest : B → Type 0) (by : L → ℕ) where
   abbrev St : Type 0
   St = State (Option B) (View O L)
 
   -- what the seat learns from the book in the slot
-  learns : (w : World O L) (id : ℕ) (v : View O L) (all : (l : List L) → l ≡ w.history → All (λ line. Contains w.names (by line)) l) (l : List L) → l ≡ w.history → IsLive by w id v → IsShown by v l
+  learns : (w : World O L) (id : ℕ) (v : View O L) (all : (l : List L) → l ≡ w.history → All (λ entry. Contains w.names (by entry)) l) (l : List L) → l ≡ w.history → IsLive by w id v → IsShown by v l
   learns w id v all l told live =
       let know : (part : Part L) → IsOurs by w id part → IsKnown by l part = λ part ours. subst (λ (h : List L). IsKnown by h part) (sym told) ours.known in
       record {
         me = know v.me live.me;
         joined = λ k d lt. know (get_or v.joined k d) (live.joined k d lt);
         apart = live.apart;
-        names = λ names is. subst (λ (ns : List ℕ). All (λ line. Contains ns (by line)) l) (sym (live.names names is).0) (all l told);
+        names = λ names is. subst (λ (ns : List ℕ). All (λ entry. Contains ns (by entry)) l) (sym (live.names names is).0) (all l told);
         named = λ names is. subst (λ (ns : List ℕ). Contains ns v.me.thread) (sym (live.names names is).0) live.me.named;
       }
 
   -- the seat has the turn
-  taken : (w : World O L) (s : St) (id : ℕ) (v : View O L) (ticket : ℕ) (book : B) → Holds opening lines at_rest by w s → get_elem? s.views id ≡ some v → v.stage ≡ Waits ticket → ticket ≡ w.served
-      → get_elem? w.queue 0 ≡ some v.me.thread → w.busy ≡ false → s.homes ≡ some (Some book) ∷ [] → lines book ≡ w.history
-      → Holds opening lines at_rest by (busied w) record { words = set s.words 1 (get_or s.words 1 0); homes = set s.homes 0 none; views = set s.views id (staged (HasTurn ticket) (fronted (lines book) v)) }
+  taken : (w : World O L) (s : St) (id : ℕ) (v : View O L) (ticket : ℕ) (book : B) → Holds opening entries at_rest by w s → get_elem? s.views id ≡ some v → v.stage ≡ Waits ticket → ticket ≡ w.served
+      → get_elem? w.queue 0 ≡ some v.me.thread → w.busy ≡ false → s.homes ≡ some (Some book) ∷ [] → entries book ≡ w.history
+      → Holds opening entries at_rest by (busied w) record { words = set s.words 1 (get_or s.words 1 0); homes = set s.homes 0 none; views = set s.views id (staged (HasTurn ticket) (fronted (entries book) v)) }
   taken w s id v ticket book h at waits now first free homes told =
       let live : IsLive by w id v = h.seats id v at (not_spent_waits v.stage ticket waits) in
       record {
@@ -68,13 +68,13 @@ module _ {B O L : Type 0} (opening : B → O) (lines : B → List L) (at_rest : 
         queue = h.queue;
         queued = h.queued;
         names = h.names;
-        entries = h.entries;
-        seats = each_stays (Fits by (busied w)) s.views id (staged (HasTurn ticket) (fronted (lines book) v))
+        makers = h.makers;
+        seats = each_stays (Fits by (busied w)) s.views id (staged (HasTurn ticket) (fronted (entries book) v))
             (λ _. record {
               opening = live.opening;
               timely = (now, first, refl, told);
               me = record {
-                known = IsKnown-whole by w.history record { thread = v.me.thread; front = lines book; own = v.me.own } told live.me.known.all_own;
+                known = IsKnown-whole by w.history record { thread = v.me.thread; front = entries book; own = v.me.own } told live.me.known.all_own;
                 owned = live.me.owned;
                 named = live.me.named;
               };
@@ -95,9 +95,9 @@ module _ {B O L : Type 0} (opening : B → O) (lines : B → List L) (at_rest : 
       }
 
   -- nothing changes
-  unmoved : (w : World O L) (s : St) (id i : ℕ) (v : View O L) → Holds opening lines at_rest by w s → get_elem? s.views id ≡ some v
-      → Holds opening lines at_rest by w record { words = set s.words i (get_or s.words i 0); homes = s.homes; views = set s.views id v }
-  unmoved w s id i v h at = subst (λ (p : List ℕ × List (View O L)). Holds opening lines at_rest by w record { words = p.0; homes = s.homes; views = p.1 })
+  unmoved : (w : World O L) (s : St) (id i : ℕ) (v : View O L) → Holds opening entries at_rest by w s → get_elem? s.views id ≡ some v
+      → Holds opening entries at_rest by w record { words = set s.words i (get_or s.words i 0); homes = s.homes; views = set s.views id v }
+  unmoved w s id i v h at = subst (λ (p : List ℕ × List (View O L)). Holds opening entries at_rest by w record { words = p.0; homes = s.homes; views = p.1 })
       (λ k. (sym (set-get_or s.words i 0) k, sym (set_again s.views id v at) k)) h
 
   -- the ticket that is served is at the head of the queue
@@ -105,16 +105,16 @@ module _ {B O L : Type 0} (opening : B → O) (lines : B → List L) (at_rest : 
   its_turn served ticket k q is lt few same = let e : served ≡ ticket = one_turn served ticket (2 ^ 64) (omega arith) (omega arith) same in omega arith
 
   abbrev Answer : ℕ → ℕ → Sat B O L → St → ℕ → Type 0
-  Answer slots id m s ticket = (v : View O L) × (a : Act (Option B)) × Valid s.homes m.1 a × Kept opening lines at_rest by (stepped s 1 (get_or s.words 1 0) id m.1 v a)
-      × ((get_or s.words 1 0 ≡ ticket % 2 ^ 64 → TakesTurn opening lines at_rest by ticket m (v, carried_after m.1 a)) × (get_or s.words 1 0 ≢ ticket % 2 ^ 64 → (v, carried_after m.1 a) ≡ m))
+  Answer slots id m s ticket = (v : View O L) × (a : Act (Option B)) × Valid s.homes m.1 a × Kept opening entries at_rest by (stepped s 1 (get_or s.words 1 0) id m.1 v a)
+      × ((get_or s.words 1 0 ≡ ticket % 2 ^ 64 → TakesTurn opening entries at_rest by ticket m (v, carried_after m.1 a)) × (get_or s.words 1 0 ≢ ticket % 2 ^ 64 → (v, carried_after m.1 a) ≡ m))
 
-  finds_own : (slots id : ℕ) (m : Sat B O L) (s : St) (ticket : ℕ) (w : World O L) (h : Holds opening lines at_rest by w s) → get_elem? s.views id ≡ some m.0 → m.0.stage ≡ Waits ticket → m.1 ≡ []
-      → ticket ≡ w.served → get_elem? w.queue 0 ≡ some m.0.me.thread → w.busy ≡ false → (slot : IsSlot opening lines at_rest w.opening w.history false s.homes) → get_or s.words 1 0 ≡ ticket % 2 ^ 64
+  finds_own : (slots id : ℕ) (m : Sat B O L) (s : St) (ticket : ℕ) (w : World O L) (h : Holds opening entries at_rest by w s) → get_elem? s.views id ≡ some m.0 → m.0.stage ≡ Waits ticket → m.1 ≡ []
+      → ticket ≡ w.served → get_elem? w.queue 0 ≡ some m.0.me.thread → w.busy ≡ false → (slot : IsSlot opening entries at_rest w.opening w.history false s.homes) → get_or s.words 1 0 ≡ ticket % 2 ^ 64
       → Answer slots id m s ticket
   finds_own slots id m s ticket w h at waits empty now first free (book, homes, laid) found =
       let live : IsLive by w id m.0 = h.seats id m.0 at (not_spent_waits m.0.stage ticket waits) in
       let begins = live.me.known.begins in (
-        staged (HasTurn ticket) (fronted (lines book) m.0),
+        staged (HasTurn ticket) (fronted (entries book) m.0),
         takes 0 (Some book),
         ap (λ hs. get_elem? hs 0) homes,
         (busied w, taken w s id m.0 ticket book h at waits now first free homes laid.told),
@@ -126,17 +126,17 @@ module _ {B O L : Type 0} (opening : B → O) (lines : B → List L) (at_rest : 
             opened = live.opening ∙ ap Some (sym laid.opened_so);
             told = laid.told ∙ begins.1;
             others = rest_by_others by m.0.me.thread m.0.me.front begins.0 (ap (places by m.0.me.thread) (sym begins.1) ∙ sym live.me.known.all_own ∙ live.me.known.own_seen);
-            shown = learns w id m.0 (λ l e. subst (λ (x : List L). All (λ line. Contains w.names (by line)) x) (sym e) h.entries) (lines book) laid.told live;
-            after = ap (λ (c : List (ℕ × Option B)). (staged (HasTurn ticket) (fronted (lines book) m.0), (0, Some book) ∷ c)) empty;
+            shown = learns w id m.0 (λ l e. subst (λ (x : List L). All (λ entry. Contains w.names (by entry)) x) (sym e) h.makers) (entries book) laid.told live;
+            after = ap (λ (c : List (ℕ × Option B)). (staged (HasTurn ticket) (fronted (entries book) m.0), (0, Some book) ∷ c)) empty;
           }),
           λ other. absurd (other found),
         ),
       )
 
-  finds_other : (slots id : ℕ) (m : Sat B O L) (s : St) (ticket : ℕ) (w : World O L) → Holds opening lines at_rest by w s → get_elem? s.views id ≡ some m.0 → get_or s.words 1 0 ≢ ticket % 2 ^ 64 → Answer slots id m s ticket
+  finds_other : (slots id : ℕ) (m : Sat B O L) (s : St) (ticket : ℕ) (w : World O L) → Holds opening entries at_rest by w s → get_elem? s.views id ≡ some m.0 → get_or s.words 1 0 ≢ ticket % 2 ^ 64 → Answer slots id m s ticket
   finds_other slots id m s ticket w h at other = (m.0, keeps, tt, (w, unmoved w s id 1 m.0 h at), ((λ own. absurd (other own)), λ _. refl))
 
-  finds : (slots id : ℕ) (m : Sat B O L) (s : St) (ticket : ℕ) → Kept opening lines at_rest by s → get_elem? s.views id ≡ some m.0 → m.0.stage ≡ Waits ticket → m.1 ≡ [] → Answer slots id m s ticket
+  finds : (slots id : ℕ) (m : Sat B O L) (s : St) (ticket : ℕ) → Kept opening entries at_rest by s → get_elem? s.views id ≡ some m.0 → m.0.stage ≡ Waits ticket → m.1 ≡ [] → Answer slots id m s ticket
   finds slots id m s ticket (w, h) at waits empty =
       dite (ℕ_discrete (get_or s.words 1 0) (ticket % 2 ^ 64))
       (λ own.
@@ -144,11 +144,11 @@ module _ {B O L : Type 0} (opening : B → O) (lines : B → List L) (at_rest : 
       let t : IsTimely w m.0.me (Waits ticket) = subst (IsTimely w m.0.me) waits live.timely in
       let k : ℕ = t.0 in
       let word : get_or s.words 1 0 ≡ w.served % 2 ^ 64 = ap (λ (ws : List ℕ). get_or ws 1 0) h.words in
-      let zeroth : k ≡ 0 = its_turn w.served ticket k (length w.queue) t.1 (at_within w.queue k m.0.me.thread t.2) (few_tickets opening lines at_rest by w s h) (sym word ∙ own) in
+      let zeroth : k ≡ 0 = its_turn w.served ticket k (length w.queue) t.1 (at_within w.queue k m.0.me.thread t.2) (few_tickets opening entries at_rest by w s h) (sym word ∙ own) in
       ⊎_elim (λ (busy : w.busy ≡ true). let late = t.3 busy in absurd (omega arith))
       (λ (free : w.busy ≡ false).
       finds_own slots id m s ticket w h at waits empty (omega (arith, t.1)) (subst (λ (i : ℕ). get_elem? w.queue i ≡ some m.0.me.thread) zeroth t.2) free
-      (subst (λ b. IsSlot opening lines at_rest w.opening w.history b s.homes) free h.slot) own)
+      (subst (λ b. IsSlot opening entries at_rest w.opening w.history b s.homes) free h.slot) own)
       (cases_Bool w.busy))
       (λ other. finds_other slots id m s ticket w h at other)
 
@@ -156,13 +156,13 @@ module _ {B O L : Type 0} (opening : B → O) (lines : B → List L) (at_rest : 
   same_ticket stage t u a b = let e : Waits t ≡ Waits u = sym a ∙ b in cc
 
   pub looks : (slots id : ℕ) (m : Sat B O L) (ticket : ℕ) → m.0.stage ≡ Waits ticket → m.1 ≡ []
-      → Allows (Kept opening lines at_rest by) slots id m 1 (λ n. n) (looked opening lines at_rest by (step slots 1 0 0 none) m)
+      → Allows (Kept opening entries at_rest by) slots id m 1 (λ n. n) (looked opening entries at_rest by (step slots 1 0 0 none) m)
   looks slots id m ticket waits empty s kept long at small =
       let found = finds slots id m s ticket kept at waits empty in (
         found.0,
         found.1,
         found.2,
         found.3,
-        λ u is. subst (λ (t : ℕ). (get_or s.words 1 0 ≡ t % 2 ^ 64 → TakesTurn opening lines at_rest by t m (found.0, carried_after m.1 found.1)) × (get_or s.words 1 0 ≢ t % 2 ^ 64 → (found.0, carried_after m.1 found.1) ≡ m))
+        λ u is. subst (λ (t : ℕ). (get_or s.words 1 0 ≡ t % 2 ^ 64 → TakesTurn opening entries at_rest by t m (found.0, carried_after m.1 found.1)) × (get_or s.words 1 0 ≢ t % 2 ^ 64 → (found.0, carried_after m.1 found.1) ≡ m))
             (same_ticket m.0.stage ticket u waits is) found.4,
       )

@@ -1,10 +1,10 @@
 -- What a thread makes from one seat to a later one.
-use Rattle.std.proofs.Common.{◌≡◌, ℕ, suc, ◌+◌, List, [], ◌∷◌, ◌++◌, length, refl, sym, ap, ◌∙◌, arith, append_assoc, append-nil, length-append}
+use Rattle.std.proofs.Common.{◌≡◌, ℕ, suc, ◌+◌, List, [], ◌∷◌, ◌++◌, length, refl, sym, ap, ◌∙◌, arith, append_assoc, length-append}
 use Rattle.std.proofs.lemmas.List.Elements.{filter-append}
 use mathlib.Core.Logic.{dite}
 use native.Mathlib.Decide.{ℕ_discrete}
 use Rattle.ak_turn.specs.Called.{Makes}
-use Rattle.ak_turn.specs.Lines.{made_by, places, places_from}
+use Rattle.ak_turn.specs.Entries.{made_by, places, places_from}
 use Rattle.ak_turn.specs.Seats.{LockId, SeatData, HasSeen, HasCalled, HasMade}
 use Rattle.ak_turn.proofs.Calls.{made_by-others, made_by-called}
 use Rattle.ak_turn.proofs.NewSeats.{made_own, made_other}

@@ -6,7 +6,7 @@ use Rattle.std.proofs.lemmas.List.Elements.{All-nil, All-weaker, All-contains, C
 use mathlib.Core.Logic.{dite}
 use native.Mathlib.Decide.{ℕ_discrete}
 use Rattle.ak_turn.specs.declared.view.Part.{Part}
-use Rattle.ak_turn.specs.Lines.{AreByOthers, made_by, places, places_from}
+use Rattle.ak_turn.specs.Entries.{AreByOthers, made_by, places, places_from}
 use Rattle.ak_turn.specs.Rule.{IsKnown}
 use Rattle.ak_turn.specs.Steps.{IsNewName, names_with}
 use Rattle.ak_turn.specs.Seats.{LockId, SeatData, KnowsWhole, first_seat, new_seat, titled_seat}
@@ -22,30 +22,30 @@ now_among None thread fresh = absurd fresh
 now_among (Some ns) thread fresh = Contains-push ns thread
 
 module _ {L : Type 0} (by : L → ℕ) where
-  all_among : (names : Option (List ℕ)) (thread : ℕ) (lines : List L) → IfSome names (λ ns. All (λ line. Contains ns (by line)) lines)
-      → IfSome (names_with names thread) (λ ns. All (λ line. Contains ns (by line)) lines)
-  all_among None thread lines all = tt
-  all_among (Some ns) thread lines all =
-      All-weaker (λ line. Contains ns (by line)) (λ line. Contains (ns ++ thread ∷ []) (by line)) (λ line there. Contains-append_left ns (thread ∷ []) (by line) there) lines all
+  all_among : (names : Option (List ℕ)) (thread : ℕ) (entries : List L) → IfSome names (λ ns. All (λ entry. Contains ns (by entry)) entries)
+      → IfSome (names_with names thread) (λ ns. All (λ entry. Contains ns (by entry)) entries)
+  all_among None thread entries all = tt
+  all_among (Some ns) thread entries all =
+      All-weaker (λ entry. Contains ns (by entry)) (λ entry. Contains (ns ++ thread ∷ []) (by entry)) (λ entry there. Contains-append_left ns (thread ∷ []) (by entry) there) entries all
 
-  -- a list whose lines are by the names has none by a new one
-  none_by : (names : Option (List ℕ)) (thread : ℕ) (lines : List L) → IsNewName names thread → IfSome names (λ ns. All (λ line. Contains ns (by line)) lines) → AreByOthers by thread lines
-  none_by None thread lines fresh all = absurd fresh
-  none_by (Some ns) thread lines fresh all =
-      All-weaker (λ line. Contains ns (by line)) (λ line. by line ≢ thread) (λ line there. All-contains (λ name. name ≢ thread) ns (by line) fresh there) lines all
+  -- a list whose entries are by the names has none by a new one
+  none_by : (names : Option (List ℕ)) (thread : ℕ) (entries : List L) → IsNewName names thread → IfSome names (λ ns. All (λ entry. Contains ns (by entry)) entries) → AreByOthers by thread entries
+  none_by None thread entries fresh all = absurd fresh
+  none_by (Some ns) thread entries fresh all =
+      All-weaker (λ entry. Contains ns (by entry)) (λ entry. by entry ≢ thread) (λ entry there. All-contains (λ name. name ≢ thread) ns (by entry) fresh there) entries all
 
 -- ---- new seats
 module _ {O L : Type 0} (by : L → ℕ) where
-  pub first_knows : (lock : LockId) (opening : O) (lines : List L) (thread : ℕ) → All (λ line. by line ≡ thread) lines → KnowsWhole by (first_seat lock opening lines (places by thread lines) thread)
-  first_knows lock opening lines thread mine = record {
+  pub first_knows : (lock : LockId) (opening : O) (entries : List L) (thread : ℕ) → All (λ entry. by entry ≡ thread) entries → KnowsWhole by (first_seat lock opening entries (places by thread entries) thread)
+  first_knows lock opening entries thread mine = record {
     own = refl;
-    joined = All-nil (IsKnown by lines);
+    joined = All-nil (IsKnown by entries);
     apart = All-nil (λ (part : Part L). thread ≢ part.thread);
-    names = All-weaker (λ line. by line ≡ thread) (λ line. Contains (thread ∷ []) (by line)) (λ line is. (0, omega arith, sym is)) lines mine;
+    names = All-weaker (λ entry. by entry ≡ thread) (λ entry. Contains (thread ∷ []) (by entry)) (λ entry is. (0, omega arith, sym is)) entries mine;
     named = (0, omega arith, refl);
   }
 
-  new_knows : (names : Option (List ℕ)) (thread : ℕ) (seat : SeatData O L) → KnowsWhole by seat → IsNewName seat.names thread → IfSome names (λ ns. All (λ line. Contains ns (by line)) seat.front) → IfSome names (λ ns. Contains ns thread)
+  new_knows : (names : Option (List ℕ)) (thread : ℕ) (seat : SeatData O L) → KnowsWhole by seat → IsNewName seat.names thread → IfSome names (λ ns. All (λ entry. Contains ns (by entry)) seat.front) → IfSome names (λ ns. Contains ns thread)
       → KnowsWhole by (new_seat thread names seat)
   new_knows names thread seat whole fresh all there = record {
     own = sym (places-others by thread seat.front (none_by by seat.names thread seat.front fresh whole.names));
@@ -55,7 +55,7 @@ module _ {O L : Type 0} (by : L → ℕ) where
     named = there;
   }
 
-  titled_knows : (names : Option (List ℕ)) (seat : SeatData O L) → KnowsWhole by seat → IfSome names (λ ns. All (λ line. Contains ns (by line)) seat.front) → IfSome names (λ ns. Contains ns seat.thread)
+  titled_knows : (names : Option (List ℕ)) (seat : SeatData O L) → KnowsWhole by seat → IfSome names (λ ns. All (λ entry. Contains ns (by entry)) seat.front) → IfSome names (λ ns. Contains ns seat.thread)
       → KnowsWhole by (titled_seat names seat)
   titled_knows names seat whole all there = record { own = whole.own; joined = whole.joined; apart = whole.apart; names = all; named = there }
 

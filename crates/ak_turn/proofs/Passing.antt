@@ -26,20 +26,20 @@ module _ {O L : Type 0} where
   others_move_up w thread part (HasTurn ticket) other first busy t = absurd (other (one_at w.queue 0 part.thread thread t.1 first))
   others_move_up w thread part Spent other first busy t = tt
 
-module _ {B O L : Type 0} (opening : B → O) (lines : B → List L) (at_rest : B → Type 0) (by : L → ℕ) where
+module _ {B O L : Type 0} (opening : B → O) (entries : B → List L) (at_rest : B → Type 0) (by : L → ℕ) where
   abbrev St : Type 0
   St = State (Option B) (View O L)
 
   same_opening : (o : Option O) (a b : O) → o ≡ Some a → o ≡ Some b → b ≡ a
   same_opening o a b x y = let e : Some b ≡ Some a = sym y ∙ x in cc
 
-  given : (w : World O L) (s : St) (id : ℕ) (v : View O L) (ticket : ℕ) (book : B) → Holds opening lines at_rest by w s → get_elem? s.views id ≡ some v → v.stage ≡ HasTurn ticket
-      → at_rest book → v.opening ≡ Some (opening book) → lines book ≡ v.me.front
-      → Holds opening lines at_rest by (freed w) record { words = set s.words 1 ((get_or s.words 1 0 + 1) % 2 ^ 64); homes = set s.homes 0 (some (Some book)); views = set s.views id (staged Idle v) }
+  given : (w : World O L) (s : St) (id : ℕ) (v : View O L) (ticket : ℕ) (book : B) → Holds opening entries at_rest by w s → get_elem? s.views id ≡ some v → v.stage ≡ HasTurn ticket
+      → at_rest book → v.opening ≡ Some (opening book) → entries book ≡ v.me.front
+      → Holds opening entries at_rest by (freed w) record { words = set s.words 1 ((get_or s.words 1 0 + 1) % 2 ^ 64); homes = set s.homes 0 (some (Some book)); views = set s.views id (staged Idle v) }
   given w s id v ticket book h at turn rests opened told =
       let live : IsLive by w id v = h.seats id v at (not_spent_turn v.stage ticket turn) in
       let t : IsTimely w v.me (HasTurn ticket) = subst (IsTimely w v.me) turn live.timely in
-      let out : s.homes ≡ none ∷ [] = subst (λ b. IsSlot opening lines at_rest w.opening w.history b s.homes) t.2 h.slot in
+      let out : s.homes ≡ none ∷ [] = subst (λ b. IsSlot opening entries at_rest w.opening w.history b s.homes) t.2 h.slot in
       let shorter : length w.queue ≡ suc (length (drop 1 w.queue)) = length_behind w.queue (omega (arith, at_within w.queue 0 v.me.thread t.1)) in
       let words : (w.served + length w.queue) % 2 ^ 64 ∷ (w.served % 2 ^ 64 + 1) % 2 ^ 64 ∷ length w.history % 2 ^ 64 ∷ [] ≡ (suc w.served + length (drop 1 w.queue)) % 2 ^ 64 ∷ suc w.served % 2 ^ 64 ∷ length w.history % 2 ^ 64 ∷ [] =
       λ i. (let e : w.served + length w.queue ≡ suc w.served + length (drop 1 w.queue) = omega (arith, shorter) in e i) % 2 ^ 64
@@ -51,7 +51,7 @@ module _ {B O L : Type 0} (opening : B → O) (lines : B → List L) (at_rest : 
         queue = distinct_behind w.queue h.queue;
         queued = All-drop (Contains w.names) 1 w.queue h.queued;
         names = h.names;
-        entries = h.entries;
+        makers = h.makers;
         seats = each_stays (Fits by (freed w)) s.views id (staged Idle v)
             (λ _. record {
               opening = live.opening;
@@ -74,10 +74,10 @@ module _ {B O L : Type 0} (opening : B → O) (lines : B → List L) (at_rest : 
       }
 
   abbrev After : (w : World O L) (s : St) (id : ℕ) (m : Sat B O L) → List (ℕ × Option B) → Type 0
-  After w s id m c = Holds opening lines at_rest by (freed w) record { words = set s.words 1 ((get_or s.words 1 0 + 1) % 2 ^ 64); homes = put_back s.homes c; views = set s.views id (staged Idle m.0) }
+  After w s id m c = Holds opening entries at_rest by (freed w) record { words = set s.words 1 ((get_or s.words 1 0 + 1) % 2 ^ 64); homes = put_back s.homes c; views = set s.views id (staged Idle m.0) }
 
-  pub passes : (slots id : ℕ) (book : B) (m : Sat B O L) → HoldsBook lines book m → IsSame lines book m → at_rest book → m.0.opening ≡ Some (opening book)
-      → Allows (Kept opening lines at_rest by) slots id m 1 (λ n. (n + 1) % 2 ^ 64) (passed (step slots 1 1 0 none) m)
+  pub passes : (slots id : ℕ) (book : B) (m : Sat B O L) → HoldsBook entries book m → IsSame entries book m → at_rest book → m.0.opening ≡ Some (opening book)
+      → Allows (Kept opening entries at_rest by) slots id m 1 (λ n. (n + 1) % 2 ^ 64) (passed (step slots 1 1 0 none) m)
   passes slots id book m has same rests opened s kept long at small = (
     staged Idle m.0,
     gives,

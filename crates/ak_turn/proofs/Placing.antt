@@ -1,11 +1,11 @@
--- Where a thread's lines stand, in lists that go on.
+-- Where a thread's entries stand, in lists that go on.
 use Rattle.std.proofs.Common.{◌≡◌, ◌≢◌, ℕ, suc, ◌+◌, cond, List, [], ◌∷◌, ◌++◌, length, sym, refl, ap, ◌∙◌, arith, append_assoc, append-nil, eq-eqb, ne_eqb}
 use Rattle.std.proofs.lemmas.List.{append_cancel_left}
 use Rattle.std.proofs.lemmas.List.Elements.{All-head, All-tail, All-cons, All-nil}
 use mathlib.Core.Logic.{dite}
 use native.Mathlib.Decide.{ℕ_discrete}
 use Rattle.ak_turn.specs.declared.view.Part.{Part}
-use Rattle.ak_turn.specs.Lines.{places, places_from, AreByOthers}
+use Rattle.ak_turn.specs.Entries.{places, places_from, AreByOthers}
 use Rattle.ak_turn.specs.Rule.{IsKnown}
 
 module _ {L : Type 0} (by : L → ℕ) (thread : ℕ) where
@@ -24,27 +24,27 @@ module _ {L : Type 0} (by : L → ℕ) (thread : ℕ) where
       (λ e. own_first n x (xs ++ ys) e ∙ ap (λ l. n ∷ l) step ∙ sym (ap (λ l. l ++ places_from by thread (n + suc (length xs)) ys) (own_first n x xs e)))
       (λ e. other_first n x (xs ++ ys) e ∙ step ∙ sym (ap (λ l. l ++ places_from by thread (n + suc (length xs)) ys) (other_first n x xs e)))
 
-  -- a list with no line of the thread has no places of it, and the other way round
+  -- a list with no entry of the thread has no places of it, and the other way round
   places_from-others : (n : ℕ) (xs : List L) → AreByOthers by thread xs → places_from by thread n xs ≡ []
   places_from-others n [] others = refl
   places_from-others n (x ∷ xs) others =
-      other_first n x xs (All-head (λ line. by line ≢ thread) x xs others) ∙ places_from-others (suc n) xs (All-tail (λ line. by line ≢ thread) x xs others)
+      other_first n x xs (All-head (λ entry. by entry ≢ thread) x xs others) ∙ places_from-others (suc n) xs (All-tail (λ entry. by entry ≢ thread) x xs others)
 
   others-places_from : (n : ℕ) (xs : List L) → places_from by thread n xs ≡ [] → AreByOthers by thread xs
-  others-places_from n [] none = All-nil (λ line. by line ≢ thread)
+  others-places_from n [] none = All-nil (λ entry. by entry ≢ thread)
   others-places_from n (x ∷ xs) none =
       dite (ℕ_discrete (by x) thread)
       (λ e. let no : n ∷ places_from by thread (suc n) xs ≡ [] = sym (own_first n x xs e) ∙ none in absurd (cc))
-      (λ e. All-cons (λ line. by line ≢ thread) x xs e (others-places_from (suc n) xs (sym (other_first n x xs e) ∙ none)))
+      (λ e. All-cons (λ entry. by entry ≢ thread) x xs e (others-places_from (suc n) xs (sym (other_first n x xs e) ∙ none)))
 
   pub places-others : (xs : List L) → AreByOthers by thread xs → places by thread xs ≡ []
   places-others xs others = places_from-others 0 xs others
 
-  -- one line more, which is the thread's
+  -- one entry more, which is the thread's
   pub places-own : (xs : List L) (x : L) → by x ≡ thread → places by thread (xs ++ x ∷ []) ≡ places by thread xs ++ length xs ∷ []
   places-own xs x e = places_from-append 0 xs (x ∷ []) ∙ ap (λ l. places by thread xs ++ l) (own_first (0 + length xs) x [] e ∙ ap (λ (k : ℕ). k ∷ []) (omega arith))
 
-  -- one line more, which is another's
+  -- one entry more, which is another's
   pub places-other : (xs : List L) (x : L) → by x ≢ thread → places by thread (xs ++ x ∷ []) ≡ places by thread xs
   places-other xs x e = places_from-append 0 xs (x ∷ []) ∙ ap (λ l. places by thread xs ++ l) (other_first (0 + length xs) x [] e) ∙ append-nil (places by thread xs)
 
@@ -55,11 +55,11 @@ module _ {L : Type 0} (by : L → ℕ) (thread : ℕ) where
       (append_cancel_left (places by thread front) _ [] (sym (places_from-append 0 front rest) ∙ same ∙ sym (append-nil (places by thread front))))
 
 module _ {L : Type 0} (by : L → ℕ) where
-  -- one line more, by another thread
-  pub IsKnown-other : (history : List L) (line : L) (part : Part L) → by line ≢ part.thread → IsKnown by history part → IsKnown by (history ++ line ∷ []) part
-  IsKnown-other history line part other known = record {
-    begins = (known.begins.0 ++ line ∷ [], ap (λ l. l ++ line ∷ []) known.begins.1 ∙ append_assoc part.front known.begins.0 (line ∷ []));
-    all_own = known.all_own ∙ sym (places-other by part.thread history line other);
+  -- one entry more, by another thread
+  pub IsKnown-other : (history : List L) (entry : L) (part : Part L) → by entry ≢ part.thread → IsKnown by history part → IsKnown by (history ++ entry ∷ []) part
+  IsKnown-other history entry part other known = record {
+    begins = (known.begins.0 ++ entry ∷ [], ap (λ l. l ++ entry ∷ []) known.begins.1 ∙ append_assoc part.front known.begins.0 (entry ∷ []));
+    all_own = known.all_own ∙ sym (places-other by part.thread history entry other);
     own_seen = known.own_seen;
   }
 

@@ -29,7 +29,7 @@ module _ {O L : Type 0} (by : L → ℕ) (w : World O L) where
   pub two_threads : (i j : ℕ) (p q : Part L) → IsOurs by w i p → IsOurs by w j q → i ≢ j → p.thread ≢ q.thread
   two_threads i j p q mine theirs differ same = differ (sym mine.owned ∙ ap w.owner same ∙ theirs.owned)
 
-module _ {B O L : Type 0} (opening : B → O) (lines : B → List L) (at_rest : B → Type 0) (by : L → ℕ) where
+module _ {B O L : Type 0} (opening : B → O) (entries : B → List L) (at_rest : B → Type 0) (by : L → ℕ) where
   -- there are no more tickets than threads
-  pub few_tickets : (w : World O L) (s : State _ (View O L)) → Holds opening lines at_rest by w s → length w.queue ≤ 2 ^ 32
+  pub few_tickets : (w : World O L) (s : State _ (View O L)) → Holds opening entries at_rest by w s → length w.queue ≤ 2 ^ 32
   few_tickets w s h = at_most (2 ^ 32) w.queue h.queue (All-weaker (Contains w.names) (λ x. x < 2 ^ 32) (λ x there. All-contains (λ x. x < 2 ^ 32) w.names x h.names there) w.queue h.queued)

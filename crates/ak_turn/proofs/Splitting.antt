@@ -10,7 +10,7 @@ use Rattle.ak_turn.specs.declared.view.Stage.{Stage}
 use Rattle.ak_turn.specs.declared.view.Stage.TheVariants.{Idle, Waits, HasTurn, Spent}
 use Rattle.ak_turn.specs.declared.view.Part.{Part}
 use Rattle.ak_turn.specs.declared.view.View.{View}
-use Rattle.ak_turn.specs.Lines.{AreByOthers}
+use Rattle.ak_turn.specs.Entries.{AreByOthers}
 use Rattle.ak_turn.specs.Rule.{World, IsTimely, IsOurs, IsLive, Fits, Holds, Kept}
 use Rattle.ak_turn.specs.Steps.{IsNewName, named, names_with, titled, newcomer}
 use Rattle.ak_turn.proofs.Lists.{at_push, contains_at, each_stays}
@@ -18,7 +18,7 @@ use Rattle.ak_turn.proofs.Placing.{places-others}
 use Rattle.ak_turn.proofs.Seating.{not_spent_idle}
 
 module _ {O L : Type 0} where
-  -- the world with one name more, whose lines belong to a new seat
+  -- the world with one name more, whose entries belong to a new seat
   abbrev wider : World O L → ℕ → ℕ → ℕ → World O L
   wider w thread seat head = record w { names = named w.names thread; owner = λ x. cond (eqb x thread) seat (w.owner x); head = head }
 
@@ -36,7 +36,7 @@ IsTitle names all id head = (ns : List ℕ) → names ≡ Some ns → (ns ≡ al
 front_of_all : {L : Type 0} (P : L → Type 0) (all xs ys : List L) → all ≡ xs ++ ys → All P all → All P xs
 front_of_all P all xs ys is every k d lt = subst P (get_or-append xs ys d k lt) (subst (All P) is every k d (omega (arith, length-append xs ys)))
 
-module _ {B O L : Type 0} (opening : B → O) (lines : B → List L) (at_rest : B → Type 0) (by : L → ℕ) where
+module _ {B O L : Type 0} (opening : B → O) (entries : B → List L) (at_rest : B → Type 0) (by : L → ℕ) where
   abbrev St : Type 0
   St = State (Option B) (View O L)
 
@@ -49,19 +49,19 @@ module _ {B O L : Type 0} (opening : B → O) (lines : B → List L) (at_rest : 
         named = Contains-append_left w.names (thread ∷ []) part.thread ours.named;
       }
 
-  -- no line is by a new thread
-  by_others : (names : List ℕ) (thread : ℕ) (all : List L) → ¬ Contains names thread → All (λ line. Contains names (by line)) all → AreByOthers by thread all
-  by_others names thread all new every = All-weaker (λ line. Contains names (by line)) (λ line. by line ≢ thread) (λ line there e. new (subst (Contains names) e there)) all every
+  -- no entry is by a new thread
+  by_others : (names : List ℕ) (thread : ℕ) (all : List L) → ¬ Contains names thread → All (λ entry. Contains names (by entry)) all → AreByOthers by thread all
+  by_others names thread all new every = All-weaker (λ entry. Contains names (by entry)) (λ entry. by entry ≢ thread) (λ entry there e. new (subst (Contains names) e there)) all every
 
-  forked : (w : World O L) (s : St) (id : ℕ) (v : View O L) (thread head : ℕ) (left right : Option (List ℕ)) → Holds opening lines at_rest by w s → get_elem? s.views id ≡ some v → v.stage ≡ Idle
+  forked : (w : World O L) (s : St) (id : ℕ) (v : View O L) (thread head : ℕ) (left right : Option (List ℕ)) → Holds opening entries at_rest by w s → get_elem? s.views id ≡ some v → v.stage ≡ Idle
       → id ≡ w.head → thread < 2 ^ 32 → ¬ Contains w.names thread → IsTitle left (named w.names thread) id head → IsTitle right (named w.names thread) (length s.views) head
-      → Holds opening lines at_rest by (wider w thread (length s.views) head) record { words = s.words; homes = s.homes; views = set s.views id (titled left v) ++ newcomer thread right v ∷ [] }
+      → Holds opening entries at_rest by (wider w thread (length s.views) head) record { words = s.words; homes = s.homes; views = set s.views id (titled left v) ++ newcomer thread right v ∷ [] }
   forked w s id v thread head left right h at idle first small new left_names right_names =
       let live : IsLive by w id v = h.seats id v at (not_spent_idle v.stage idle) in
       let seat : ℕ = length s.views in
       let begins = live.me.known.begins in
-      let none_all : AreByOthers by thread w.history = by_others w.names thread w.history new h.entries in
-      let none_seen : AreByOthers by thread v.me.front = front_of_all (λ line. by line ≢ thread) w.history v.me.front begins.0 begins.1 none_all in
+      let none_all : AreByOthers by thread w.history = by_others w.names thread w.history new h.makers in
+      let none_seen : AreByOthers by thread v.me.front = front_of_all (λ entry. by entry ≢ thread) w.history v.me.front begins.0 begins.1 none_all in
       let old : (j : ℕ) (u : View O L) → get_elem? (set s.views id (titled left v)) j ≡ some u → Fits by (wider w thread seat head) j u =
       each_stays (Fits by (wider w thread seat head)) s.views id (titled left v)
       (λ _. record {
@@ -89,7 +89,7 @@ module _ {B O L : Type 0} (opening : B → O) (lines : B → List L) (at_rest : 
         queue = h.queue;
         queued = All-weaker (Contains w.names) (Contains (named w.names thread)) (λ x there. Contains-append_left w.names (thread ∷ []) x there) w.queue h.queued;
         names = All-push (λ x. x < 2 ^ 32) w.names thread h.names small;
-        entries = All-weaker (λ line. Contains w.names (by line)) (λ line. Contains (named w.names thread) (by line)) (λ line there. Contains-append_left w.names (thread ∷ []) (by line) there) w.history h.entries;
+        makers = All-weaker (λ entry. Contains w.names (by entry)) (λ entry. Contains (named w.names thread) (by entry)) (λ entry there. Contains-append_left w.names (thread ∷ []) (by entry) there) w.history h.makers;
         seats = λ j u there. ⊎_elim (λ before. old j u before)
             (λ (last : (j ≡ length (set s.views id (titled left v))) × (newcomer thread right v ≡ u)).
             subst (λ (x : ℕ × View O L). Fits by (wider w thread seat head) x.0 x.1) (λ i. (sym (last.0 ∙ length-set s.views id (titled left v)) i, last.1 i))
@@ -121,7 +121,7 @@ module _ {B O L : Type 0} (opening : B → O) (lines : B → List L) (at_rest : 
   is_new w id v thread (Some ns) is live new = let e = live.names ns is in (e.1, (λ there. All-contains (λ name. name ≢ thread) ns thread new (subst (λ (l : List ℕ). Contains l thread) (sym e.0) there) refl), ap (λ (l : List ℕ). Some (named l thread)) e.0)
 
   pub splits : (id : ℕ) (v : View O L) (thread : ℕ) → thread < 2 ^ 32 → v.stage ≡ Idle → IsNewName v.names thread
-      → Splits (Kept opening lines at_rest by) id v (titled (names_with v.names thread) v) (newcomer thread None v)
+      → Splits (Kept opening entries at_rest by) id v (titled (names_with v.names thread) v) (newcomer thread None v)
   splits id v thread small idle new s kept at =
       let w = kept.0 in
       let live : IsLive by w id v = kept.1.seats id v at (not_spent_idle v.stage idle) in
@@ -132,7 +132,7 @@ module _ {B O L : Type 0} (opening : B → O) (lines : B → List L) (at_rest : 
       )
 
   pub splits_head : (id : ℕ) (v : View O L) (thread : ℕ) → thread < 2 ^ 32 → v.stage ≡ Idle → IsNewName v.names thread
-      → Splits (Kept opening lines at_rest by) id v (titled None v) (newcomer thread (names_with v.names thread) v)
+      → Splits (Kept opening entries at_rest by) id v (titled None v) (newcomer thread (names_with v.names thread) v)
   splits_head id v thread small idle new s kept at =
       let w = kept.0 in
       let live : IsLive by w id v = kept.1.seats id v at (not_spent_idle v.stage idle) in

@@ -5,12 +5,12 @@ use mathlib.Core.Option.{some, some-injective, some-ne-none}
 use lib.ListN.{get_elem?}
 use Rattle.atomic_table.specs.Table as table
 use Rattle.ak_turn.specs.declared.view.View.{View}
-use Rattle.ak_turn.specs.Lines.{places}
+use Rattle.ak_turn.specs.Entries.{places}
 use Rattle.ak_turn.specs.Rule.{World, IsOurs, IsLive, Fits, Kept}
 use Rattle.ak_turn.specs.Steps.{first_view}
 use Rattle.ak_turn.proofs.Placing.{IsKnown-whole}
 
-module _ {B O L : Type 0} (opening : B → O) (lines : B → List L) (at_rest : B → Type 0) (by : L → ℕ) where
+module _ {B O L : Type 0} (opening : B → O) (entries : B → List L) (at_rest : B → Type 0) (by : L → ℕ) where
   abbrev at_first : O → List L → ℕ → World O L
   at_first o history thread = record { opening = o; history = history; served = 0; queue = []; busy = false; names = thread ∷ []; owner = λ _. 0; head = 0 }
 
@@ -31,10 +31,10 @@ module _ {B O L : Type 0} (opening : B → O) (lines : B → List L) (at_rest : 
   first_seat_fits w v live zero u at = λ _. subst (IsLive by w 0) (some-injective v u at) live
   first_seat_fits w v live (suc id) u at = absurd (some-ne-none u (sym at))
 
-  pub starts : (book : B) (thread count : ℕ) → at_rest book → All (λ line. by line ≡ thread) (lines book) → thread < 2 ^ 32 → count < 2 ^ 64 → count ≡ length (lines book)
-      → Kept opening lines at_rest by (table.opening (0 ∷ 0 ∷ count ∷ []) (Some book ∷ []) (first_view by (opening book) (lines book) thread))
+  pub starts : (book : B) (thread count : ℕ) → at_rest book → All (λ entry. by entry ≡ thread) (entries book) → thread < 2 ^ 32 → count < 2 ^ 64 → count ≡ length (entries book)
+      → Kept opening entries at_rest by (table.opening (0 ∷ 0 ∷ count ∷ []) (Some book ∷ []) (first_view by (opening book) (entries book) thread))
   starts book thread count rests own small fits is = (
-    at_first (opening book) (lines book) thread,
+    at_first (opening book) (entries book) thread,
     record {
       words = ap (λ (n : ℕ). 0 ∷ 0 ∷ n ∷ []) (sym (mod-eq_of_lt fits) ∙ ap (λ (n : ℕ). n % 2 ^ 64) is);
       slot = (book, refl, record { rests = rests; opened_so = refl; told = refl });
@@ -42,7 +42,7 @@ module _ {B O L : Type 0} (opening : B → O) (lines : B → List L) (at_rest : 
       queue = λ i j x at _. absurd (some-ne-none x (sym at));
       queued = All-nil (Contains (thread ∷ []));
       names = All-cons (λ x. x < 2 ^ 32) thread [] small (All-nil (λ x. x < 2 ^ 32));
-      entries = All-weaker (λ line. by line ≡ thread) (λ line. Contains (thread ∷ []) (by line)) (λ line e. subst (Contains (thread ∷ [])) (sym e) (alone thread)) (lines book) own;
-      seats = first_seat_fits (at_first (opening book) (lines book) thread) (first_view by (opening book) (lines book) thread) (first_lives (opening book) (lines book) thread);
+      makers = All-weaker (λ entry. by entry ≡ thread) (λ entry. Contains (thread ∷ []) (by entry)) (λ entry e. subst (Contains (thread ∷ [])) (sym e) (alone thread)) (entries book) own;
+      seats = first_seat_fits (at_first (opening book) (entries book) thread) (first_view by (opening book) (entries book) thread) (first_lives (opening book) (entries book) thread);
     },
   )

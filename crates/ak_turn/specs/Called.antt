@@ -3,7 +3,7 @@
 use Rattle.std.specs.Prelude.{◌≡◌, ℕ, ◌+◌, max, List, [], ◌∷◌, ◌++◌, length, Option, None, Some}
 use Rattle.ak_base.specs.declared.thread.ThreadId.{ThreadId}
 use Rattle.ak_turn.specs.declared.clock.Clock.{Clock}
-use Rattle.ak_turn.specs.Lines.{StartsWith, last_stamp_of, made_by}
+use Rattle.ak_turn.specs.Entries.{StartsWith, last_stamp_of, made_by}
 use Rattle.ak_turn.specs.Seats.{SeatData, HasSeen, HasCalled, at_leisure, entered_by}
 
 -- ---- a new entry

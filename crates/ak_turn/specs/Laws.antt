@@ -2,7 +2,7 @@
 use Rattle.std.specs.Prelude.{◌≡◌, ℕ, List, [], ◌∷◌, ◌++◌, All, None, filter_map, slice_get}
 use Rattle.ak_turn.specs.declared.view.Part.{Part}
 use Rattle.ak_turn.specs.Called.{Makes}
-use Rattle.ak_turn.specs.Lines.{made_by, places}
+use Rattle.ak_turn.specs.Entries.{made_by, places}
 use Rattle.ak_turn.specs.Rule.{IsKnown}
 use Rattle.ak_turn.specs.Seats.{LockId, SeatData, HasSeen, HasCalled, HasMade, KnowsWhole, first_seat, new_seat, titled_seat}
 use Rattle.ak_turn.specs.Steps.{IsNewName, names_with}
@@ -13,19 +13,19 @@ SeenThenSeen O L by = (a b c : SeatData O L) → HasSeen by a b → HasSeen by b
 
 -- a seat that has seen, and then has called, has called
 abbrev pub SeenThenCalled : (O L : Type 0) → (L → ℕ) → Type 0
-SeenThenCalled O L by = (line : L) (a b c : SeatData O L) → HasSeen by a b → HasCalled by line b c → HasCalled by line a c
+SeenThenCalled O L by = (entry : L) (a b c : SeatData O L) → HasSeen by a b → HasCalled by entry b c → HasCalled by entry a c
 
 -- what a thread made is what is known of it
 abbrev pub KnownIsMade : (L : Type 0) → (L → ℕ) → Type 0
-KnownIsMade L by = (lines : List L) (part : Part L) → IsKnown by lines part → made_by by part.thread lines ≡ made_by by part.thread part.front
+KnownIsMade L by = (entries : List L) (part : Part L) → IsKnown by entries part → made_by by part.thread entries ≡ made_by by part.thread part.front
 
--- at the places of its own a seat that knows its list has just the lines that its thread made, in their order
+-- at the places of its own a seat that knows its list has just the entries that its thread made, in their order
 abbrev pub OwnIsMade : (O L : Type 0) → (L → ℕ) → Type 0
 OwnIsMade O L by = (seat : SeatData O L) → KnowsWhole by seat → filter_map (slice_get seat.front) seat.own ≡ made_by by seat.thread seat.front
 
 -- the first seat of a lock knows its list, all of which is its thread's
 abbrev pub FirstSeatsKnow : (O L : Type 0) → (L → ℕ) → Type 0
-FirstSeatsKnow O L by = (lock : LockId) (opening : O) (lines : List L) (thread : ℕ) → All (λ line. by line ≡ thread) lines → KnowsWhole by (first_seat lock opening lines (places by thread lines) thread)
+FirstSeatsKnow O L by = (lock : LockId) (opening : O) (entries : List L) (thread : ℕ) → All (λ entry. by entry ≡ thread) entries → KnowsWhole by (first_seat lock opening entries (places by thread entries) thread)
 
 -- a head that knows its list is split for a new thread: the new seat knows it, and so does the head still
 abbrev pub SplitSeatsKnow : (O L : Type 0) → (L → ℕ) → Type 0

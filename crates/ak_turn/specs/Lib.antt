@@ -1,7 +1,7 @@
 pub mod Called
+pub mod Entries
 pub mod Laws
 pub mod Lending
-pub mod Lines
 pub mod Rule
 pub mod Seats
 pub mod Seen

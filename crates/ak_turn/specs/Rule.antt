@@ -9,7 +9,7 @@ use Rattle.ak_turn.specs.declared.view.Stage.{Stage}
 use Rattle.ak_turn.specs.declared.view.Stage.TheVariants.{Idle, Waits, HasTurn, Spent}
 use Rattle.ak_turn.specs.declared.view.Part.{Part}
 use Rattle.ak_turn.specs.declared.view.View.{View}
-use Rattle.ak_turn.specs.Lines.{StartsWith, places}
+use Rattle.ak_turn.specs.Entries.{StartsWith, places}
 
 -- what there is between two steps: the object's opening and history; how many turns were passed on; the threads of the seats that have
 -- a ticket, the oldest ticket first; whether one of them has the turn; the threads that have had a seat; which seat a thread belongs to;
@@ -42,7 +42,7 @@ module _ {O L : Type 0} where
   IsTimely w me Spent = Unit {0}
 
 module _ {L : Type 0} (by : L → ℕ) (history : List L) where
-  -- of a thread, a beginning of the history is known, and of the thread's own lines all that are there
+  -- of a thread, a beginning of the history is known, and of the thread's own entries all that are there
   pub record IsKnown (part : Part L) : Type 0 where
     pub begins : StartsWith history part.front
     pub all_own : part.own ≡ places by part.thread history
@@ -70,13 +70,13 @@ module _ {O L : Type 0} (by : L → ℕ) (w : World O L) (id : ℕ) where
   abbrev pub Fits : View O L → Type 0
   Fits v = v.stage ≢ Spent → IsLive v
 
-module _ {B O L : Type 0} (opening : B → O) (lines : B → List L) (at_rest : B → Type 0) where
+module _ {B O L : Type 0} (opening : B → O) (entries : B → List L) (at_rest : B → Type 0) where
   module _ (opened : O) (history : List L) where
     -- the book in the slot is at rest, with that opening and history
     pub record IsLaid (book : B) : Type 0 where
       pub rests : at_rest book
       pub opened_so : opening book ≡ opened
-      pub told : lines book ≡ history
+      pub told : entries book ≡ history
 
     abbrev pub IsSlot : Bool → List (mathlib.Core.Option.Option (Option B)) → Type 0
     IsSlot true homes = homes ≡ none ∷ []
@@ -90,7 +90,7 @@ module _ {B O L : Type 0} (opening : B → O) (lines : B → List L) (at_rest : 
       pub queue : AreDistinct w.queue
       pub queued : All (Contains w.names) w.queue
       pub names : All (λ thread. thread < 2 ^ 32) w.names
-      pub entries : All (λ line. Contains w.names (by line)) w.history
+      pub makers : All (λ entry. Contains w.names (by entry)) w.history
       pub seats : (id : ℕ) (v : View O L) → get_elem? s.views id ≡ some v → Fits by w id v
 
     abbrev pub Kept : State (Option B) (View O L) → Type 0

@@ -2,7 +2,7 @@
 use Rattle.std.specs.Prelude.{◌≡◌, ◌≢◌, ◌⊎◌, ℕ, Bool, true, false, List, [], ◌∷◌, ◌++◌, length, All, Contains, Option, Some, IfSome}
 use Rattle.atomic_table.specs.Seated.{TableId}
 use Rattle.ak_turn.specs.declared.view.Part.{Part}
-use Rattle.ak_turn.specs.Lines.{AreByOthers, made_by, places}
+use Rattle.ak_turn.specs.Entries.{AreByOthers, made_by, places}
 use Rattle.ak_turn.specs.Rule.{IsKnown}
 use Rattle.ak_turn.specs.Steps.{either_names}
 
@@ -36,17 +36,17 @@ module _ {O L : Type 0} where
   abbrev pub at_leisure : SeatData O L → SeatData O L
   at_leisure seat = record seat { turn = false }
 
-  -- the seat's front has gone on by these lines
+  -- the seat's front has gone on by these entries
   abbrev pub later : SeatData O L → List L → SeatData O L
   later seat between = record seat { front = seat.front ++ between }
 
-  -- the same, and then by a line of its own
+  -- the same, and then by an entry of its own
   abbrev pub with_own : SeatData O L → List L → L → SeatData O L
-  with_own seat between line = record seat { front = (seat.front ++ between) ++ line ∷ []; own = seat.own ++ length (seat.front ++ between) ∷ [] }
+  with_own seat between entry = record seat { front = (seat.front ++ between) ++ entry ∷ []; own = seat.own ++ length (seat.front ++ between) ∷ [] }
 
-  -- the seat's front has gone on by a line of its own
+  -- the seat's front has gone on by an entry of its own
   abbrev pub entered_by : SeatData O L → L → SeatData O L
-  entered_by seat line = record seat { front = seat.front ++ line ∷ []; own = seat.own ++ length seat.front ∷ [] }
+  entered_by seat entry = record seat { front = seat.front ++ entry ∷ []; own = seat.own ++ length seat.front ∷ [] }
 
   -- the seat has seen: its front has gone on by entries of others alone
   pub record HasSeen (by : L → ℕ) (old new : SeatData O L) : Type 0 where
@@ -55,19 +55,19 @@ module _ {O L : Type 0} where
     pub after : new ≡ later old between
 
   -- the seat has called: its front has gone on by entries of others, and then by its own new one
-  pub record HasCalled (by : L → ℕ) (line : L) (old new : SeatData O L) : Type 0 where
+  pub record HasCalled (by : L → ℕ) (entry : L) (old new : SeatData O L) : Type 0 where
     pub between : List L
     pub others : AreByOthers by old.thread between
-    pub mine : by line ≡ old.thread
-    pub after : new ≡ with_own old between line
+    pub mine : by entry ≡ old.thread
+    pub after : new ≡ with_own old between entry
 
   -- the first seat of a lock
   abbrev pub first_seat : LockId → O → List L → List ℕ → ℕ → SeatData O L
-  first_seat lock opening lines own thread = record {
+  first_seat lock opening entries own thread = record {
     lock = lock;
     opening = Some opening;
     thread = thread;
-    front = lines;
+    front = entries;
     own = own;
     joined = [];
     turn = false;
@@ -87,12 +87,12 @@ module _ {O L : Type 0} where
     pub own : seat.own ≡ places by seat.thread seat.front
     pub joined : All (IsKnown by seat.front) seat.joined
     pub apart : All (λ part. seat.thread ≢ part.thread) seat.joined
-    pub names : IfSome seat.names (λ names. All (λ line. Contains names (by line)) seat.front)
+    pub names : IfSome seat.names (λ names. All (λ entry. Contains names (by entry)) seat.front)
     pub named : IfSome seat.names (λ names. Contains names seat.thread)
 
   -- what a turn may leave: the list as the seat has seen it, or with one entry more, by the seat's thread
   abbrev pub IsNext : (L → ℕ) → SeatData O L → List L → Type 0
-  IsNext by seat lines = (lines ≡ seat.front) ⊎ ((line : L) × (lines ≡ seat.front ++ line ∷ []) × (by line ≡ seat.thread))
+  IsNext by seat entries = (entries ≡ seat.front) ⊎ ((entry : L) × (entries ≡ seat.front ++ entry ∷ []) × (by entry ≡ seat.thread))
 
   -- the seat with those names, or with none
   abbrev pub titled_seat : Option (List ℕ) → SeatData O L → SeatData O L
@@ -119,14 +119,14 @@ module _ {O L : Type 0} where
   abbrev pub joined_seat : SeatData O L → SeatData O L → SeatData O L
   joined_seat seat other = record seat { joined = seat.joined ++ part_of other ∷ other.joined; names = either_names seat.names other.names }
 
-  -- of a thread whose seat was joined to it, the seat knows that it made just these lines
+  -- of a thread whose seat was joined to it, the seat knows that it made just these entries
   pub record KnowsOf (by : L → ℕ) (thread : ℕ) (made : List L) (seat : SeatData O L) : Type 0 where
     pub part : Part L
     pub there : Contains seat.joined part
     pub is : part.thread ≡ thread
     pub made_so : made_by by thread part.front ≡ made
 
-  -- a seat of that lock and thread, without a turn, whose thread has made just these lines
+  -- a seat of that lock and thread, without a turn, whose thread has made just these entries
   pub record HasMade (by : L → ℕ) (lock : LockId) (thread : ℕ) (made : List L) (seat : SeatData O L) : Type 0 where
     pub of : seat.lock ≡ lock
     pub idle : seat.turn ≡ false

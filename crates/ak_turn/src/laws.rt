@@ -1,7 +1,7 @@
 //! What holds of all seats.
 
 ghost use Rattle.ak_turn.specs.Laws as law;
-ghost use Rattle.ak_turn.specs.Lines.{maker};
+ghost use Rattle.ak_turn.specs.Entries.{maker};
 
 use crate::book::Book;
 
@@ -9,18 +9,18 @@ use crate::book::Book;
 /// and then has called, it has called. What a thread made is what is known of it. A seat that knows its list
 /// has at the places of its own just what its thread made.
 pub fn fronts_go_on<B: Book>()
-    ensures seen { law.SeenThenSeen B.Opening B.Line (maker B.plain B.by) }
-    ensures called { law.SeenThenCalled B.Opening B.Line (maker B.plain B.by) }
-    ensures made { law.KnownIsMade B.Line (maker B.plain B.by) }
-    ensures own { law.OwnIsMade B.Opening B.Line (maker B.plain B.by) }
+    ensures seen { law.SeenThenSeen B.Opening B.Entry (maker B.plain B.by) }
+    ensures called { law.SeenThenCalled B.Opening B.Entry (maker B.plain B.by) }
+    ensures made { law.KnownIsMade B.Entry (maker B.plain B.by) }
+    ensures own { law.OwnIsMade B.Opening B.Entry (maker B.plain B.by) }
 {}
 
 /// The first seat of a lock knows its list. Where a head that knows its list is split for a new thread, so does
 /// each of the two seats.
 pub fn new_seats_know<B: Book>()
-    ensures first { law.FirstSeatsKnow B.Opening B.Line (maker B.plain B.by) }
-    ensures split { law.SplitSeatsKnow B.Opening B.Line (maker B.plain B.by) }
-    ensures split_head { law.SplitHeadsKnow B.Opening B.Line (maker B.plain B.by) }
+    ensures first { law.FirstSeatsKnow B.Opening B.Entry (maker B.plain B.by) }
+    ensures split { law.SplitSeatsKnow B.Opening B.Entry (maker B.plain B.by) }
+    ensures split_head { law.SplitHeadsKnow B.Opening B.Entry (maker B.plain B.by) }
 {}
 
 /// What a thread makes from one of its seats to a later one. It makes nothing where the seat has seen, and one entry
@@ -28,10 +28,10 @@ pub fn new_seats_know<B: Book>()
 /// thread goes on by what it makes, and so does what it has made. A thread whose seat began with nothing of its own had
 /// made nothing before.
 pub fn makings_go_on<B: Book>()
-    ensures seen { law.SeenMakesNothing B.Opening B.Line (maker B.plain B.by) }
-    ensures called { law.CalledMakesOne B.Opening B.Line (maker B.plain B.by) }
-    ensures both { law.MakesThenMakes B.Opening B.Line (maker B.plain B.by) }
-    ensures made { law.MadeGoesOn B.Opening B.Line (maker B.plain B.by) }
-    ensures more { law.MakesMore B.Opening B.Line (maker B.plain B.by) }
-    ensures before { law.NothingBefore B.Opening B.Line (maker B.plain B.by) }
+    ensures seen { law.SeenMakesNothing B.Opening B.Entry (maker B.plain B.by) }
+    ensures called { law.CalledMakesOne B.Opening B.Entry (maker B.plain B.by) }
+    ensures both { law.MakesThenMakes B.Opening B.Entry (maker B.plain B.by) }
+    ensures made { law.MadeGoesOn B.Opening B.Entry (maker B.plain B.by) }
+    ensures more { law.MakesMore B.Opening B.Entry (maker B.plain B.by) }
+    ensures before { law.NothingBefore B.Opening B.Entry (maker B.plain B.by) }
 {}

@@ -1,6 +1,6 @@
 ghost use Rattle.std.specs.Prelude.{◌≡◌, ◌≢◌, ◌<◌, ◌^◌, All, None, Some, IfOk, false};
 ghost use Rattle.std.specs.Arc.{arc_value};
-ghost use Rattle.ak_turn.specs.Lines.{last_stamp_of, maker, places};
+ghost use Rattle.ak_turn.specs.Entries.{last_stamp_of, maker, places};
 ghost use Rattle.ak_turn.specs.Seats.{IsGiven, KnowsWhole, first_seat, new_seat, titled_seat, joined_seat};
 ghost use Rattle.ak_turn.specs.Steps.{IsNewName, names_with};
 
@@ -58,8 +58,8 @@ impl<B: Book> TurnLock<B> {
         thread: ThreadId,
     ) -> Result<(Arc<TurnLock<B>>, Seat<B>), NoMemory>
         requires rest { B.at_rest book }
-        requires own { All (λ line. B.by (B.plain line) ≡ thread.0) (B.lines book) }
-        ensures { IfOk result (λ made. made.1 ≡ first_seat (arc_value made.0) (B.opening book) (B.lines book) (places (maker B.plain B.by) thread.0 (B.lines book)) thread.0) }
+        requires own { All (λ entry. B.by (B.plain entry) ≡ thread.0) (B.entries book) }
+        ensures { IfOk result (λ made. made.1 ≡ first_seat (arc_value made.0) (B.opening book) (B.entries book) (places (maker B.plain B.by) thread.0 (B.entries book)) thread.0) }
     {
         let start = Start {
             book: Snapshot::of(&book),
@@ -97,8 +97,8 @@ impl<B: Book> TurnLock<B> {
         ensures opening { seat.old.opening ≡ Some (B.opening result.book) }
         ensures seen { IsGiven (maker B.plain B.by) seat.old seat.new }
         ensures known { KnowsWhole (maker B.plain B.by) seat.new }
-        ensures list { B.lines result.book ≡ seat.new.front }
-        ensures stamp { last_stamp_of (λ line. B.stamp (B.plain line)) (B.lines result.book) < 2 ^ 63 }
+        ensures list { B.entries result.book ≡ seat.new.front }
+        ensures stamp { last_stamp_of (λ entry. B.stamp (B.plain entry)) (B.entries result.book) < 2 ^ 63 }
     {
         let common = &self.board.shared;
         rest_before_ticket(rt, common, &self.sleepers);

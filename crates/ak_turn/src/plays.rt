@@ -22,36 +22,36 @@ pub struct TurnRule<B> {
     book: PhantomData<B>,
 }
 
-pub(crate) type Place<B> = Seat<Option<B>, View<<B as Book>::Opening, <B as Book>::Line>>;
+pub(crate) type Place<B> = Seat<Option<B>, View<<B as Book>::Opening, <B as Book>::Entry>>;
 
 pub(crate) type Common<B> = Shared<
     Option<B>,
-    View<<B as Book>::Opening, <B as Book>::Line>,
+    View<<B as Book>::Opening, <B as Book>::Entry>,
     Start<B>,
     TurnRule<B>,
 >;
 
 pub(crate) type Board<B> = Table<
     Option<B>,
-    View<<B as Book>::Opening, <B as Book>::Line>,
+    View<<B as Book>::Opening, <B as Book>::Entry>,
     Start<B>,
     TurnRule<B>,
     Global,
 >;
 
-impl<B: Book> TableRule<Option<B>, View<B::Opening, B::Line>, Start<B>> for TurnRule<B> {
-    ghost use Rattle.ak_turn.specs.Lines.{maker};
+impl<B: Book> TableRule<Option<B>, View<B::Opening, B::Entry>, Start<B>> for TurnRule<B> {
+    ghost use Rattle.ak_turn.specs.Entries.{maker};
     ghost use Rattle.ak_turn.specs.Rule.{Kept};
     ghost use Rattle.ak_turn.specs.Steps.{first_view};
 
-    ghost holds = { λ _. Kept B.opening B.lines B.at_rest (maker B.plain B.by) };
+    ghost holds = { λ _. Kept B.opening B.entries B.at_rest (maker B.plain B.by) };
 
-    ghost first = { λ start. first_view (maker B.plain B.by) (B.opening start.book.value) (B.lines start.book.value) start.thread };
+    ghost first = { λ start. first_view (maker B.plain B.by) (B.opening start.book.value) (B.entries start.book.value) start.thread };
 }
 
 pub(crate) struct Draw;
 
-impl<B: Book> Play<Option<B>, View<B::Opening, B::Line>> for Draw {
+impl<B: Book> Play<Option<B>, View<B::Opening, B::Entry>> for Draw {
     ghost use Rattle.ak_turn.specs.Steps.{drew};
 
     ghost then = { drew };
@@ -61,27 +61,27 @@ pub(crate) struct Look<B> {
     book: PhantomData<B>,
 }
 
-impl<B: Book> Play<Option<B>, View<B::Opening, B::Line>> for Look<B> {
-    ghost use Rattle.ak_turn.specs.Lines.{maker};
+impl<B: Book> Play<Option<B>, View<B::Opening, B::Entry>> for Look<B> {
+    ghost use Rattle.ak_turn.specs.Entries.{maker};
     ghost use Rattle.ak_turn.specs.Steps.{looked};
 
-    ghost then = { looked B.opening B.lines B.at_rest (maker B.plain B.by) };
+    ghost then = { looked B.opening B.entries B.at_rest (maker B.plain B.by) };
 }
 
 pub(crate) struct Add<B> {
     book: PhantomData<B>,
 }
 
-impl<B: Book> Play<Option<B>, View<B::Opening, B::Line>> for Add<B> {
-    ghost use Rattle.ak_turn.specs.Lines.{maker};
+impl<B: Book> Play<Option<B>, View<B::Opening, B::Entry>> for Add<B> {
+    ghost use Rattle.ak_turn.specs.Entries.{maker};
     ghost use Rattle.ak_turn.specs.Steps.{added};
 
-    ghost then = { added B.opening B.lines B.at_rest (maker B.plain B.by) };
+    ghost then = { added B.opening B.entries B.at_rest (maker B.plain B.by) };
 }
 
 pub(crate) struct Pass;
 
-impl<B: Book> Play<Option<B>, View<B::Opening, B::Line>> for Pass {
+impl<B: Book> Play<Option<B>, View<B::Opening, B::Entry>> for Pass {
     ghost use Rattle.ak_turn.specs.Steps.{passed};
 
     ghost then = { passed };

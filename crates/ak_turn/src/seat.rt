@@ -18,7 +18,7 @@ impl<B: Book> Model for Seat<B> {
     ghost use Rattle.ak_turn.specs.Seats.{SeatData};
     ghost use Rattle.ak_turn.specs.Seen.{seat_seen, Carries};
 
-    ghost Value = { SeatData B.Opening B.Line };
+    ghost Value = { SeatData B.Opening B.Entry };
 
     ghost view = { λ s. seat_seen s.place.table_id s.place.me.0 };
 

@@ -1,6 +1,6 @@
 //! The steps on the table under a lock, as calls with contracts. Only `await_turn` waits.
 ghost use Rattle.std.specs.Prelude.{◌≡◌, ℕ, ◌%◌, ◌^◌, [], ◌∷◌, Some, None, true, false};
-ghost use Rattle.ak_turn.specs.Lines.{maker};
+ghost use Rattle.ak_turn.specs.Entries.{maker};
 ghost use Rattle.ak_turn.specs.Steps.{IsWide, IsNewName, staged, entered, titled, newcomer, names_with, joined_view, TakesTurn, HoldsBook, IsSame, IsMore, IsNoted};
 ghost use Rattle.ak_turn.specs.declared.view.Stage.TheVariants.{Idle, Waits};
 
@@ -44,7 +44,7 @@ pub(crate) fn await_turn<B: Book, R: Wait>(
     requires waits { (ticket : ℕ) × (mine ≡ ticket % 2 ^ 64) × (place.old.me.0.stage ≡ Waits ticket) }
     requires empty { place.old.me.1 ≡ [] }
     ensures of { place.new.table_id ≡ place.old.table_id }
-    ensures takes { (ticket : ℕ) × TakesTurn B.opening B.lines B.at_rest (maker B.plain B.by) ticket place.old.me place.new.me }
+    ensures takes { (ticket : ℕ) × TakesTurn B.opening B.entries B.at_rest (maker B.plain B.by) ticket place.old.me place.new.me }
 {
     let mut tries = 0u32;
     for _ in rt.forever() {
@@ -86,10 +86,10 @@ pub(crate) fn put_back<B: Book>(common: &Common<B>, place: &mut Place<B>, book: 
 fn count_entry<B: Book>(common: &Common<B>, place: &mut Place<B>, book: &Snapshot<B>)
     requires wide { IsWide common.now.table_id }
     requires of { place.old.table_id ≡ common.now.table_id }
-    requires holds { HoldsBook B.lines book.now.value place.old.me }
-    requires more { IsMore B.lines book.now.value (maker B.plain B.by) place.old.me }
+    requires holds { HoldsBook B.entries book.now.value place.old.me }
+    requires more { IsMore B.entries book.now.value (maker B.plain B.by) place.old.me }
     ensures of { place.new.table_id ≡ place.old.table_id }
-    ensures after { place.new.me ≡ (entered (B.lines book.now.value) place.old.me.0, place.old.me.1) }
+    ensures after { place.new.me ≡ (entered (B.entries book.now.value) place.old.me.0, place.old.me.1) }
 {
     let _ = book;
     common.fetch_add::<Add<B>>(place, COUNT, 1);
@@ -104,11 +104,11 @@ pub(crate) fn note_entry<B: Book>(
 )
     requires wide { IsWide common.now.table_id }
     requires of { place.old.table_id ≡ common.now.table_id }
-    requires holds { HoldsBook B.lines book.now.value place.old.me }
-    requires same { is_longer ≡ false → IsSame B.lines book.now.value place.old.me }
-    requires more { is_longer ≡ true → IsMore B.lines book.now.value (maker B.plain B.by) place.old.me }
+    requires holds { HoldsBook B.entries book.now.value place.old.me }
+    requires same { is_longer ≡ false → IsSame B.entries book.now.value place.old.me }
+    requires more { is_longer ≡ true → IsMore B.entries book.now.value (maker B.plain B.by) place.old.me }
     ensures of { place.new.table_id ≡ place.old.table_id }
-    ensures noted { IsNoted B.lines book.now.value (maker B.plain B.by) place.old.me place.new.me }
+    ensures noted { IsNoted B.entries book.now.value (maker B.plain B.by) place.old.me place.new.me }
 {
     if is_longer {
         count_entry(common, place, book);
@@ -119,8 +119,8 @@ pub(crate) fn note_entry<B: Book>(
 pub(crate) fn pass_on<B: Book>(common: &Common<B>, place: &mut Place<B>, book: &Snapshot<B>) -> u64
     requires wide { IsWide common.now.table_id }
     requires of { place.old.table_id ≡ common.now.table_id }
-    requires holds { HoldsBook B.lines book.now.value place.old.me }
-    requires same { IsSame B.lines book.now.value place.old.me }
+    requires holds { HoldsBook B.entries book.now.value place.old.me }
+    requires same { IsSame B.entries book.now.value place.old.me }
     requires rest { B.at_rest book.now.value }
     requires opening { place.old.me.0.opening ≡ Some (B.opening book.now.value) }
     ensures of { place.new.table_id ≡ place.old.table_id }

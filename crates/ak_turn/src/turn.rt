@@ -1,6 +1,6 @@
 ghost use Rattle.std.specs.Prelude.{◌≡◌, ◌++◌, ◌∷◌, [], Some, true};
 ghost use Rattle.std.specs.Borrow.{sem};
-ghost use Rattle.ak_turn.specs.Lines.{maker};
+ghost use Rattle.ak_turn.specs.Entries.{maker};
 ghost use Rattle.ak_turn.specs.Seats.{at_leisure, entered_by, IsNext, KnowsWhole};
 
 use crate::book::Book;
@@ -31,7 +31,7 @@ impl<'a, B: Book> Turn<'a, B> {
 
     /// The object's book, to read it and to make an entry. Takes no memory.
     pub fn book(&mut self) -> &mut B
-        ensures* writes_back { sem 𝓛 (lends_book B.row B.Entry.row B.Opening.row B.Line.row B.Book self.entry result) }
+        ensures* writes_back { sem 𝓛 (lends_book B.row B.Plain.row B.Opening.row B.Entry.row B.Book self.entry result) }
         ensures value { result.now ≡ self.old.book }
     {
         &mut self.book
@@ -46,9 +46,9 @@ impl<'a, B: Book> Turn<'a, B> {
         requires turn { seat.old.turn ≡ true }
         requires rest { B.at_rest self.book }
         requires opening { seat.old.opening ≡ Some (B.opening self.book) }
-        requires list { IsNext (maker B.plain B.by) seat.old (B.lines self.book) }
-        ensures same { B.lines self.entry.book ≡ seat.old.front → seat.new ≡ at_leisure seat.old }
-        ensures entered { (line : B.Line) → B.lines self.entry.book ≡ seat.old.front ++ line ∷ [] → seat.new ≡ at_leisure (entered_by seat.old line) }
+        requires list { IsNext (maker B.plain B.by) seat.old (B.entries self.book) }
+        ensures same { B.entries self.entry.book ≡ seat.old.front → seat.new ≡ at_leisure seat.old }
+        ensures entered { (added : B.Entry) → B.entries self.entry.book ≡ seat.old.front ++ added ∷ [] → seat.new ≡ at_leisure (entered_by seat.old added) }
         ensures known { KnowsWhole (maker B.plain B.by) seat.old → KnowsWhole (maker B.plain B.by) seat.new }
     {
         let Turn { lock, book } = self;

@@ -13,13 +13,13 @@ pub enum Stage {
     Spent,
 }
 
-/// A thread, the front that it has seen, and the places of its own lines in it.
+/// A thread, the front that it has seen, and the places of its own entries in it.
 pub struct Part<L> {
     /// The number of the thread.
     pub thread: u64,
     /// The beginning of the history that it has seen, oldest first.
     pub front: LinkedList<L>,
-    /// The places there of its own lines, counted from 0.
+    /// The places there of its own entries, counted from 0.
     pub own: LinkedList<u64>,
 }
 

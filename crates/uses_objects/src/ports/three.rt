@@ -1,6 +1,6 @@
 //! Two threads that write to a port while a third takes.
 ghost use Rattle.std.specs.Prelude.{◌≡◌, ◌+◌, ◌≤◌, ◌<◌, ◌^◌, ◌++◌, ℕ, List, false, [], Some, IfOk};
-ghost use Rattle.ak_turn.specs.Lines.{made_by};
+ghost use Rattle.ak_turn.specs.Entries.{made_by};
 ghost use Rattle.ak_turn.specs.Seats.{titled_seat};
 ghost use Rattle.ak_turn.specs.Steps.{IsNewName, names_with};
 ghost use Rattle.ak_port.specs.PortCalls.{by_number};

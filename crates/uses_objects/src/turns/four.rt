@@ -1,6 +1,6 @@
 //! Four threads that add to one tally.
 ghost use Rattle.std.specs.Prelude.{◌≡◌, ℕ, List, false, [], IfOk, vec_len};
-ghost use Rattle.ak_turn.specs.Lines.{made_by};
+ghost use Rattle.ak_turn.specs.Entries.{made_by};
 ghost use Rattle.uses_objects.specs.declared.turns.tally.Count.{Count};
 ghost use Rattle.ak_turn.specs.Seats.{HasMade, KnowsOf, titled_seat};
 ghost use Rattle.ak_turn.specs.Steps.{IsNewName, names_with};

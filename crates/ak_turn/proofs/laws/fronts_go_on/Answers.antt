@@ -1,4 +1,4 @@
-use Rattle.ak_turn.specs.Lines.{maker}
+use Rattle.ak_turn.specs.Entries.{maker}
 use Rattle.ak_turn.proofs.Calls.{seen_then_seen, seen_then_called, known_is_made}
 use Rattle.ak_turn.proofs.NewSeats.{own_is_made}
 use Rattle.ak_turn.proofs.laws.fronts_go_on.Goals as goal

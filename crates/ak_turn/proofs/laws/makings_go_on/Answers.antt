@@ -1,4 +1,4 @@
-use Rattle.ak_turn.specs.Lines.{maker}
+use Rattle.ak_turn.specs.Entries.{maker}
 use Rattle.ak_turn.proofs.Making.{seen_makes, called_makes, makes_then_makes, made_goes_on, makes_more, nothing_before}
 use Rattle.ak_turn.proofs.laws.makings_go_on.Goals as goal
 

@@ -1,4 +1,4 @@
-use Rattle.ak_turn.specs.Lines.{maker}
+use Rattle.ak_turn.specs.Entries.{maker}
 use Rattle.ak_turn.proofs.NewSeats.{first_knows, split_knows, split_head_knows}
 use Rattle.ak_turn.proofs.laws.new_seats_know.Goals as goal
 

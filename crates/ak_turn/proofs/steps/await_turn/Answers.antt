@@ -1,5 +1,5 @@
 use Rattle.std.proofs.Common.{arith, ap, sym, subst, ◌∙◌}
-use Rattle.ak_turn.specs.Lines.{maker}
+use Rattle.ak_turn.specs.Entries.{maker}
 use Rattle.ak_turn.specs.Steps.{TakesTurn}
 use Rattle.ak_turn.proofs.Looking.{looks}
 use Rattle.ak_turn.proofs.steps.await_turn.Goals as goal
@@ -16,7 +16,7 @@ returns-then-serving-mine-clause-takes g c =
     let waits = c.requires.waits in
     let told = c.load-serving.ensures.2 waits.0 (ap (λ m. m.0.stage) c.loop.invariant.me ∙ waits.2) in (
       waits.0,
-      subst (λ m. TakesTurn g.B.Book.opening g.B.Book.lines g.B.Book.at_rest (maker g.B.Book.plain g.B.Book.by) waits.0 m c.load-serving.new.seat.me) c.loop.invariant.me (told.0 (c.if-serving-mine.true ∙ waits.1)),
+      subst (λ m. TakesTurn g.B.Book.opening g.B.Book.entries g.B.Book.at_rest (maker g.B.Book.plain g.B.Book.by) waits.0 m c.load-serving.new.seat.me) c.loop.invariant.me (told.0 (c.if-serving-mine.true ∙ waits.1)),
     )
 
 pub loop-preserved : goal.loop-preserved

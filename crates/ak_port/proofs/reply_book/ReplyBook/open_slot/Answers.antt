@@ -1,6 +1,6 @@
 use Rattle.std.proofs.Common.{◌≡◌, ℕ, ◌+◌, max, List, [], ◌∷◌, ◌++◌, length, refl, ap, ◌∙◌, arith, sym, subst}
 use Rattle.ak_turn.specs.declared.clock.Clock.{Clock}
-use Rattle.ak_turn.specs.Lines.{last_stamp_of}
+use Rattle.ak_turn.specs.Entries.{last_stamp_of}
 use Rattle.ak_port.specs.declared.reply_kept.Kept.{Kept}
 use Rattle.ak_port.specs.declared.reply_kept.KeptEvent.TheVariants as kept
 use Rattle.ak_port.specs.declared.reply_slot.Progress.TheVariants as progress

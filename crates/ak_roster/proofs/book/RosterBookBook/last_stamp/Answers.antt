@@ -1,6 +1,6 @@
 -- The last line has the stamp of the last entry.
 use Rattle.std.proofs.Common.{map, ◌++◌, ap, ◌∙◌}
-use Rattle.ak_turn.specs.Lines.{last_stamp_of}
+use Rattle.ak_turn.specs.Entries.{last_stamp_of}
 use Rattle.ak_roster.specs.Roster.{last_stamp}
 use Rattle.ak_roster.proofs.Lines.{last_stamp-lines_of}
 use Rattle.ak_roster.proofs.book.RosterBookBook.last_stamp.Goals as goal

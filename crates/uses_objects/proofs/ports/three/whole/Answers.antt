@@ -1,5 +1,5 @@
 use Rattle.std.proofs.Common.{ap, ◌∙◌}
-use Rattle.ak_turn.specs.Lines.{made_by}
+use Rattle.ak_turn.specs.Entries.{made_by}
 use Rattle.ak_port.specs.PortCalls.{by_number}
 use Rattle.ak_port.specs.PortWriters.{teams_in}
 use Rattle.ak_port.proofs.PortTaken.{told_at_end}
