@@ -8,15 +8,15 @@ use ak_turn::Book;
 impl Book for Desk {
     ghost use Rattle.std.specs.Prelude.{◌≡◌, None};
 
-    type Entry = DeskEntry;
+    type Plain = DeskEntry;
 
     type Opening = DeskState;
 
-    type Line = DeskLine;
+    type Entry = DeskLine;
 
     ghost opening = { λ d. d.opening };
 
-    ghost lines = { λ d. d.lines };
+    ghost entries = { λ d. d.lines };
 
     ghost plain = { λ line. line.entry };
 

@@ -26,7 +26,7 @@ use Rattle.ak_port.proofs.PortSound.{refused_stays}
 -- ---- a turn
 -- what the book's entry and the end of the turn come to
 pub ends_turn : (e : Option PortEvent) (k l : Clock) (p p' : PortData) (b c : PortSeat) → HasAdded e k l p p' → p.entries ≡ b.front → (p'.entries ≡ b.front → c ≡ at_leisure b)
-    → ((line : PortEntry) → p'.entries ≡ b.front ++ line ∷ [] → c ≡ at_leisure (entered_by b line)) → HasAnsweredAtTurn e k l b c
+    → ((entry : PortEntry) → p'.entries ≡ b.front ++ entry ∷ [] → c ≡ at_leisure (entered_by b entry)) → HasAnsweredAtTurn e k l b c
 ends_turn None k l p p' b c added list same entered = (same (ap (λ (q : PortData). q.entries) added.0 ∙ list), added.1)
 ends_turn (Some event) k l p p' b c added list same entered = (
   entered (entry_now k b.front event) (ap (λ (q : PortData). q.entries) added.0 ∙ ap (λ xs. xs ++ entry_now k xs event ∷ []) list),
@@ -186,5 +186,5 @@ pub knows_made : (seat : PortSeat) (lock : LockId) (taker : ThreadId) (book : Po
 knows_made seat lock taker book clock capacity life is after =
     subst (λ (s : PortSeat). KnowsWhole by_number s) (sym after)
     (first_knows by_number lock book.taker book.entries clock.thread.0
-    (subst (λ (p : PortData). All (λ (line : PortEntry). by_number line ≡ clock.thread.0) p.entries) (sym is)
-    (All-cons (λ (line : PortEntry). by_number line ≡ clock.thread.0) (making clock capacity life) [] refl (All-nil (λ (line : PortEntry). by_number line ≡ clock.thread.0)))))
+    (subst (λ (p : PortData). All (λ (entry : PortEntry). by_number entry ≡ clock.thread.0) p.entries) (sym is)
+    (All-cons (λ (entry : PortEntry). by_number entry ≡ clock.thread.0) (making clock capacity life) [] refl (All-nil (λ (entry : PortEntry). by_number entry ≡ clock.thread.0)))))

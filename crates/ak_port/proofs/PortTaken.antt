@@ -49,8 +49,8 @@ count_step taker by s event.Shut other allowed = refl
 others_by : (taker : ℕ) (s : PortState) (xs : List PortEntry) → AreByOthers by_number taker xs → IsReached s → AreSteps taker s xs → taken_items (replayed s xs) ≡ taken_items s
 others_by taker s [] others reached steps = refl
 others_by taker s (x ∷ xs) others reached steps =
-    others_by taker (state_after s x.event) xs (All-tail (λ line. by_number line ≢ taker) x xs others) (reached_step taker s x reached steps.0) steps.1
-    ∙ others_step taker x.by.0 s x.event (All-head (λ line. by_number line ≢ taker) x xs others) reached steps.0.allowed
+    others_by taker (state_after s x.event) xs (All-tail (λ entry. by_number entry ≢ taker) x xs others) (reached_step taker s x reached steps.0) steps.1
+    ∙ others_step taker x.by.0 s x.event (All-head (λ entry. by_number entry ≢ taker) x xs others) reached steps.0.allowed
 
 pub taken_stays : (taker : ℕ) (xs ys : List PortEntry) → AreByOthers by_number taker ys → IsPort taker (xs ++ ys) → taken_items (state_of (xs ++ ys)) ≡ taken_items (state_of xs)
 taken_stays taker xs ys others port =
@@ -60,8 +60,8 @@ taken_stays taker xs ys others port =
 others_count : (taker : ℕ) (s : PortState) (xs : List PortEntry) → AreByOthers by_number taker xs → AreSteps taker s xs → (replayed s xs).taken ≡ s.taken
 others_count taker s [] others steps = refl
 others_count taker s (x ∷ xs) others steps =
-    others_count taker (state_after s x.event) xs (All-tail (λ line. by_number line ≢ taker) x xs others) steps.1
-    ∙ count_step taker x.by.0 s x.event (All-head (λ line. by_number line ≢ taker) x xs others) steps.0.allowed
+    others_count taker (state_after s x.event) xs (All-tail (λ entry. by_number entry ≢ taker) x xs others) steps.1
+    ∙ count_step taker x.by.0 s x.event (All-head (λ entry. by_number entry ≢ taker) x xs others) steps.0.allowed
 
 -- a take adds what it hands out
 took_step : (taker by : ℕ) (s : PortState) (answer : TakeAnswer) → IsReached s → IsAllowed taker by s (take_event answer) → taken_items (state_after s (take_event answer)) ≡ taken_items s ++ last_taken (take_count answer) (state_after s (take_event answer))

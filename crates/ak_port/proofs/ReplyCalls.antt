@@ -98,27 +98,27 @@ cancels_still thread n front between may others legal =
     record { stage = held.0; slot = record { there = held.1 }; uncancelled = uncancelled_grown may.stage held.0 held.2 may.uncancelled }
 
 -- ---- at a turn
-module _ (old given : ReplySeat) (lines : List ReplyEntry) (seen : IsGiven maker_of old given) (list : lines ≡ given.front) where
-  lines_are : lines ≡ old.front ++ seen.between
-  lines_are = list ∙ ap (λ (s : ReplySeat). s.front) seen.after
+module _ (old given : ReplySeat) (entries : List ReplyEntry) (seen : IsGiven maker_of old given) (list : entries ≡ given.front) where
+  entries_are : entries ≡ old.front ++ seen.between
+  entries_are = list ∙ ap (λ (s : ReplySeat). s.front) seen.after
 
-  pub takes_at_turn : (thread n : ℕ) → old.thread ≡ thread → MayTake old.thread n old.front → IsLegal lines → MayTake thread n lines
+  pub takes_at_turn : (thread n : ℕ) → old.thread ≡ thread → MayTake old.thread n old.front → IsLegal entries → MayTake thread n entries
   takes_at_turn thread n same may legal =
-      subst (λ (t : ℕ). MayTake t n lines) same (subst (λ (all : List ReplyEntry). MayTake old.thread n all) (sym lines_are) (takes_still old.thread n old.front seen.between may seen.others (subst IsLegal lines_are legal)))
+      subst (λ (t : ℕ). MayTake t n entries) same (subst (λ (all : List ReplyEntry). MayTake old.thread n all) (sym entries_are) (takes_still old.thread n old.front seen.between may seen.others (subst IsLegal entries_are legal)))
 
-  pub cancels_at_turn : (thread n : ℕ) → old.thread ≡ thread → MayCancel old.thread n old.front → IsLegal lines → MayCancel thread n lines
+  pub cancels_at_turn : (thread n : ℕ) → old.thread ≡ thread → MayCancel old.thread n old.front → IsLegal entries → MayCancel thread n entries
   cancels_at_turn thread n same may legal =
-      subst (λ (t : ℕ). MayCancel t n lines) same (subst (λ (all : List ReplyEntry). MayCancel old.thread n all) (sym lines_are) (cancels_still old.thread n old.front seen.between may seen.others (subst IsLegal lines_are legal)))
+      subst (λ (t : ℕ). MayCancel t n entries) same (subst (λ (all : List ReplyEntry). MayCancel old.thread n all) (sym entries_are) (cancels_still old.thread n old.front seen.between may seen.others (subst IsLegal entries_are legal)))
 
-  module _ (clock clock' : Clock) (lines' : List ReplyEntry) (new : ReplySeat) (idle : old.turn ≡ false) (thread : old.thread ≡ clock.thread.0)
-      (finish : (line : ReplyEntry) → lines' ≡ given.front ++ line ∷ [] → new ≡ at_leisure (entered_by given line)) (legal : IsLegal lines') where
+  module _ (clock clock' : Clock) (entries' : List ReplyEntry) (new : ReplySeat) (idle : old.turn ≡ false) (thread : old.thread ≡ clock.thread.0)
+      (finish : (entry : ReplyEntry) → entries' ≡ given.front ++ entry ∷ [] → new ≡ at_leisure (entered_by given entry)) (legal : IsLegal entries') where
     -- the book has one entry more, and the turn was ended
-    pub entered : (event : ReplyEvent) → lines' ≡ lines ++ entry_at clock' event ∷ [] → clock' ≡ clock_after clock lines → HasEnteredBook clock clock' event old new
+    pub entered : (event : ReplyEvent) → entries' ≡ entries ++ entry_at clock' event ∷ [] → clock' ≡ clock_after clock entries → HasEnteredBook clock clock' event old new
     entered event more clocked =
         let before : List ReplyEntry = old.front ++ seen.between in
         let x : ReplyEntry = entry_now clock before event in
-        let is : entry_at clock' event ≡ x = ap (λ (k : Clock). entry_at k event) (clocked ∙ ap (clock_after clock) lines_are) in
-        let grown : lines' ≡ lines ++ x ∷ [] = more ∙ ap (λ (e : ReplyEntry). lines ++ e ∷ []) is in
+        let is : entry_at clock' event ≡ x = ap (λ (k : Clock). entry_at k event) (clocked ∙ ap (clock_after clock) entries_are) in
+        let grown : entries' ≡ entries ++ x ∷ [] = more ∙ ap (λ (e : ReplyEntry). entries ++ e ∷ []) is in
         let after = finish x (grown ∙ ap (λ (all : List ReplyEntry). all ++ x ∷ []) list) in
         let at : ReplySeat → ReplySeat = λ s. at_leisure (entered_by s x) in
         let turned : ReplySeat → Bool → ReplySeat = λ s b. record s { turn = b } in
@@ -129,16 +129,16 @@ module _ (old given : ReplySeat) (lines : List ReplyEntry) (seen : IsGiven maker
             before = before;
             front = front;
             called = record { between = seen.between; others = seen.others; mine = sym thread; after = called };
-            clocked = clocked ∙ ap (clock_after clock) lines_are;
+            clocked = clocked ∙ ap (clock_after clock) entries_are;
           };
-          legal = subst IsLegal (grown ∙ ap (λ (all : List ReplyEntry). all ++ x ∷ []) lines_are ∙ sym front) legal;
+          legal = subst IsLegal (grown ∙ ap (λ (all : List ReplyEntry). all ++ x ∷ []) entries_are ∙ sym front) legal;
         }
 
-    pub opened : (r : Result ℕ NoMemory) → IfOk r (λ n. lines' ≡ lines ++ entry_at clock' (Opened n) ∷ []) → OnOk r (clock' ≡ clock_after clock lines) → IfOk r (λ n. HasEnteredBook clock clock' (Opened n) old new)
+    pub opened : (r : Result ℕ NoMemory) → IfOk r (λ n. entries' ≡ entries ++ entry_at clock' (Opened n) ∷ []) → OnOk r (clock' ≡ clock_after clock entries) → IfOk r (λ n. HasEnteredBook clock clock' (Opened n) old new)
     opened (Ok n) more clocked = entered (Opened n) more clocked
     opened (Err e) more clocked = tt
 
-    pub taken : (n : ℕ) (r : Option (List ℕ)) → (IsSome r → lines' ≡ lines ++ entry_at clock' (Taken n) ∷ []) → (IsSome r → clock' ≡ clock_after clock lines) → IfSome r (λ _. HasEnteredBook clock clock' (Taken n) old new)
+    pub taken : (n : ℕ) (r : Option (List ℕ)) → (IsSome r → entries' ≡ entries ++ entry_at clock' (Taken n) ∷ []) → (IsSome r → clock' ≡ clock_after clock entries) → IfSome r (λ _. HasEnteredBook clock clock' (Taken n) old new)
     taken n (Some flat) more clocked = entered (Taken n) (more refl) (clocked refl)
     taken n None more clocked = tt
 
@@ -166,7 +166,7 @@ module _ (old given : ReplySeat) (lines : List ReplyEntry) (seen : IsGiven maker
     opened_cancels (Err e) call = tt
 
     -- where nothing was filled, the thread may take its slot as before
-    pub waits_still : (n : ℕ) (r : Option (List ℕ)) → IfNone r (lines' ≡ lines) → (lines' ≡ given.front → new ≡ at_leisure given) → MayTake old.thread n old.front → IfNone r (MayTake new.thread n new.front)
+    pub waits_still : (n : ℕ) (r : Option (List ℕ)) → IfNone r (entries' ≡ entries) → (entries' ≡ given.front → new ≡ at_leisure given) → MayTake old.thread n old.front → IfNone r (MayTake new.thread n new.front)
     waits_still n (Some flat) waits same may = tt
     waits_still n None waits same may =
         let after : new ≡ at_leisure given = same (waits ∙ list) in

@@ -235,6 +235,6 @@ pub filled-seen
     → entries_seen store entries ≡ now → by ≡ by' → text ≡ flat → entries_seen store' entries' ≡ now ++ (record { stamp = stamp; by = by'; event = event.Filled n flat }) ∷ []
 filled-seen store store' text entries entries' slots waiting filled stamp by by' n now flat told grown more view same said =
     let k : Kept = record { stamp = stamp; by = by; event = kept.Filled n (record { from = length store; len = length text }) } in
-    let line : ThreadId → List ℕ → ReplyEntry = λ b t. record { stamp = stamp; by = b; event = event.Filled n t } in
+    let entry : ThreadId → List ℕ → ReplyEntry = λ b t. record { stamp = stamp; by = b; event = event.Filled n t } in
     (λ i. entries_seen (grown i) (more i)) ∙ entries-push (store ++ text) entries k
-    ∙ (λ i. (entries-grown store text entries told.ranges ∙ view) i ++ line (same i) ((text-here store text ∙ said) i) ∷ [])
+    ∙ (λ i. (entries-grown store text entries told.ranges ∙ view) i ++ entry (same i) ((text-here store text ∙ said) i) ∷ [])

@@ -9,30 +9,30 @@ pub next_is_past : (time last : ℕ) → last < 1 + max time last
 next_is_past time last = omega arith
 
 module _ {L : Type 0} (stamp : L → ℕ) where
-  -- the stamp of the last line, or that number where there is none
+  -- the stamp of the last entry, or that number where there is none
   abbrev last_from : ℕ → List L → ℕ
   last_from last [] = last
-  last_from last (line ∷ lines) = last_from (stamp line) lines
+  last_from last (entry ∷ entries) = last_from (stamp entry) entries
 
-  rise_from : (last : ℕ) (lines : List L) (line : L) → Rise stamp last lines → last_from last lines < stamp line → Rise stamp last (lines ++ line ∷ [])
-  rise_from last [] line rise above = (above, tt)
-  rise_from last (x ∷ xs) line rise above = (rise.0, rise_from (stamp x) xs line rise.1 above)
+  rise_from : (last : ℕ) (entries : List L) (entry : L) → Rise stamp last entries → last_from last entries < stamp entry → Rise stamp last (entries ++ entry ∷ [])
+  rise_from last [] entry rise above = (above, tt)
+  rise_from last (x ∷ xs) entry rise above = (rise.0, rise_from (stamp x) xs entry rise.1 above)
 
   abbrev last_read : ℕ → List L → ℕ → ℕ
-  last_read last lines i = unwrap_or (option_map stamp (slice_get lines i)) last
+  last_read last entries i = unwrap_or (option_map stamp (slice_get entries i)) last
 
-  -- within the lines the number does not matter
-  read_within : (last other : ℕ) (lines : List L) (i : ℕ) → i < length lines → last_read last lines i ≡ last_read other lines i
+  -- within the entries the number does not matter
+  read_within : (last other : ℕ) (entries : List L) (i : ℕ) → i < length entries → last_read last entries i ≡ last_read other entries i
   read_within last other [] i lt = absurd (omega arith)
   read_within last other (x ∷ xs) zero lt = refl
   read_within last other (x ∷ xs) (suc i) lt = read_within last other xs i (omega arith)
 
-  last_from-read : (last : ℕ) (lines : List L) → last_from last lines ≡ last_read last lines (length lines - 1)
+  last_from-read : (last : ℕ) (entries : List L) → last_from last entries ≡ last_read last entries (length entries - 1)
   last_from-read last [] = refl
   last_from-read last (x ∷ []) = let e : length (x ∷ []) - 1 ≡ 0 = omega arith in ap (last_read last (x ∷ [])) (sym e)
   last_from-read last (x ∷ y ∷ ys) =
       let e : length (x ∷ y ∷ ys) - 1 ≡ suc (length (y ∷ ys) - 1) = omega arith in
       last_from-read (stamp x) (y ∷ ys) ∙ read_within (stamp x) last (y ∷ ys) (length (y ∷ ys) - 1) (omega arith) ∙ ap (last_read last (x ∷ y ∷ ys)) (sym e)
 
-  pub rise_push : (lines : List L) (line : L) → Rise stamp 0 lines → last_stamp_of stamp lines < stamp line → Rise stamp 0 (lines ++ line ∷ [])
-  rise_push lines line rise past = rise_from 0 lines line rise (let l : last_from 0 lines ≡ last_stamp_of stamp lines = last_from-read 0 lines in omega arith)
+  pub rise_push : (entries : List L) (entry : L) → Rise stamp 0 entries → last_stamp_of stamp entries < stamp entry → Rise stamp 0 (entries ++ entry ∷ [])
+  rise_push entries entry rise past = rise_from 0 entries entry rise (let l : last_from 0 entries ≡ last_stamp_of stamp entries = last_from-read 0 entries in omega arith)

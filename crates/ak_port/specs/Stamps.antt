@@ -5,4 +5,4 @@ module _ {L : Type 0} (stamp : L → ℕ) where
   -- the stamps rise, from past that number on
   abbrev pub Rise : ℕ → List L → Type 0
   Rise last [] = Unit {0}
-  Rise last (line ∷ lines) = (last < stamp line) × Rise (stamp line) lines
+  Rise last (entry ∷ entries) = (last < stamp entry) × Rise (stamp entry) entries

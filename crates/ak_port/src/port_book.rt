@@ -43,15 +43,15 @@ impl Model for PortBook {
 }
 
 impl Book for PortBook {
-    type Entry = PortEntry;
+    type Plain = PortEntry;
 
     type Opening = ThreadId;
 
-    type Line = PortEntry;
+    type Entry = PortEntry;
 
     ghost opening = { λ port. port.taker };
 
-    ghost lines = { λ port. port.entries };
+    ghost entries = { λ port. port.entries };
 
     ghost plain = { λ entry. entry };
 

@@ -333,15 +333,15 @@ impl ReplyBook {
 }
 
 impl Book for ReplyBook {
-    type Entry = ReplyEntry;
+    type Plain = ReplyEntry;
 
     type Opening = ();
 
-    type Line = ReplyEntry;
+    type Entry = ReplyEntry;
 
     ghost opening = { λ _. tt };
 
-    ghost lines = { λ book. book };
+    ghost entries = { λ book. book };
 
     ghost plain = { λ entry. entry };
 

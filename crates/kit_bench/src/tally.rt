@@ -47,15 +47,15 @@ impl Tally {
 }
 
 impl Book for Tally {
-    type Entry = Count;
+    type Plain = Count;
 
     type Opening = ();
 
-    type Line = Count;
+    type Entry = Count;
 
     ghost opening = { λ _. tt };
 
-    ghost lines = { λ tally. tally };
+    ghost entries = { λ tally. tally };
 
     ghost plain = { λ count. count };
 

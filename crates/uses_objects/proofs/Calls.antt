@@ -3,7 +3,7 @@ use Rattle.ak_turn.proofs.Calls.{knows_other, knows_still, makes_one, seen_then_
 use Rattle.ak_port.proofs.PortWriting.{sends_one, sent_known_other, sent_known_still}
 use Rattle.ak_roster.proofs.Fresh.{stranger_fresh}
 
--- a call is one line more that the thread made
+-- a call is one entry more that the thread made
 pub ruleset making = (makes_one)
 
 -- one look after another

@@ -45,10 +45,10 @@ invariant_of-self c =
     filled_text _ _ _ _ _ _ c.args.n found.0 c.self.invariant.told found.1 found.2 c.args.flat _ _ (c.fill_slot.ensures.moved found.0 found.1) c.index.ensures c.as_slice.ensures in
     let flat : IsFlatText c.as_slice.result.now = subst IsFlatText (sym text) (flat_or_none c.args.flat c.requires.text) in
     let short : length c.as_slice.result.now ≤ 4096 = flat_within _ flat in
-    let line : Range → Kept = λ r. record { stamp = c.enter.new.clock.time; by = c.args.clock.now.thread; event = kept.Filled c.args.n r } in
+    let entry : Range → Kept = λ r. record { stamp = c.enter.new.clock.time; by = c.args.clock.now.thread; event = kept.Filled c.args.n r } in
     record {
       told = told_filled _ _ c.as_slice.result.now _ _ _ _ _ _ c.enter.new.clock.time c.args.clock.now.thread c.args.clock.now.time c.self.invariant.told (ap (λ (k : Clock). k.time) c.enter.ensures.clock) c.args.n found.0 found.1 found.2 flat
-          c.put-range.ensures.store (c.enter.ensures.entered ∙ ap (λ (r : Range). c.self.inside.entries.items ++ line r ∷ []) c.put-range.ensures.range)
+          c.put-range.ensures.store (c.enter.ensures.entered ∙ ap (λ (r : Range). c.self.inside.entries.items ++ entry r ∷ []) c.put-range.ensures.range)
           (filled_slots _ _ _ _ _ _ c.args.n found.0 c.self.invariant.told found.1 found.2 c.args.flat _ (c.fill_slot.ensures.moved found.0 found.1) text);
       room = record {
         for_entries = omega (arith, some, c.self.invariant.room.for_entries, c.enter.ensures.len, c.enter.ensures.capacity);
@@ -65,9 +65,9 @@ returns-clause-filled c _ =
     let found = found_at c.self.inside.slots.items c.deref.result.now c.args.n progress.Open c.is_at.result c.is_at.ensures c.deref.ensures.value c.if-not-is_at.false in
     let text : c.as_slice.result.now ≡ unwrap_or c.args.flat none_text =
     filled_text _ _ _ _ _ _ c.args.n found.0 c.self.invariant.told found.1 found.2 c.args.flat _ _ (c.fill_slot.ensures.moved found.0 found.1) c.index.ensures c.as_slice.ensures in
-    let line : Range → Kept = λ r. record { stamp = c.enter.new.clock.time; by = c.args.clock.now.thread; event = kept.Filled c.args.n r } in
+    let entry : Range → Kept = λ r. record { stamp = c.enter.new.clock.time; by = c.args.clock.now.thread; event = kept.Filled c.args.n r } in
     filled-seen _ _ c.as_slice.result.now _ _ _ _ _ c.enter.new.clock.time c.args.clock.now.thread c.enter.new.clock.thread c.args.n _ _ c.self.invariant.told c.put-range.ensures.store
-    (c.enter.ensures.entered ∙ ap (λ (r : Range). c.self.inside.entries.items ++ line r ∷ []) c.put-range.ensures.range) c.self.view_is (sym (ap (λ (k : Clock). k.thread) c.enter.ensures.clock)) text
+    (c.enter.ensures.entered ∙ ap (λ (r : Range). c.self.inside.entries.items ++ entry r ∷ []) c.put-range.ensures.range) c.self.view_is (sym (ap (λ (k : Clock). k.thread) c.enter.ensures.clock)) text
 
 pub returns-clause-clock : goal.returns-clause-clock
 returns-clause-clock c _ =

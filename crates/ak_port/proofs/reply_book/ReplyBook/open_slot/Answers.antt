@@ -16,12 +16,12 @@ invariant_of-self-2 c =
     let slots : c.make_room-room.new.slots.items ≡ c.self.inside.slots.items = c.in-Ok.ensures.slots.0 in
     let number : c.len-n.result ≡ length c.self.inside.slots.items = c.len-n.ensures ∙ c.self.inside.slots.ok.0 in
     let slot : Slot = record { opener = c.args.clock.now.thread; progress = progress.Open; flat = c.in-Ok.flat } in
-    let line : ℕ → Kept = λ n. record { stamp = c.enter.new.clock.time; by = c.args.clock.now.thread; event = kept.Opened n } in
+    let entry : ℕ → Kept = λ n. record { stamp = c.enter.new.clock.time; by = c.args.clock.now.thread; event = kept.Opened n } in
     let stamp = ap (λ (k : Clock). k.time) c.enter.ensures.clock ∙ ap (λ (l : List Kept). 1 + max c.args.clock.now.time (last_stamp_of (λ (k : Kept). k.stamp) l)) entries in
     let told =
     told_opened _ _ c.enter.new.entries.items _ c.add_slot.new.slots.items _ _ c.enter.new.clock.time c.args.clock.now.thread c.args.clock.now.time c.self.invariant.told stamp slot refl
     (c.in-Ok.ensures.copy ∙ c.as_slice.ensures ∙ c.self.invariant.none) refl
-    (c.enter.ensures.entered ∙ ap (λ (l : List Kept). l ++ line c.len-n.result ∷ []) entries ∙ ap (λ (n : ℕ). c.self.inside.entries.items ++ line n ∷ []) number) (c.add_slot.ensures ∙ ap (λ (l : List Slot). l ++ slot ∷ []) slots) in
+    (c.enter.ensures.entered ∙ ap (λ (l : List Kept). l ++ entry c.len-n.result ∷ []) entries ∙ ap (λ (n : ℕ). c.self.inside.entries.items ++ entry n ∷ []) number) (c.add_slot.ensures ∙ ap (λ (l : List Slot). l ++ slot ∷ []) slots) in
     record {
       told = subst (λ (s : List ℕ). Told s c.enter.new.entries.items c.add_slot.new.slots.items (c.self.inside.waiting + 1) c.self.inside.filled) (sym bytes) told;
       room = record {
