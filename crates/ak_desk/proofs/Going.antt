@@ -23,7 +23,7 @@ use Rattle.ak_route.specs.Handlers.{handlers_seen}
 use Rattle.ak_route.specs.Laws.{RoutesPopWithin}
 use Rattle.ak_action.specs.Laws.{CallsAct, IsAsking, RunsAct}
 use Rattle.ak_desk.specs.declared.desk.Begun.{Begun}
-use Rattle.ak_desk.specs.declared.entry.EntryRoute.TheVariants as entry
+use Rattle.ak_desk.specs.declared.entry.EntryRoute.TheVariants as went
 use Rattle.ak_desk.specs.declared.task.Task.{Task}
 use Rattle.ak_desk.specs.declared.task.Task.TheVariants as task
 use Rattle.ak_desk.specs.Answering.{AnswersForward, AnswersWant, AreAnswered}
@@ -31,7 +31,7 @@ use Rattle.ak_desk.specs.BuiltIns.{built_in_quits, built_in_reply}
 use Rattle.ak_desk.specs.Desk.{Asks, AsksInto, BegunData, DeskAwaits, DeskData, DeskIsDone, DeskMayWant, DeskTakes, Ends, Fails, FailsFrom, Forwards, GoesOn, Hears, IsTakenIn, OfBegun, RunsOut, StaysDone, Turns, Wants, actions_told, begun_at}
 use Rattle.ak_desk.specs.DeskInside.{ComesFar, IsBegun, IsOver, Stands, asked_more, begun_seen, came_seen, is_last, noted}
 use Rattle.ak_desk.specs.Dispatch.{Came, dispatch_of, entry_route}
-use Rattle.ak_desk.specs.Line.{LineData}
+use Rattle.ak_desk.specs.Entry.{EntryData}
 use Rattle.ak_desk.specs.Machine.{IsHistory, dispatches}
 use Rattle.ak_desk.specs.Place.{is_local, loopers_of, routed_of}
 use Rattle.ak_desk.specs.Properties.{property_replied}
@@ -43,13 +43,13 @@ use Rattle.ak_desk.proofs.InStep.{answered_push, comes_may, comes_takes, done_ma
 use Rattle.ak_desk.proofs.Reacting.{AimsAt, AimsBy, next_is, routed_so, waiting_tells}
 
 -- ---- it begins
-pub begins : (opening : DeskState) (old lines : List LineData) (was : Option Begun) (b : BegunData) (t : Task) (s : DeskState) (taken : Taken) → b ≡ begun_at s taken → t ≡ task_of s.first (routed_of s taken.item) → IsItem taken.item → was ≡ None → lines ≡ old → Stands opening old was s → taken.position ≡ dispatches old → IsBegun opening lines b t s
-begins opening old lines was b t s taken seen is fits none same h e =
+pub begins : (opening : DeskState) (old entries : List EntryData) (was : Option Begun) (b : BegunData) (t : Task) (s : DeskState) (taken : Taken) → b ≡ begun_at s taken → t ≡ task_of s.first (routed_of s taken.item) → IsItem taken.item → was ≡ None → entries ≡ old → Stands opening old was s → taken.position ≡ dispatches old → IsBegun opening entries b t s
+begins opening old entries was b t s taken seen is fits none same h e =
     let rest : IsHistory opening old s = subst (λ (o : Option Begun). Stands opening old o s) none h in
     let fresh : IsBegun opening old (begun_at s taken) (task_of s.first (routed_of s taken.item)) s = record { history = rest; position = e; route = refl; fits = fits; far = the.begun } in
-    subst (λ (x : BegunData). IsBegun opening lines x t s) (sym seen)
-    (subst (λ (x : Task). IsBegun opening lines (begun_at s taken) x s) (sym is)
-    (subst (λ (l : List LineData). IsBegun opening l (begun_at s taken) (task_of s.first (routed_of s taken.item)) s) (sym same) fresh))
+    subst (λ (x : BegunData). IsBegun opening entries x t s) (sym seen)
+    (subst (λ (x : Task). IsBegun opening entries (begun_at s taken) x s) (sym is)
+    (subst (λ (l : List EntryData). IsBegun opening l (begun_at s taken) (task_of s.first (routed_of s taken.item)) s) (sym same) fresh))
 
 -- ---- what an answer makes of the handlers
 abbrev IsNoReply : Answer → Type 0
@@ -92,7 +92,7 @@ forward_is_none answer.NoMemory h = tt
 -- a reply goes by the reaction of the handler that its message went to, and by the action behind those that are carried out
 record GoesTo (b : BegunData) (i : InterpData) : Type 0 where
   routed : (routed_of b.before b.item).route ≡ route.Deliver i.token (taker.Reaction i.reaction)
-  goes_to : b.route ≡ entry.To i.token
+  goes_to : b.route ≡ went.To i.token
   placed : i.place ≡ actions_told (dispatch_of b.before b.item b.heard None).words
 
 module _ (b : BegunData) where
@@ -205,21 +205,21 @@ begins_forward popped first m route.NotUnderstood h = absurd h
 begins_forward popped first m (route.Forward looper) h = h
 
 -- ---- what a call leaves
-abbrev pub seen_at : DeskState → List LineData → BegunData → DeskState → DeskData
-seen_at opening lines b s = record { opening = opening; state = s; lines = lines; begun = Some b }
+abbrev pub seen_at : DeskState → List EntryData → BegunData → DeskState → DeskData
+seen_at opening entries b s = record { opening = opening; state = s; entries = entries; begun = Some b }
 
-pub record AfterWant (opening : DeskState) (lines : List LineData) (r : Result Want NoMemory) (d : DeskData) (b : BegunData) (u : Task) (v : DeskState) : Type 0 where
-  pub begun : IsBegun opening lines b u v
-  pub ok : IfOk r (λ w. Turns (Wants w) d (seen_at opening lines b v))
-  pub err : OnErr r (Turns Fails d (seen_at opening lines b v))
-  pub awaits : IfOk r (λ w. DeskAwaits w (seen_at opening lines b v))
+pub record AfterWant (opening : DeskState) (entries : List EntryData) (r : Result Want NoMemory) (d : DeskData) (b : BegunData) (u : Task) (v : DeskState) : Type 0 where
+  pub begun : IsBegun opening entries b u v
+  pub ok : IfOk r (λ w. Turns (Wants w) d (seen_at opening entries b v))
+  pub err : OnErr r (Turns Fails d (seen_at opening entries b v))
+  pub awaits : IfOk r (λ w. DeskAwaits w (seen_at opening entries b v))
   pub forwards : IfOk r (λ w. Forwards w b)
-  pub ends : OnErr r (DeskIsDone (seen_at opening lines b v))
+  pub ends : OnErr r (DeskIsDone (seen_at opening entries b v))
 
-pub record AfterGiven (opening : DeskState) (lines : List LineData) (a : Answer) (d : DeskData) (b : BegunData) (u : Task) (v : DeskState) : Type 0 where
-  pub begun : IsBegun opening lines b u v
-  pub given : Turns (Hears a) d (seen_at opening lines b v)
-  pub goes_on : DeskMayWant (seen_at opening lines b v)
+pub record AfterGiven (opening : DeskState) (entries : List EntryData) (a : Answer) (d : DeskData) (b : BegunData) (u : Task) (v : DeskState) : Type 0 where
+  pub begun : IsBegun opening entries b u v
+  pub given : Turns (Hears a) d (seen_at opening entries b v)
+  pub goes_on : DeskMayWant (seen_at opening entries b v)
 
 -- ---- one step, of what is seen of a message and what is to be done for it
 module _ (b : BegunData) (t : Task) (s : DeskState) where
@@ -241,7 +241,7 @@ module _ (b : BegunData) (t : Task) (s : DeskState) where
   none_came None a far all = refl
   none_came (Some c) a over all = one_too_many b.asked b.heard a over.answered all
 
-module _ (pops : RoutesPopWithin) (act : CallsAct) (runs : RunsAct) (opening : DeskState) (lines : List LineData) (b : BegunData) (t : Task) (s : DeskState) (h : IsBegun opening lines b t s) (all : AreAnswered b.asked b.heard) (may : MayWant t) where
+module _ (pops : RoutesPopWithin) (act : CallsAct) (runs : RunsAct) (opening : DeskState) (entries : List EntryData) (b : BegunData) (t : Task) (s : DeskState) (h : IsBegun opening entries b t s) (all : AreAnswered b.asked b.heard) (may : MayWant t) where
   -- what is seen after a want, and after one that found no memory
   abbrev wanting : Want → Task → BegunData
   wanting w u = record b { asked = asked_more w b.asked; came = came_seen (is_last w) u }
@@ -250,7 +250,7 @@ module _ (pops : RoutesPopWithin) (act : CallsAct) (runs : RunsAct) (opening : D
   failing u = record b { came = Some (came_of u) }
 
   record Step (b' : BegunData) (u : Task) (v : DeskState) (told : Type 0) : Type 0 where
-    begun : IsBegun opening lines b' u v
+    begun : IsBegun opening entries b' u v
     told_is : told
 
   asks_from : b.came ≡ None → ComesFar b t s None → (w : Want) (u : Task) (v : DeskState) → IsAsking w → want_of None t s ≡ wants w u v → Step (record b { asked = b.asked ++ w ∷ []; came = None }) u v (Asks w b (record b { asked = b.asked ++ w ∷ []; came = None }) v)
@@ -273,8 +273,8 @@ module _ (pops : RoutesPopWithin) (act : CallsAct) (runs : RunsAct) (opening : D
       ∙ ap (λ (o : Option Came). record b { came = o }) (sym e) in
       record {
         begun =
-            subst (λ (x : BegunData). IsBegun opening lines x u v) (sym seen)
-            (subst (λ (x : Task). IsBegun opening lines b x v) (sym same.1.0) (subst (λ (x : DeskState). IsBegun opening lines b t x) (sym same.1.1) h));
+            subst (λ (x : BegunData). IsBegun opening entries x u v) (sym seen)
+            (subst (λ (x : Task). IsBegun opening entries b x v) (sym same.1.0) (subst (λ (x : DeskState). IsBegun opening entries b t x) (sym same.1.1) h));
         told_is = record { done = same.0; message = seen; state = same.1.1 };
       }
 
@@ -319,7 +319,7 @@ module _ (pops : RoutesPopWithin) (act : CallsAct) (runs : RunsAct) (opening : D
   fails_on u v is = fails_from b.came refl h.far u v is
 
   -- ---- which call may follow
-  awaits_so : (w : Want) (u : Task) (v : DeskState) → DeskAwaits w (seen_at opening lines (wanting w u) v)
+  awaits_so : (w : Want) (u : Task) (v : DeskState) → DeskAwaits w (seen_at opening entries (wanting w u) v)
   awaits_so want.Done u v = refl
   awaits_so (want.Find word) u v = λ a g. answered_push b.asked b.heard (want.Find word) a all g
   awaits_so (want.Post to m back) u v = λ a g. answered_push b.asked b.heard (want.Post to m back) a all g
@@ -344,14 +344,14 @@ module _ (pops : RoutesPopWithin) (act : CallsAct) (runs : RunsAct) (opening : D
   forwards_so : (w : Want) (u : Task) (v : DeskState) → want_of None t s ≡ wants w u v → Forwards w (wanting w u)
   forwards_so w u v is = forwards_from b.came h.far w u v is
 
-  after_want : (r : Result Want NoMemory) (b' : BegunData) (u : Task) (v : DeskState) → IfOk r (λ w. b' ≡ wanting w u) → IfOk r (λ w. want_of None t s ≡ wants w u v) → OnErr r (b' ≡ failing u) → OnErr r (want_of (Some (place_in u)) t s ≡ wants_none u v) → AfterWant opening lines r (seen_at opening lines b s) b' u v
+  after_want : (r : Result Want NoMemory) (b' : BegunData) (u : Task) (v : DeskState) → IfOk r (λ w. b' ≡ wanting w u) → IfOk r (λ w. want_of None t s ≡ wants w u v) → OnErr r (b' ≡ failing u) → OnErr r (want_of (Some (place_in u)) t s ≡ wants_none u v) → AfterWant opening entries r (seen_at opening entries b s) b' u v
   after_want (Ok w) b' u v same is err failed =
       let step = goes_on w u v is in
-      subst (λ (x : BegunData). AfterWant opening lines (Ok w) (seen_at opening lines b s) x u v) (sym same)
+      subst (λ (x : BegunData). AfterWant opening entries (Ok w) (seen_at opening entries b s) x u v) (sym same)
       (record { begun = step.begun; ok = step.told_is; err = tt; awaits = awaits_so w u v; forwards = forwards_so w u v is; ends = tt })
   after_want (Err n) b' u v ok is same failed =
       let step = fails_on u v failed in
-      subst (λ (x : BegunData). AfterWant opening lines (Err n) (seen_at opening lines b s) x u v) (sym same)
+      subst (λ (x : BegunData). AfterWant opening entries (Err n) (seen_at opening entries b s) x u v) (sym same)
       (record { begun = step.begun; ok = tt; err = step.told_is; awaits = tt; forwards = tt; ends = refl })
 
 seen_ok : (x y : Begun) (r : Result Want NoMemory) → IfOk r (λ w. y ≡ noted w (record x { task = y.task })) → IfOk r (λ w. begun_seen y ≡ record (begun_seen x) { asked = asked_more w x.asked; came = came_seen (is_last w) y.task })
@@ -367,15 +367,15 @@ none_seen true t u e = absurd cc
 none_seen false t u e = refl
 
 -- ---- of the desk
-module _ (opening : DeskState) (lines : List LineData) (o : Option Begun) (x : Begun) (s : DeskState) (d : DeskData) (inside : o ≡ Some x) (view : record { opening = opening; state = s; lines = lines; begun = option_map begun_seen o } ≡ d) (h : Stands opening lines o s) where
+module _ (opening : DeskState) (entries : List EntryData) (o : Option Begun) (x : Begun) (s : DeskState) (d : DeskData) (inside : o ≡ Some x) (view : record { opening = opening; state = s; entries = entries; begun = option_map begun_seen o } ≡ d) (h : Stands opening entries o s) where
   abbrev here : DeskData
-  here = seen_at opening lines (begun_seen x) s
+  here = seen_at opening entries (begun_seen x) s
 
   seen : here ≡ d
-  seen = ap (λ (p : Option Begun). record { opening = opening; state = s; lines = lines; begun = option_map begun_seen p }) (sym inside) ∙ view
+  seen = ap (λ (p : Option Begun). record { opening = opening; state = s; entries = entries; begun = option_map begun_seen p }) (sym inside) ∙ view
 
-  stands : IsBegun opening lines (begun_seen x) x.task s
-  stands = subst (λ (p : Option Begun). Stands opening lines p s) inside h
+  stands : IsBegun opening entries (begun_seen x) x.task s
+  stands = subst (λ (p : Option Begun). Stands opening entries p s) inside h
 
   all_of : DeskMayWant d → AreAnswered x.asked x.heard
   all_of may = subst DeskMayWant (sym seen) may
@@ -389,10 +389,10 @@ module _ (opening : DeskState) (lines : List LineData) (o : Option Begun) (x : B
   pub may_give : (a : Answer) → DeskTakes d a → TakesAnswer x.task a
   may_give a takes = may_take (begun_seen x) x.task s (begun_seen x).came a stands.far (one_of a takes)
 
-  pub wanted : RoutesPopWithin → CallsAct → RunsAct → DeskMayWant d → (r : Result Want NoMemory) (y : Begun) (v : DeskState) → IfOk r (λ w. y ≡ noted w (record x { task = y.task })) → IfOk r (λ w. want_of None x.task s ≡ wants w y.task v) → OnErr r (y ≡ record x { task = y.task; done = true }) → OnErr r (want_of (Some (place_in y.task)) x.task s ≡ wants_none y.task v) → AfterWant opening lines r d (begun_seen y) y.task v
+  pub wanted : RoutesPopWithin → CallsAct → RunsAct → DeskMayWant d → (r : Result Want NoMemory) (y : Begun) (v : DeskState) → IfOk r (λ w. y ≡ noted w (record x { task = y.task })) → IfOk r (λ w. want_of None x.task s ≡ wants w y.task v) → OnErr r (y ≡ record x { task = y.task; done = true }) → OnErr r (want_of (Some (place_in y.task)) x.task s ≡ wants_none y.task v) → AfterWant opening entries r d (begun_seen y) y.task v
   wanted pops act runs may r y v ok next err failed =
-      subst (λ (z : DeskData). AfterWant opening lines r z (begun_seen y) y.task v) seen
-      (after_want pops act runs opening lines (begun_seen x) x.task s stands (all_of may) (may_want may) r (begun_seen y) y.task v (seen_ok x y r ok) next (seen_err x y r err) failed)
+      subst (λ (z : DeskData). AfterWant opening entries r z (begun_seen y) y.task v) seen
+      (after_want pops act runs opening entries (begun_seen x) x.task s stands (all_of may) (may_want may) r (begun_seen y) y.task v (seen_ok x y r ok) next (seen_err x y r err) failed)
 
   -- ---- an answer
   module _ (a : Answer) (takes : DeskTakes d a) (y : Begun) (v : DeskState) (noted_is : y ≡ record x { task = y.task; heard = x.heard ++ a ∷ [] }) (heard : heard_of x.task s a ≡ record { task = y.task; state = v }) where
@@ -413,10 +413,10 @@ module _ (opening : DeskState) (lines : List LineData) (o : Option Begun) (x : B
         subst (λ (p : Option Came). ComesFar then y.task v p) (sym none)
         (subst (λ (k : Heard). ComesFar then k.task k.state None) heard (the.given x.asked x.heard x.task s a came_so_far (may_give a takes)))
 
-    pub given : CallsAct → RunsAct → AfterGiven opening lines a d (begun_seen y) y.task v
+    pub given : CallsAct → RunsAct → AfterGiven opening entries a d (begun_seen y) y.task v
     given act runs =
-        subst (λ (b : BegunData). AfterGiven opening lines a d b y.task v) (sym then_seen)
-        (subst (λ (z : DeskData). AfterGiven opening lines a z then y.task v) seen
+        subst (λ (b : BegunData). AfterGiven opening entries a d b y.task v) (sym then_seen)
+        (subst (λ (z : DeskData). AfterGiven opening entries a z then y.task v) seen
         (record {
           begun = record { history = stands.history; position = stands.position; route = stands.route; fits = stands.fits; far = goes_far };
           given = record { message = refl; state = subst (λ (k : Heard). IsTakenIn a (begun_seen x) s k.state) heard (takes_in (begun_seen x) act runs x.task s a came_so_far stands.route (may_give a takes)) };

@@ -1,4 +1,4 @@
--- A list of lines, and one more at its end.
+-- A list of entries, and one more at its end.
 use Rattle.std.proofs.Common.{◌≡◌, ℕ, suc, ◌+◌, ◌-◌, ◌<◌, Bool, true, false, ◌||◌, List, [], ◌∷◌, ◌++◌, All, length, Option, None, Some, option_map, unwrap_or, slice_get, refl, sym, ap, subst, ◌∙◌, arith}
 use Rattle.std.proofs.lemmas.List.Elements.{All-nil, All-push}
 use Rattle.ak_flatten.specs.Item.{ItemData}
@@ -24,26 +24,26 @@ use Rattle.ak_desk.specs.Answering.{AnswersForward, AreAnswered}
 use Rattle.ak_desk.specs.Desk.{BegunData, stamp_in}
 use Rattle.ak_desk.specs.DeskInside.{IsBegun, IsOver}
 use Rattle.ak_desk.specs.Dispatch.{Came, Dispatch, dispatch_of, entry_route}
-use Rattle.ak_desk.specs.Line.{LineData}
+use Rattle.ak_desk.specs.Entry.{EntryData}
 use Rattle.ak_desk.specs.Machine.{DeskStep, DispatchStep, Dispatches, EventStep, IsBy, IsHistory, Replays, Replies, StampsRise, counted, counted_all, dispatches, gave_up, gives_up}
 use Rattle.ak_desk.specs.Place.{routed_of}
 use Rattle.ak_desk.specs.Task.{Comes, TakesAnswer}
 use Rattle.ak_desk.specs.Task as the
 
--- ---- one line more
-pub counted_push : (n : ℕ) (lines : List LineData) (line : LineData) → counted_all n (lines ++ line ∷ []) ≡ counted (counted_all n lines) line.entry.event
-counted_push n [] line = refl
-counted_push n (l ∷ lines) line = counted_push (counted n l.entry.event) lines line
+-- ---- one entry more
+pub counted_push : (n : ℕ) (entries : List EntryData) (entry : EntryData) → counted_all n (entries ++ entry ∷ []) ≡ counted (counted_all n entries) entry.plain.event
+counted_push n [] entry = refl
+counted_push n (l ∷ entries) entry = counted_push (counted n l.plain.event) entries entry
 
-pub replays_push : (looper n : ℕ) (s : DeskState) (lines : List LineData) (u : DeskState) (line : LineData) (t : DeskState) → Replays looper n s lines u → DeskStep looper (counted_all n lines) u line t → Replays looper n s (lines ++ line ∷ []) t
-replays_push looper n s [] u line t e step = (t, (subst (λ (x : DeskState). DeskStep looper n x line t) e step, refl))
-replays_push looper n s (l ∷ lines) u line t (m, (first, rest)) step =
-    (m, (first, replays_push looper (counted n l.entry.event) m lines u line t rest step))
+pub replays_push : (looper n : ℕ) (s : DeskState) (entries : List EntryData) (u : DeskState) (entry : EntryData) (t : DeskState) → Replays looper n s entries u → DeskStep looper (counted_all n entries) u entry t → Replays looper n s (entries ++ entry ∷ []) t
+replays_push looper n s [] u entry t e step = (t, (subst (λ (x : DeskState). DeskStep looper n x entry t) e step, refl))
+replays_push looper n s (l ∷ entries) u entry t (m, (first, rest)) step =
+    (m, (first, replays_push looper (counted n l.plain.event) m entries u entry t rest step))
 
 -- ---- stamps
-abbrev last_from : ℕ → List LineData → ℕ
+abbrev last_from : ℕ → List EntryData → ℕ
 last_from last [] = last
-last_from last (l ∷ lines) = last_from l.entry.stamp lines
+last_from last (l ∷ entries) = last_from l.plain.stamp entries
 
 one_off : (n : ℕ) → suc n - 1 ≡ n
 one_off n = omega arith
@@ -51,30 +51,30 @@ one_off n = omega arith
 one_less : (n : ℕ) → suc (suc n) - 1 ≡ suc n
 one_less n = omega arith
 
-stamp_of_last : (l : LineData) (lines : List LineData) → stamp_in (l ∷ lines) ≡ last_from l.entry.stamp lines
+stamp_of_last : (l : EntryData) (entries : List EntryData) → stamp_in (l ∷ entries) ≡ last_from l.plain.stamp entries
 stamp_of_last l [] = refl
-stamp_of_last l (k ∷ lines) =
-    ap (λ (n : ℕ). unwrap_or (option_map (λ (line : LineData). line.entry.stamp) (slice_get (l ∷ k ∷ lines) n)) 0) (one_less (length lines))
-    ∙ ap (λ (n : ℕ). unwrap_or (option_map (λ (line : LineData). line.entry.stamp) (slice_get (k ∷ lines) n)) 0) (sym (one_off (length lines)))
-    ∙ stamp_of_last k lines
+stamp_of_last l (k ∷ entries) =
+    ap (λ (n : ℕ). unwrap_or (option_map (λ (entry : EntryData). entry.plain.stamp) (slice_get (l ∷ k ∷ entries) n)) 0) (one_less (length entries))
+    ∙ ap (λ (n : ℕ). unwrap_or (option_map (λ (entry : EntryData). entry.plain.stamp) (slice_get (k ∷ entries) n)) 0) (sym (one_off (length entries)))
+    ∙ stamp_of_last k entries
 
-last_stamp : (lines : List LineData) → stamp_in lines ≡ last_from 0 lines
+last_stamp : (entries : List EntryData) → stamp_in entries ≡ last_from 0 entries
 last_stamp [] = refl
-last_stamp (l ∷ lines) = stamp_of_last l lines
+last_stamp (l ∷ entries) = stamp_of_last l entries
 
-rises_from : (last : ℕ) (lines : List LineData) (line : LineData) → StampsRise last lines → last_from last lines < line.entry.stamp → StampsRise last (lines ++ line ∷ [])
-rises_from last [] line h lt = (lt, tt)
-rises_from last (l ∷ lines) line (first, rest) lt = (first, rises_from l.entry.stamp lines line rest lt)
+rises_from : (last : ℕ) (entries : List EntryData) (entry : EntryData) → StampsRise last entries → last_from last entries < entry.plain.stamp → StampsRise last (entries ++ entry ∷ [])
+rises_from last [] entry h lt = (lt, tt)
+rises_from last (l ∷ entries) entry (first, rest) lt = (first, rises_from l.plain.stamp entries entry rest lt)
 
-pub stamps_push : (lines : List LineData) (line : LineData) → StampsRise 0 lines → stamp_in lines < line.entry.stamp → StampsRise 0 (lines ++ line ∷ [])
-stamps_push lines line h lt = rises_from 0 lines line h (subst (λ (n : ℕ). n < line.entry.stamp) (last_stamp lines) lt)
+pub stamps_push : (entries : List EntryData) (entry : EntryData) → StampsRise 0 entries → stamp_in entries < entry.plain.stamp → StampsRise 0 (entries ++ entry ∷ [])
+stamps_push entries entry h lt = rises_from 0 entries entry h (subst (λ (n : ℕ). n < entry.plain.stamp) (last_stamp entries) lt)
 
 -- ---- the whole history
-pub history_push : (opening : DeskState) (lines : List LineData) (u : DeskState) (line : LineData) (t : DeskState) → IsHistory opening lines u → DeskStep opening.looper (dispatches lines) u line t → stamp_in lines < line.entry.stamp → IsHistory opening (lines ++ line ∷ []) t
-history_push opening lines u line t h step lt =
+pub history_push : (opening : DeskState) (entries : List EntryData) (u : DeskState) (entry : EntryData) (t : DeskState) → IsHistory opening entries u → DeskStep opening.looper (dispatches entries) u entry t → stamp_in entries < entry.plain.stamp → IsHistory opening (entries ++ entry ∷ []) t
+history_push opening entries u entry t h step lt =
     record {
-      replays = replays_push opening.looper 0 opening lines u line t h.replays step;
-      stamps = stamps_push lines line h.stamps lt;
+      replays = replays_push opening.looper 0 opening entries u entry t h.replays step;
+      stamps = stamps_push entries entry h.stamps lt;
     }
 
 -- ---- giving up
@@ -82,15 +82,15 @@ either : (b : Bool) (x : Bool) → b || x ≡ false → (b ≡ false) × (x ≡ 
 either true x e = absurd cc
 either false x e = (refl, e)
 
-pub gave_up_before : (lines : List LineData) (line : LineData) → gave_up (lines ++ line ∷ []) ≡ false → gave_up lines ≡ false
-gave_up_before [] line e = refl
-gave_up_before (l ∷ lines) line e =
-    let parts = either (gives_up l.entry.event) (gave_up (lines ++ line ∷ [])) e in
-    rw parts.0 (gave_up_before lines line parts.1)
+pub gave_up_before : (entries : List EntryData) (entry : EntryData) → gave_up (entries ++ entry ∷ []) ≡ false → gave_up entries ≡ false
+gave_up_before [] entry e = refl
+gave_up_before (l ∷ entries) entry e =
+    let parts = either (gives_up l.plain.event) (gave_up (entries ++ entry ∷ [])) e in
+    rw parts.0 (gave_up_before entries entry parts.1)
 
-pub gave_up_then : (lines : List LineData) (line : LineData) → gives_up line.entry.event ≡ true → gave_up (lines ++ line ∷ []) ≡ true
-gave_up_then [] line e = rw e refl
-gave_up_then (l ∷ lines) line e = by_head (gives_up l.entry.event) (gave_up_then lines line e)
+pub gave_up_then : (entries : List EntryData) (entry : EntryData) → gives_up entry.plain.event ≡ true → gave_up (entries ++ entry ∷ []) ≡ true
+gave_up_then [] entry e = rw e refl
+gave_up_then (l ∷ entries) entry e = by_head (gives_up l.plain.event) (gave_up_then entries entry e)
   where
     by_head : (b : Bool) {x : Bool} → x ≡ true → b || x ≡ true
     by_head true h = refl
@@ -165,7 +165,7 @@ pub record Dispatched (b : BegunData) (c : Came) (t : DeskState) : Type 0 where
 abbrev pub came_event : BegunData → Came → DeskEvent
 came_event b c = event.Dispatched b.position b.route c.words c.quit
 
-module _ (opening : DeskState) (lines : List LineData) (b : BegunData) (t : Task) (s : DeskState) (c : Came) (h : IsBegun opening lines b t s) (o : IsOver b t s c) where
+module _ (opening : DeskState) (entries : List EntryData) (b : BegunData) (t : Task) (s : DeskState) (c : Came) (h : IsBegun opening entries b t s) (o : IsOver b t s c) where
   abbrev dispatches_so : Dispatches b.before b.item c.words c.quit s
   dispatches_so = record {
     answers = b.heard;
@@ -198,12 +198,12 @@ module _ (opening : DeskState) (lines : List LineData) (b : BegunData) (t : Task
       step route.NotUnderstood is = (ap (entry_route b.before) is, d)
       step (route.Forward looper) is = (ap (entry_route b.before) is, d)
 
-  pub ends_on : (line : LineData) → line.entry.event ≡ came_event b c → line.item ≡ Some b.item → line.entry.by.0 ≡ 10000 + opening.looper → stamp_in lines < line.entry.stamp → IsHistory opening (lines ++ line ∷ []) s
-  ends_on line is item by lt =
+  pub ends_on : (entry : EntryData) → entry.plain.event ≡ came_event b c → entry.item ≡ Some b.item → entry.plain.by.0 ≡ 10000 + opening.looper → stamp_in entries < entry.plain.stamp → IsHistory opening (entries ++ entry ∷ []) s
+  ends_on entry is item by lt =
       let step = by_route (routed_of b.before b.item).route b.route h.route refl dispatches_so in
-      history_push opening lines b.before line s h.history
+      history_push opening entries b.before entry s h.history
       (record {
-        by = subst (IsBy opening.looper line.entry.by.0) (sym is) by;
-        event = subst (λ (e : DeskEvent). EventStep (dispatches lines) b.before e line.item s) (sym is) (subst (λ (o : Option ItemData). EventStep (dispatches lines) b.before (came_event b c) o s) (sym item) (h.position, step));
+        by = subst (IsBy opening.looper entry.plain.by.0) (sym is) by;
+        event = subst (λ (e : DeskEvent). EventStep (dispatches entries) b.before e entry.item s) (sym is) (subst (λ (o : Option ItemData). EventStep (dispatches entries) b.before (came_event b c) o s) (sym item) (h.position, step));
       })
       lt

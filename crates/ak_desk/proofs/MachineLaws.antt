@@ -23,41 +23,41 @@ use Rattle.ak_desk.specs.declared.entry.Edit.{Edit}
 use Rattle.ak_desk.specs.declared.entry.Edit.TheVariants as edit
 use Rattle.ak_desk.specs.declared.entry.EditAnswer.TheVariants as answered
 use Rattle.ak_desk.specs.declared.entry.EntryRoute.{EntryRoute}
-use Rattle.ak_desk.specs.declared.entry.EntryRoute.TheVariants as entry
+use Rattle.ak_desk.specs.declared.entry.EntryRoute.TheVariants as went
 use Rattle.ak_desk.specs.Answering.{AnswersForward, AreAnswered}
 use Rattle.ak_desk.specs.Dispatch.{Dispatch, by_route, dispatch_of, entry_route, forward_reply}
-use Rattle.ak_desk.specs.Laws.{DispatchesAreOwn, EachLineFollows, EntryTellsReply, ForwardTellsReply, HasOneReply, PositionsCount, RefusedEditsChangeNothing, StateIsOne, TellsForward, ToldByWord, reply_of_error}
-use Rattle.ak_desk.specs.Line.{LineData}
+use Rattle.ak_desk.specs.Laws.{DispatchesAreOwn, EachEntryFollows, EntryTellsReply, ForwardTellsReply, HasOneReply, PositionsCount, RefusedEditsChangeNothing, StateIsOne, TellsForward, ToldByWord, reply_of_error}
+use Rattle.ak_desk.specs.Entry.{EntryData}
 use Rattle.ak_desk.specs.Machine.{DeskStep, DispatchStep, Dispatches, EventStep, IsBy, Replays, Replies, StepReplies, counted, counted_all, dispatches, edited, edit_of, gave_up, gives_up}
 use Rattle.ak_desk.specs.Place.{routed_of}
 use Rattle.ak_desk.specs.Replies.{none_reply}
 use Rattle.ak_desk.specs.Shared.{by_number}
 use Rattle.ak_turn.specs.Entries.{made_by}
 
--- ---- one line among the others
+-- ---- one entry among the others
 -- with so many dispatches before them
-record Parts (looper n : ℕ) (s : DeskState) (before : List LineData) (line : LineData) (behind : List LineData) (t : DeskState) : Type 0 where
+record Parts (looper n : ℕ) (s : DeskState) (before : List EntryData) (entry : EntryData) (behind : List EntryData) (t : DeskState) : Type 0 where
   meets : DeskState
   leaves : DeskState
   before_it : Replays looper n s before meets
-  step : DeskStep looper (counted_all n before) meets line leaves
-  behind_it : Replays looper (counted (counted_all n before) line.entry.event) leaves behind t
+  step : DeskStep looper (counted_all n before) meets entry leaves
+  behind_it : Replays looper (counted (counted_all n before) entry.plain.event) leaves behind t
 
-parts : (looper n : ℕ) (s : DeskState) (before : List LineData) (line : LineData) (behind : List LineData) (t : DeskState) → Replays looper n s (before ++ line ∷ behind) t → Parts looper n s before line behind t
-parts looper n s [] line behind t (u, (step, rest)) = record { meets = s; leaves = u; before_it = refl; step = step; behind_it = rest }
-parts looper n s (l ∷ before) line behind t (u, (step, rest)) =
-    let p = parts looper (counted n l.entry.event) u before line behind t rest in
+parts : (looper n : ℕ) (s : DeskState) (before : List EntryData) (entry : EntryData) (behind : List EntryData) (t : DeskState) → Replays looper n s (before ++ entry ∷ behind) t → Parts looper n s before entry behind t
+parts looper n s [] entry behind t (u, (step, rest)) = record { meets = s; leaves = u; before_it = refl; step = step; behind_it = rest }
+parts looper n s (l ∷ before) entry behind t (u, (step, rest)) =
+    let p = parts looper (counted n l.plain.event) u before entry behind t rest in
     record { meets = p.meets; leaves = p.leaves; before_it = (u, (step, p.before_it)); step = p.step; behind_it = p.behind_it }
 
-pub each_line_follows : EachLineFollows
-each_line_follows looper s before line behind t h =
-    let p = parts looper 0 s before line behind t h in
+pub each_entry_follows : EachEntryFollows
+each_entry_follows looper s before entry behind t h =
+    let p = parts looper 0 s before entry behind t h in
     record { meets = p.meets; leaves = p.leaves; before_it = p.before_it; step = p.step; behind_it = p.behind_it }
 
 pub positions_count : PositionsCount
-positions_count looper s before line behind t position r words quit h is =
-    let p = parts looper 0 s before line behind t h in
-    (subst (λ (e : DeskEvent). EventStep (dispatches before) p.meets e line.item p.leaves) is p.step.event).0
+positions_count looper s before entry behind t position r words quit h is =
+    let p = parts looper 0 s before entry behind t h in
+    (subst (λ (e : DeskEvent). EventStep (dispatches before) p.meets e entry.item p.leaves) is p.step.event).0
 
 -- ---- edits
 kept : (h t : HandlersData DeskRow) (f : HandlerFault) (o : Option HandlerFault) → (edited h o answered.Done t).answer ≡ answered.Refused f → (edited h o answered.Done t).handlers ≡ h
@@ -75,8 +75,8 @@ edit_kept h (edit.Next token next) f is = kept h _ f _ is
 edit_kept h (edit.Prefer token) f is = kept h _ f _ is
 
 pub refused_edits_change_nothing : RefusedEditsChangeNothing
-refused_edits_change_nothing looper n s line t e f step is =
-    let h = subst (λ (x : DeskEvent). EventStep n s x line.item t) is step.event in
+refused_edits_change_nothing looper n s entry t e f step is =
+    let h = subst (λ (x : DeskEvent). EventStep n s x entry.item t) is step.event in
     h.2 ∙ ap (λ (k : HandlersData DeskRow). record s { handlers = k }) (edit_kept s.handlers e f h.1)
 
 -- ---- a message that is sent on
@@ -105,7 +105,7 @@ reply_told answer.NoMemory h = refl
 told_alike : (a b : Answer) → AnswersForward a → AnswersForward b → error_of a ≡ error_of b → forward_reply a ≡ forward_reply b
 told_alike a b h g e = reply_told a h ∙ ap reply_of_error e ∙ sym (reply_told b g)
 
-told_by_route : (s : DeskState) (m : MessageData) (looper : ℕ) (r : Route) (answers : List Answer) (memory : Option ℕ) → entry.Forward looper ≡ entry_route s r → AreAnswered (by_route s m r answers memory).wants answers → (by_route s m r answers memory).waits ≡ false → ToldByWord (by_route s m r answers memory).words (by_route s m r answers memory).reply
+told_by_route : (s : DeskState) (m : MessageData) (looper : ℕ) (r : Route) (answers : List Answer) (memory : Option ℕ) → went.Forward looper ≡ entry_route s r → AreAnswered (by_route s m r answers memory).wants answers → (by_route s m r answers memory).waits ≡ false → ToldByWord (by_route s m r answers memory).words (by_route s m r answers memory).reply
 told_by_route s m looper (route.Deliver token t) answers memory e h waits = absurd cc
 told_by_route s m looper route.Skipped answers memory e h waits = absurd cc
 told_by_route s m looper route.Dropped answers memory e h waits = absurd cc
@@ -198,18 +198,18 @@ module _ (replay : WordsReplay) where
     has_reply quit t d = record { quit = quit; leaves = t; dispatch = d; is = refl }
 
   one_step : (s : DeskState) (r : EntryRoute) (item : Option ItemData) (words : List AnswerWord) (quit quit' : Bool) (t u : DeskState) → DispatchStep s r item words quit t → DispatchStep s r item words quit' u → (quit ≡ quit') × (t ≡ u)
-  one_step s entry.NoMemory None words quit quit' t u d e = absurd d
-  one_step s entry.NoMemory (Some item) words quit quit' t u d e = (d.1.0 ∙ sym e.1.0, d.1.1 ∙ sym e.1.1)
-  one_step s (entry.To token) None words quit quit' t u d e = absurd d
-  one_step s entry.Skipped None words quit quit' t u d e = absurd d
-  one_step s entry.Dropped None words quit quit' t u d e = absurd d
-  one_step s entry.NotUnderstood None words quit quit' t u d e = absurd d
-  one_step s (entry.Forward looper) None words quit quit' t u d e = absurd d
-  one_step s (entry.To token) (Some item) words quit quit' t u d e = one_dispatch s item words quit quit' t u d.1 e.1
-  one_step s entry.Skipped (Some item) words quit quit' t u d e = one_dispatch s item words quit quit' t u d.1 e.1
-  one_step s entry.Dropped (Some item) words quit quit' t u d e = one_dispatch s item words quit quit' t u d.1 e.1
-  one_step s entry.NotUnderstood (Some item) words quit quit' t u d e = one_dispatch s item words quit quit' t u d.1 e.1
-  one_step s (entry.Forward looper) (Some item) words quit quit' t u d e = one_dispatch s item words quit quit' t u d.1 e.1
+  one_step s went.NoMemory None words quit quit' t u d e = absurd d
+  one_step s went.NoMemory (Some item) words quit quit' t u d e = (d.1.0 ∙ sym e.1.0, d.1.1 ∙ sym e.1.1)
+  one_step s (went.To token) None words quit quit' t u d e = absurd d
+  one_step s went.Skipped None words quit quit' t u d e = absurd d
+  one_step s went.Dropped None words quit quit' t u d e = absurd d
+  one_step s went.NotUnderstood None words quit quit' t u d e = absurd d
+  one_step s (went.Forward looper) None words quit quit' t u d e = absurd d
+  one_step s (went.To token) (Some item) words quit quit' t u d e = one_dispatch s item words quit quit' t u d.1 e.1
+  one_step s went.Skipped (Some item) words quit quit' t u d e = one_dispatch s item words quit quit' t u d.1 e.1
+  one_step s went.Dropped (Some item) words quit quit' t u d e = one_dispatch s item words quit quit' t u d.1 e.1
+  one_step s went.NotUnderstood (Some item) words quit quit' t u d e = one_dispatch s item words quit quit' t u d.1 e.1
+  one_step s (went.Forward looper) (Some item) words quit quit' t u d e = one_dispatch s item words quit quit' t u d.1 e.1
 
   -- the reply of an entry of that route with an item
   module _ (s : DeskState) (r : EntryRoute) (item : ItemData) (words : List AnswerWord) (quit : Bool) (t : DeskState) where
@@ -222,18 +222,18 @@ module _ (replay : WordsReplay) where
         }
 
   one_reply : (s : DeskState) (r : EntryRoute) (item : Option ItemData) (words : List AnswerWord) (quit : Bool) (t : DeskState) → DispatchStep s r item words quit t → HasOneReply s r item words
-  one_reply s entry.NoMemory None words quit t d = absurd d
-  one_reply s entry.NoMemory (Some item) words quit t d = record { reply = Some none_reply; replies = refl; alone = λ other h. h }
-  one_reply s (entry.To token) None words quit t d = absurd d
-  one_reply s entry.Skipped None words quit t d = absurd d
-  one_reply s entry.Dropped None words quit t d = absurd d
-  one_reply s entry.NotUnderstood None words quit t d = absurd d
-  one_reply s (entry.Forward looper) None words quit t d = absurd d
-  one_reply s (entry.To token) (Some item) words quit t d = reply_of_step s (entry.To token) item words quit t (λ _ h. h) (λ _ h. h) d.1
-  one_reply s entry.Skipped (Some item) words quit t d = reply_of_step s entry.Skipped item words quit t (λ _ h. h) (λ _ h. h) d.1
-  one_reply s entry.Dropped (Some item) words quit t d = reply_of_step s entry.Dropped item words quit t (λ _ h. h) (λ _ h. h) d.1
-  one_reply s entry.NotUnderstood (Some item) words quit t d = reply_of_step s entry.NotUnderstood item words quit t (λ _ h. h) (λ _ h. h) d.1
-  one_reply s (entry.Forward looper) (Some item) words quit t d = reply_of_step s (entry.Forward looper) item words quit t (λ _ h. h) (λ _ h. h) d.1
+  one_reply s went.NoMemory None words quit t d = absurd d
+  one_reply s went.NoMemory (Some item) words quit t d = record { reply = Some none_reply; replies = refl; alone = λ other h. h }
+  one_reply s (went.To token) None words quit t d = absurd d
+  one_reply s went.Skipped None words quit t d = absurd d
+  one_reply s went.Dropped None words quit t d = absurd d
+  one_reply s went.NotUnderstood None words quit t d = absurd d
+  one_reply s (went.Forward looper) None words quit t d = absurd d
+  one_reply s (went.To token) (Some item) words quit t d = reply_of_step s (went.To token) item words quit t (λ _ h. h) (λ _ h. h) d.1
+  one_reply s went.Skipped (Some item) words quit t d = reply_of_step s went.Skipped item words quit t (λ _ h. h) (λ _ h. h) d.1
+  one_reply s went.Dropped (Some item) words quit t d = reply_of_step s went.Dropped item words quit t (λ _ h. h) (λ _ h. h) d.1
+  one_reply s went.NotUnderstood (Some item) words quit t d = reply_of_step s went.NotUnderstood item words quit t (λ _ h. h) (λ _ h. h) d.1
+  one_reply s (went.Forward looper) (Some item) words quit t d = reply_of_step s (went.Forward looper) item words quit t (λ _ h. h) (λ _ h. h) d.1
 
   pub entry_tells_reply : EntryTellsReply
   entry_tells_reply s r item words quit quit' t u d e =
@@ -246,9 +246,9 @@ module _ (replay : WordsReplay) where
 
   pub state_is_one : StateIsOne
   state_is_one looper n s [] t u d e = d ∙ sym e
-  state_is_one looper n s (l ∷ lines) t u (m, (first, rest)) (k, (first-2, rest-2)) =
-      let same : k ≡ m = one_event n s l.entry.event l.item k m first-2.event first.event in
-      state_is_one looper (counted n l.entry.event) m lines t u rest (subst (λ (x : DeskState). Replays looper (counted n l.entry.event) x lines u) same rest-2)
+  state_is_one looper n s (l ∷ entries) t u (m, (first, rest)) (k, (first-2, rest-2)) =
+      let same : k ≡ m = one_event n s l.plain.event l.item k m first-2.event first.event in
+      state_is_one looper (counted n l.plain.event) m entries t u rest (subst (λ (x : DeskState). Replays looper (counted n l.plain.event) x entries u) same rest-2)
 
 -- ---- the dispatches are the looper's own
 -- an entry that has to be among its own
@@ -268,28 +268,28 @@ gives_none : (e : DeskEvent) → IsOwn e false → gives_up e ≡ false
 gives_none (event.Dispatched position r words quit) h = absurd cc
 gives_none (event.Edited e answer) h = refl
 
-counts_head : (n : ℕ) (l : LineData) (mine : List LineData) (b : Bool) → IsOwn l.entry.event b → counted_all (counted n l.entry.event) mine ≡ counted_all n (cond b (l ∷ mine) mine)
+counts_head : (n : ℕ) (l : EntryData) (mine : List EntryData) (b : Bool) → IsOwn l.plain.event b → counted_all (counted n l.plain.event) mine ≡ counted_all n (cond b (l ∷ mine) mine)
 counts_head n l mine true h = refl
-counts_head n l mine false h = ap (λ (k : ℕ). counted_all k mine) (counts_none n l.entry.event h)
+counts_head n l mine false h = ap (λ (k : ℕ). counted_all k mine) (counts_none n l.plain.event h)
 
-gives_head : (l : LineData) (mine : List LineData) (b : Bool) → IsOwn l.entry.event b → gives_up l.entry.event || gave_up mine ≡ gave_up (cond b (l ∷ mine) mine)
+gives_head : (l : EntryData) (mine : List EntryData) (b : Bool) → IsOwn l.plain.event b → gives_up l.plain.event || gave_up mine ≡ gave_up (cond b (l ∷ mine) mine)
 gives_head l mine true h = refl
-gives_head l mine false h = ap (λ (x : Bool). x || gave_up mine) (gives_none l.entry.event h)
+gives_head l mine false h = ap (λ (x : Bool). x || gave_up mine) (gives_none l.plain.event h)
 
-abbrev own_of : ℕ → List LineData → List LineData
-own_of looper lines = made_by by_number (10000 + looper) lines
+abbrev own_of : ℕ → List EntryData → List EntryData
+own_of looper entries = made_by by_number (10000 + looper) entries
 
-own_count : (looper n : ℕ) (s : DeskState) (lines : List LineData) (t : DeskState) → Replays looper n s lines t → counted_all n lines ≡ counted_all n (own_of looper lines)
+own_count : (looper n : ℕ) (s : DeskState) (entries : List EntryData) (t : DeskState) → Replays looper n s entries t → counted_all n entries ≡ counted_all n (own_of looper entries)
 own_count looper n s [] t e = refl
-own_count looper n s (l ∷ lines) t (u, (step, rest)) =
-    own_count looper (counted n l.entry.event) u lines t rest
-    ∙ counts_head n l (own_of looper lines) (by_number l == 10000 + looper) (is_own looper l.entry.by.0 l.entry.event step.by)
+own_count looper n s (l ∷ entries) t (u, (step, rest)) =
+    own_count looper (counted n l.plain.event) u entries t rest
+    ∙ counts_head n l (own_of looper entries) (by_number l == 10000 + looper) (is_own looper l.plain.by.0 l.plain.event step.by)
 
-own_gave_up : (looper n : ℕ) (s : DeskState) (lines : List LineData) (t : DeskState) → Replays looper n s lines t → gave_up lines ≡ gave_up (own_of looper lines)
+own_gave_up : (looper n : ℕ) (s : DeskState) (entries : List EntryData) (t : DeskState) → Replays looper n s entries t → gave_up entries ≡ gave_up (own_of looper entries)
 own_gave_up looper n s [] t e = refl
-own_gave_up looper n s (l ∷ lines) t (u, (step, rest)) =
-    ap (λ (x : Bool). gives_up l.entry.event || x) (own_gave_up looper (counted n l.entry.event) u lines t rest)
-    ∙ gives_head l (own_of looper lines) (by_number l == 10000 + looper) (is_own looper l.entry.by.0 l.entry.event step.by)
+own_gave_up looper n s (l ∷ entries) t (u, (step, rest)) =
+    ap (λ (x : Bool). gives_up l.plain.event || x) (own_gave_up looper (counted n l.plain.event) u entries t rest)
+    ∙ gives_head l (own_of looper entries) (by_number l == 10000 + looper) (is_own looper l.plain.by.0 l.plain.event step.by)
 
 pub dispatches_are_own : DispatchesAreOwn
-dispatches_are_own looper s lines t h = (own_count looper 0 s lines t h, own_gave_up looper 0 s lines t h)
+dispatches_are_own looper s entries t h = (own_count looper 0 s entries t h, own_gave_up looper 0 s entries t h)

@@ -41,7 +41,7 @@ use Rattle.ak_action.specs.contracts.row.DeskRow as DeskRow
 use Rattle.ak_action.specs.contracts.state.DeskState as DeskState
 use Rattle.ak_action.specs.contracts.interp.Stage as Stage
 use Rattle.ak_action.specs.contracts.interp.Interp as Interp
-use Rattle.ak_desk.specs.contracts.entry.DeskLine as DeskLine
+use Rattle.ak_desk.specs.contracts.entry.EntryWithItem as EntryWithItem
 use Rattle.ak_desk.specs.contracts.reserved.Spare as Spare
 use Rattle.ak_desk.specs.contracts.said.Said as Said
 use Rattle.ak_desk.specs.contracts.task.Task as Task
@@ -104,8 +104,8 @@ Stage-send = search (Message-send, leaves, sendable, crosses) depth 24 fits 6000
 pub Interp-send : IsSend Interp.the_field.row
 Interp-send = search (Message-send, Stage-send, leaves, sendable, crosses) depth 24 fits 6000
 
-pub DeskLine-send : IsSend DeskLine.the_field.row
-DeskLine-send = search (leaves, sendable, crosses) depth 24 fits 6000
+pub EntryWithItem-send : IsSend EntryWithItem.the_field.row
+EntryWithItem-send = search (leaves, sendable, crosses) depth 24 fits 6000
 
 pub Spare-send : IsSend Spare.the_field.row
 Spare-send = search (Message-send, leaves, sendable, crosses) depth 24 fits 6000
@@ -121,4 +121,4 @@ pub Begun-send : IsSend Begun.the_field.row
 Begun-send = search (Task-send, Spare-send, Said-send, leaves, sendable, crosses) depth 24 fits 6000
 
 pub Desk-send : IsSend Desk.the_field.row
-Desk-send = search (DeskState-send, DeskLine-send, Begun-send, leaves, sendable, crosses) depth 24 fits 6000
+Desk-send = search (DeskState-send, EntryWithItem-send, Begun-send, leaves, sendable, crosses) depth 24 fits 6000

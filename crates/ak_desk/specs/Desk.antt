@@ -29,11 +29,11 @@ use Rattle.ak_desk.specs.declared.entry.Edit.{Edit}
 use Rattle.ak_desk.specs.declared.entry.EditAnswer.{EditAnswer}
 use Rattle.ak_desk.specs.declared.entry.EditAnswer.TheVariants as answered
 use Rattle.ak_desk.specs.declared.entry.EntryRoute.{EntryRoute}
-use Rattle.ak_desk.specs.declared.entry.EntryRoute.TheVariants as entry
+use Rattle.ak_desk.specs.declared.entry.EntryRoute.TheVariants as went
 use Rattle.ak_desk.specs.declared.made.Made.{Made}
 use Rattle.ak_desk.specs.Answering.{AnswersAsk, AnswersForward, AnswersPost, AreAnswered}
 use Rattle.ak_desk.specs.Dispatch.{Came, Dispatch, came_to, dispatch_of, entry_route, fitting, ran_out}
-use Rattle.ak_desk.specs.Line.{LineData}
+use Rattle.ak_desk.specs.Entry.{EntryData}
 use Rattle.ak_desk.specs.Machine.{Dispatches, Edited, IsHistory, Replies, dispatches, edit_of, gave_up}
 use Rattle.ak_desk.specs.Place.{routed_of}
 use Rattle.ak_desk.specs.Replies.{none_reply}
@@ -54,11 +54,11 @@ pub record BegunData : Type 0 where
 pub record DeskData : Type 0 where
   pub opening : DeskState
   pub state : DeskState
-  pub lines : List LineData
+  pub entries : List EntryData
   pub begun : Option BegunData
 
 abbrev pub opened : DeskState → DeskData
-opened s = record { opening = s; state = s; lines = []; begun = None }
+opened s = record { opening = s; state = s; entries = []; begun = None }
 
 -- ---- beginning
 abbrev pub begun_at : DeskState → Taken → BegunData
@@ -167,7 +167,7 @@ actions_told (answer_word.NoTeam ∷ words) = actions_told words
 pub record TakesIn (m : MessageData) (b : BegunData) (s s' : DeskState) : Type 0 where
   pub token : ℕ
   pub reaction : ℕ
-  pub goes_to : b.route ≡ entry.To token
+  pub goes_to : b.route ≡ went.To token
   pub routed : (routed_of b.before b.item).route ≡ routes.Deliver token (taker.Reaction reaction)
   pub into : Option ℕ
   pub asks : AsksInto s token reaction (actions_told (dispatch_of b.before b.item b.heard None).words) into
@@ -209,29 +209,29 @@ DeskAwaits (want.Post _ _ _) d = (a : Answer) → AnswersPost a → DeskTakes d 
 DeskAwaits (want.Ask _ _) d = (a : Answer) → AnswersAsk a → DeskTakes d a
 DeskAwaits (want.Forward _ _) d = (a : Answer) → AnswersForward a → DeskTakes d a
 
--- ---- a new line, in the words for every object
-abbrev pub stamp_number : LineData → ℕ
-stamp_number line = line.entry.stamp
+-- ---- a new entry, in the words for every object
+abbrev pub stamp_number : EntryData → ℕ
+stamp_number entry = entry.plain.stamp
 
--- the line with that stamp, thread and event, and the item of a dispatch
-abbrev pub line_with : Option ItemData → ℕ → ThreadId → DeskEvent → LineData
-line_with item stamp by e = record { entry = record { stamp = stamp; by = by; event = e }; item = item }
+-- the entry with that stamp, thread and event, and the item of a dispatch
+abbrev pub entry_with : Option ItemData → ℕ → ThreadId → DeskEvent → EntryData
+entry_with item stamp by e = record { plain = record { stamp = stamp; by = by; event = e }; item = item }
 
-abbrev pub stamp_in : List LineData → ℕ
-stamp_in lines = last_stamp_of stamp_number lines
+abbrev pub stamp_in : List EntryData → ℕ
+stamp_in entries = last_stamp_of stamp_number entries
 
-abbrev pub stamp_after : List LineData → Clock → ℕ
-stamp_after lines clock = at_lock.stamp_due stamp_number clock lines
+abbrev pub stamp_after : List EntryData → Clock → ℕ
+stamp_after entries clock = at_lock.stamp_due stamp_number clock entries
 
 -- the clock of the thread, and the item of a dispatch
-abbrev pub line_after : List LineData → Clock → DeskEvent → Option ItemData → LineData
-line_after lines clock e item = at_lock.entry_now stamp_number (line_with item) clock lines e
+abbrev pub entry_after : List EntryData → Clock → DeskEvent → Option ItemData → EntryData
+entry_after entries clock e item = at_lock.entry_now stamp_number (entry_with item) clock entries e
 
-abbrev pub with_line : DeskData → Clock → DeskEvent → Option ItemData → DeskData
-with_line d clock e item = record d { lines = d.lines ++ line_after d.lines clock e item ∷ [] }
+abbrev pub with_entry : DeskData → Clock → DeskEvent → Option ItemData → DeskData
+with_entry d clock e item = record d { entries = d.entries ++ entry_after d.entries clock e item ∷ [] }
 
 abbrev pub clock_after : DeskData → Clock → Clock
-clock_after d clock = at_lock.clock_after stamp_number clock d.lines
+clock_after d clock = at_lock.clock_after stamp_number clock d.entries
 
 -- ---- ending
 abbrev pub words_in : Option Came → List AnswerWord
@@ -247,7 +247,7 @@ ended_event b = event.Dispatched b.position b.route (words_in b.came) (quit_in b
 
 abbrev pub ended_by : DeskData → Clock → Option BegunData → DeskData
 ended_by d clock None = d
-ended_by d clock (Some b) = with_line (record d { begun = None }) clock (ended_event b) (Some b.item)
+ended_by d clock (Some b) = with_entry (record d { begun = None }) clock (ended_event b) (Some b.item)
 
 -- with the entry of what was begun
 abbrev pub ended : DeskData → Clock → DeskData
@@ -274,16 +274,16 @@ abbrev pub made_by : Option BegunData → Made
 made_by None = made_nothing
 made_by (Some b) = made_in b.came
 
-abbrev pub dispatched_line : List LineData → Clock → ℕ → ItemData → DeskState → List AnswerWord → Bool → LineData
-dispatched_line lines clock position item before words quit =
-    line_after lines clock (event.Dispatched position (entry_route before (routed_of before item).route) words quit) (Some item)
+abbrev pub dispatched_entry : List EntryData → Clock → ℕ → ItemData → DeskState → List AnswerWord → Bool → EntryData
+dispatched_entry entries clock position item before words quit =
+    entry_after entries clock (event.Dispatched position (entry_route before (routed_of before item).route) words quit) (Some item)
 
 -- The message at that position was dispatched: the list leads from the opening to the state before it, and goes on by its one entry,
 -- with the route of that state, the words and the quit mark, to the state after it; what it made is told by these and by the one reply
 -- that goes with them. It asked for these, and heard these answers
-pub record HasDispatched (clock clock' : Clock) (position : ℕ) (item : ItemData) (asked : List Want) (heard : List Answer) (opening before after : DeskState) (lines lines' : List LineData) (made : Made) : Type 0 where
-  pub history : IsHistory opening lines before
-  pub position_is : position ≡ dispatches lines
+pub record HasDispatched (clock clock' : Clock) (position : ℕ) (item : ItemData) (asked : List Want) (heard : List Answer) (opening before after : DeskState) (entries entries' : List EntryData) (made : Made) : Type 0 where
+  pub history : IsHistory opening entries before
+  pub position_is : position ≡ dispatches entries
   pub words : List AnswerWord
   pub quit : Bool
   pub dispatch : Dispatches before item words quit after
@@ -292,46 +292,46 @@ pub record HasDispatched (clock clock' : Clock) (position : ℕ) (item : ItemDat
   pub reply : Option MessageData
   pub told : (dispatch_of before item dispatch.answers dispatch.memory).reply ≡ reply
   pub replies : Replies before item words reply
-  pub grown : lines' ≡ lines ++ dispatched_line lines clock position item before words quit ∷ []
-  pub goes_on : IsHistory opening lines' after
-  pub clocked : clock' ≡ at_lock.clock_after stamp_number clock lines
+  pub grown : entries' ≡ entries ++ dispatched_entry entries clock position item before words quit ∷ []
+  pub goes_on : IsHistory opening entries' after
+  pub clocked : clock' ≡ at_lock.clock_after stamp_number clock entries
   pub made_is : made ≡ made_of (record { words = words; reply = reply; quit = quit })
 
 -- of what was begun
 abbrev pub EndsDispatch : Clock → Clock → DeskData → DeskData → Made → BegunData → Type 0
-EndsDispatch clock clock' d d' made b = HasDispatched clock clock' b.position b.item b.asked b.heard d.opening b.before d'.state d.lines d'.lines made
+EndsDispatch clock clock' d d' made b = HasDispatched clock clock' b.position b.item b.asked b.heard d.opening b.before d'.state d.entries d'.entries made
 
 -- ---- giving up
 abbrev pub given_up_event : ℕ → DeskEvent
-given_up_event position = event.Dispatched position entry.NoMemory [] false
+given_up_event position = event.Dispatched position went.NoMemory [] false
 
 abbrev pub given_up : DeskData → Clock → Taken → DeskData
-given_up d clock taken = with_line d clock (given_up_event taken.position) (Some taken.item)
+given_up d clock taken = with_entry d clock (given_up_event taken.position) (Some taken.item)
 
 -- the reply is NONE
 abbrev pub made_without_memory : Made
 made_without_memory = record { reply = Some none_reply; forwarded = false; quit = false; no_memory = true }
 
-abbrev pub given_up_line : List LineData → Clock → ℕ → ItemData → LineData
-given_up_line lines clock position item = line_after lines clock (given_up_event position) (Some item)
+abbrev pub given_up_entry : List EntryData → Clock → ℕ → ItemData → EntryData
+given_up_entry entries clock position item = entry_after entries clock (given_up_event position) (Some item)
 
 -- The message at that position was given up, as none was before: the list leads from the opening to the state, and goes on by the one
 -- entry, without words, to the same state
-pub record HasGivenUp (clock clock' : Clock) (position : ℕ) (item : ItemData) (opening state : DeskState) (lines lines' : List LineData) (made : Made) : Type 0 where
-  pub history : IsHistory opening lines state
-  pub once : gave_up lines ≡ false
-  pub position_is : position ≡ dispatches lines
-  pub grown : lines' ≡ lines ++ given_up_line lines clock position item ∷ []
-  pub goes_on : IsHistory opening lines' state
-  pub clocked : clock' ≡ at_lock.clock_after stamp_number clock lines
+pub record HasGivenUp (clock clock' : Clock) (position : ℕ) (item : ItemData) (opening state : DeskState) (entries entries' : List EntryData) (made : Made) : Type 0 where
+  pub history : IsHistory opening entries state
+  pub once : gave_up entries ≡ false
+  pub position_is : position ≡ dispatches entries
+  pub grown : entries' ≡ entries ++ given_up_entry entries clock position item ∷ []
+  pub goes_on : IsHistory opening entries' state
+  pub clocked : clock' ≡ at_lock.clock_after stamp_number clock entries
   pub made_is : made ≡ made_without_memory
 
 abbrev pub GivesUp : Clock → Clock → DeskData → DeskData → Taken → Made → Type 0
-GivesUp clock clock' d d' taken made = HasGivenUp clock clock' taken.position taken.item d.opening d.state d.lines d'.lines made
+GivesUp clock clock' d d' taken made = HasGivenUp clock clock' taken.position taken.item d.opening d.state d.entries d'.entries made
 
 -- ---- edits
 abbrev pub edited_to : DeskData → Clock → Edit → Edited → DeskData
-edited_to d clock e r = with_line (record d { state = record d.state { handlers = r.handlers } }) clock (event.Edited e r.answer) None
+edited_to d clock e r = with_entry (record d { state = record d.state { handlers = r.handlers } }) clock (event.Edited e r.answer) None
 
 -- without memory nothing changes; else it is what the handlers give, and there is an entry, also of a refusal
 abbrev pub Edits : DeskData → Clock → Edit → EditAnswer → DeskData → Clock → Type 0
@@ -344,10 +344,10 @@ abbrev pub edit_entry : Edit → EditAnswer → Option DeskEvent
 edit_entry e answered.NoMemory = None
 edit_entry e answer = Some (event.Edited e answer)
 
--- that line more; the handlers may be others
-abbrev pub HasOneMore : DeskData → LineData → DeskData → Type 0
-HasOneMore d line d' = (d'.opening ≡ d.opening) × (d'.lines ≡ d.lines ++ line ∷ []) × (d'.begun ≡ d.begun)
+-- that entry more; the handlers may be others
+abbrev pub HasOneMore : DeskData → EntryData → DeskData → Type 0
+HasOneMore d entry d' = (d'.opening ≡ d.opening) × (d'.entries ≡ d.entries ++ entry ∷ []) × (d'.begun ≡ d.begun)
 
--- one line more of no message, or none
+-- one entry more of no message, or none
 abbrev pub HasAdded : Option DeskEvent → Clock → Clock → DeskData → DeskData → Type 0
-HasAdded e clock clock' d d' = at_lock.HasAdded stamp_number (line_with None) (λ (x : DeskData). x.lines) HasOneMore e clock clock' d d'
+HasAdded e clock clock' d d' = at_lock.HasAdded stamp_number (entry_with None) (λ (x : DeskData). x.entries) HasOneMore e clock clock' d d'

@@ -16,7 +16,7 @@ use Rattle.ak_desk.specs.contracts.entry.EntryRoute as entry_route
 use Rattle.ak_desk.specs.declared.entry.EntryRoute.{EntryRoute}
 use Rattle.ak_desk.specs.Desk.{BegunData, DeskData}
 use Rattle.ak_desk.specs.Dispatch.{Came}
-use Rattle.ak_desk.specs.Line.{LineData, coded_line}
+use Rattle.ak_desk.specs.Entry.{EntryData, coded_entry}
 
 abbrev coded_came : Coded Came
 coded_came =
@@ -48,12 +48,12 @@ coded_begun =
     (λ _. refl)
 
 abbrev DeskParts : Type 0
-DeskParts = DeskState × (DeskState × (List LineData × Option BegunData))
+DeskParts = DeskState × (DeskState × (List EntryData × Option BegunData))
 
 abbrev pub coded_desk : Coded DeskData
 coded_desk =
     code_by DeskParts
-    (coded× desk_state.the_row.coded (coded× desk_state.the_row.coded (coded× (coded_list coded_line) (coded_option coded_begun))))
-    (λ d. (d.opening, (d.state, (d.lines, d.begun))))
-    (λ p. record { opening = p.0; state = p.1.0; lines = p.1.1.0; begun = p.1.1.1 })
+    (coded× desk_state.the_row.coded (coded× desk_state.the_row.coded (coded× (coded_list coded_entry) (coded_option coded_begun))))
+    (λ d. (d.opening, (d.state, (d.entries, d.begun))))
+    (λ p. record { opening = p.0; state = p.1.0; entries = p.1.1.0; begun = p.1.1.1 })
     (λ _. refl)

@@ -13,7 +13,7 @@ use Rattle.ak_desk.specs.Answering.{AreAnswered}
 use Rattle.ak_desk.specs.Desk.{BegunData, DeskData}
 use Rattle.ak_desk.specs.Dispatch.{Came, came_to, dispatch_of, entry_route}
 use Rattle.ak_desk.specs.Machine.{IsHistory, dispatches, gave_up}
-use Rattle.ak_desk.specs.Line.{LineData}
+use Rattle.ak_desk.specs.Entry.{EntryData}
 use Rattle.ak_desk.specs.Place.{routed_of}
 use Rattle.ak_desk.specs.Task.{Comes, IsDone, came_of, task_of}
 
@@ -34,7 +34,7 @@ begun_seen b =
     }
 
 abbrev pub desk_inside : Inside → DeskData
-desk_inside d = record { opening = d.opening.value; state = d.state; lines = d.lines.items; begun = option_map begun_seen d.begun }
+desk_inside d = record { opening = d.opening.value; state = d.state; entries = d.entries.items; begun = option_map begun_seen d.begun }
 
 -- ---- one step of what is begun
 -- nothing is wanted
@@ -66,23 +66,23 @@ ComesFar b t s None = Comes b.before (task_of b.before.first (routed_of b.before
 ComesFar b t s (Some c) = IsOver b t s c
 
 -- what is begun began in the state to which the list leads
-pub record IsBegun (opening : DeskState) (lines : List LineData) (b : BegunData) (t : Task) (s : DeskState) : Type 0 where
-  pub history : IsHistory opening lines b.before
-  pub position : b.position ≡ dispatches lines
+pub record IsBegun (opening : DeskState) (entries : List EntryData) (b : BegunData) (t : Task) (s : DeskState) : Type 0 where
+  pub history : IsHistory opening entries b.before
+  pub position : b.position ≡ dispatches entries
   pub route : b.route ≡ entry_route b.before (routed_of b.before b.item).route
   pub fits : IsItem b.item
   pub far : ComesFar b t s b.came
 
 -- nothing is begun, or this
-abbrev pub Stands : DeskState → List LineData → Option Begun → DeskState → Type 0
-Stands opening lines None s = IsHistory opening lines s
-Stands opening lines (Some b) s = IsBegun opening lines (begun_seen b) b.task s
+abbrev pub Stands : DeskState → List EntryData → Option Begun → DeskState → Type 0
+Stands opening entries None s = IsHistory opening entries s
+Stands opening entries (Some b) s = IsBegun opening entries (begun_seen b) b.task s
 
 -- places for the entry of what is begun, and for that of giving up once
-abbrev pub HasPlaces : List LineData → Option Begun → ℕ → ℕ → Type 0
-HasPlaces lines None len capacity = gave_up lines ≡ false → len < capacity
-HasPlaces lines (Some b) len capacity = len + 1 < capacity
+abbrev pub HasPlaces : List EntryData → Option Begun → ℕ → ℕ → Type 0
+HasPlaces entries None len capacity = gave_up entries ≡ false → len < capacity
+HasPlaces entries (Some b) len capacity = len + 1 < capacity
 
 pub record IsSound (d : Inside) : Type 0 where
-  pub stands : Stands d.opening.value d.lines.items d.begun d.state
-  pub places : HasPlaces d.lines.items d.begun (vec_len d.lines) (vec_capacity d.lines)
+  pub stands : Stands d.opening.value d.entries.items d.begun d.state
+  pub places : HasPlaces d.entries.items d.begun (vec_len d.entries) (vec_capacity d.entries)

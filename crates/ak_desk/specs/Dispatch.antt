@@ -20,7 +20,7 @@ use Rattle.ak_action.specs.Acts.{Acts, acts, error_of}
 use Rattle.ak_action.specs.Laws.{is_waiting}
 use Rattle.ak_action.specs.Interp.{actions_of}
 use Rattle.ak_desk.specs.declared.entry.EntryRoute.{EntryRoute}
-use Rattle.ak_desk.specs.declared.entry.EntryRoute.TheVariants as entry
+use Rattle.ak_desk.specs.declared.entry.EntryRoute.TheVariants as went
 use Rattle.ak_desk.specs.BuiltIns.{built_in_reply, built_in_quits}
 use Rattle.ak_desk.specs.Place.{routed_of}
 use Rattle.ak_desk.specs.Properties.{Replied, property_replied}
@@ -139,11 +139,11 @@ fitting reply = if nat_lt flat_limit (length (spelling reply)) then error_reply 
 
 -- ---- the route as an entry tells it
 abbrev pub entry_route : DeskState → Route → EntryRoute
-entry_route s (route.Deliver token t) = entry.To token
-entry_route s route.Skipped = entry.Skipped
-entry_route s route.Dropped = entry.Dropped
-entry_route s route.NotUnderstood = entry.NotUnderstood
-entry_route s (route.Forward looper) = entry.Forward (s.first + looper)
+entry_route s (route.Deliver token t) = went.To token
+entry_route s route.Skipped = went.Skipped
+entry_route s route.Dropped = went.Dropped
+entry_route s route.NotUnderstood = went.NotUnderstood
+entry_route s (route.Forward looper) = went.Forward (s.first + looper)
 
 -- ---- what a message came to, once nothing is left to do
 pub record Came : Type 0 where

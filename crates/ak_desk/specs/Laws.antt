@@ -23,52 +23,52 @@ use Rattle.ak_desk.specs.declared.entry.DeskEvent.TheVariants as event
 use Rattle.ak_desk.specs.declared.entry.Edit.{Edit}
 use Rattle.ak_desk.specs.declared.entry.EditAnswer.TheVariants as answered
 use Rattle.ak_desk.specs.declared.entry.EntryRoute.{EntryRoute}
-use Rattle.ak_desk.specs.declared.entry.EntryRoute.TheVariants as entry
+use Rattle.ak_desk.specs.declared.entry.EntryRoute.TheVariants as went
 use Rattle.ak_desk.specs.declared.made.Made.{Made}
 use Rattle.ak_desk.specs.BuiltIns.{looper_suites, suites_of}
 use Rattle.ak_desk.specs.Desk.{HasDispatched, HasGivenUp}
 use Rattle.ak_desk.specs.Dispatch.{entry_route}
-use Rattle.ak_desk.specs.Line.{LineData}
+use Rattle.ak_desk.specs.Entry.{EntryData}
 use Rattle.ak_desk.specs.Machine.{DeskStep, DispatchStep, Replays, Replies, StepReplies, counted, dispatches, gave_up}
 use Rattle.ak_desk.specs.Place.{routed_of}
 use Rattle.ak_desk.specs.Replies.{error_field, error_reply, none_reply, reply_with, values_reply}
 use Rattle.ak_desk.specs.Shared.{DeskSeat, HasDispatchedThere, HasGivenUpThere, IsAtDesk, by_number}
 
 -- ---- every list that the machine allows
--- a line stands on the state that those before it leave, and those behind it on the state that it leaves
-pub record StandsBetween (looper : ℕ) (s : DeskState) (before : List LineData) (line : LineData) (behind : List LineData) (t : DeskState) : Type 0 where
+-- an entry stands on the state that those before it leave, and those behind it on the state that it leaves
+pub record StandsBetween (looper : ℕ) (s : DeskState) (before : List EntryData) (entry : EntryData) (behind : List EntryData) (t : DeskState) : Type 0 where
   pub meets : DeskState
   pub leaves : DeskState
   pub before_it : Replays looper 0 s before meets
-  pub step : DeskStep looper (dispatches before) meets line leaves
-  pub behind_it : Replays looper (counted (dispatches before) line.entry.event) leaves behind t
+  pub step : DeskStep looper (dispatches before) meets entry leaves
+  pub behind_it : Replays looper (counted (dispatches before) entry.plain.event) leaves behind t
 
-abbrev pub EachLineFollows : Type 0
-EachLineFollows =
-    (looper : ℕ) (s : DeskState) (before : List LineData) (line : LineData) (behind : List LineData) (t : DeskState)
-    → Replays looper 0 s (before ++ line ∷ behind) t
-    → StandsBetween looper s before line behind t
+abbrev pub EachEntryFollows : Type 0
+EachEntryFollows =
+    (looper : ℕ) (s : DeskState) (before : List EntryData) (entry : EntryData) (behind : List EntryData) (t : DeskState)
+    → Replays looper 0 s (before ++ entry ∷ behind) t
+    → StandsBetween looper s before entry behind t
 
 -- a dispatched message has as its position how many were dispatched before it: from 0 on, without a gap
 abbrev pub PositionsCount : Type 0
 PositionsCount =
-    (looper : ℕ) (s : DeskState) (before : List LineData) (line : LineData) (behind : List LineData) (t : DeskState)
+    (looper : ℕ) (s : DeskState) (before : List EntryData) (entry : EntryData) (behind : List EntryData) (t : DeskState)
     (position : ℕ) (r : EntryRoute) (words : List AnswerWord) (quit : Bool)
-    → Replays looper 0 s (before ++ line ∷ behind) t
-    → line.entry.event ≡ event.Dispatched position r words quit
+    → Replays looper 0 s (before ++ entry ∷ behind) t
+    → entry.plain.event ≡ event.Dispatched position r words quit
     → position ≡ dispatches before
 
 abbrev pub RefusedEditsChangeNothing : Type 0
 RefusedEditsChangeNothing =
-    (looper n : ℕ) (s : DeskState) (line : LineData) (t : DeskState) (e : Edit) (f : HandlerFault)
-    → DeskStep looper n s line t
-    → line.entry.event ≡ event.Edited e (answered.Refused f)
+    (looper n : ℕ) (s : DeskState) (entry : EntryData) (t : DeskState) (e : Edit) (f : HandlerFault)
+    → DeskStep looper n s entry t
+    → entry.plain.event ≡ event.Edited e (answered.Refused f)
     → t ≡ s
 
 -- one list leads from one state to one alone
 abbrev pub StateIsOne : Type 0
 StateIsOne =
-    (looper n : ℕ) (s : DeskState) (lines : List LineData) (t u : DeskState) → Replays looper n s lines t → Replays looper n s lines u → t ≡ u
+    (looper n : ℕ) (s : DeskState) (entries : List EntryData) (t u : DeskState) → Replays looper n s entries t → Replays looper n s entries u → t ≡ u
 
 -- ---- an entry tells what it came to
 -- exactly one reply goes with the entry
@@ -110,7 +110,7 @@ pub record ToldByWord (words : List AnswerWord) (reply : Option MessageData) : T
 abbrev pub ForwardTellsReply : Type 0
 ForwardTellsReply =
     (s : DeskState) (looper : ℕ) (item : ItemData) (words : List AnswerWord) (reply : Option MessageData)
-    → entry.Forward looper ≡ entry_route s (routed_of s item).route
+    → went.Forward looper ≡ entry_route s (routed_of s item).route
     → Replies s item words reply
     → ToldByWord words reply
 
@@ -118,35 +118,35 @@ ForwardTellsReply =
 -- the dispatches are among the entries that its own thread made, and so is the one that was given up
 abbrev pub DispatchesAreOwn : Type 0
 DispatchesAreOwn =
-    (looper : ℕ) (s : DeskState) (lines : List LineData) (t : DeskState)
-    → Replays looper 0 s lines t
-    → (dispatches lines ≡ dispatches (made_by by_number (looper_thread looper) lines)) × (gave_up lines ≡ gave_up (made_by by_number (looper_thread looper) lines))
+    (looper : ℕ) (s : DeskState) (entries : List EntryData) (t : DeskState)
+    → Replays looper 0 s entries t
+    → (dispatches entries ≡ dispatches (made_by by_number (looper_thread looper) entries)) × (gave_up entries ≡ gave_up (made_by by_number (looper_thread looper) entries))
 
 -- ---- a turn of the looper's own thread
 -- a message that is begun and ended between `lock` and `finish` is dispatched there, by what those two say of the seats
 abbrev pub ATurnDispatches : Type 0
 ATurnDispatches =
-    (clock clock' : Clock) (position : ℕ) (item : ItemData) (asked : List Want) (heard : List Answer) (made : Made) (opening before after : DeskState) (lines lines' : List LineData) (seat given seat' : DeskSeat)
-    → HasDispatched clock clock' position item asked heard opening before after lines lines' made
+    (clock clock' : Clock) (position : ℕ) (item : ItemData) (asked : List Want) (heard : List Answer) (made : Made) (opening before after : DeskState) (entries entries' : List EntryData) (seat given seat' : DeskSeat)
+    → HasDispatched clock clock' position item asked heard opening before after entries entries' made
     → seat.turn ≡ false
     → seat.thread ≡ clock.thread.0
     → seat.opening ≡ Some opening
     → IsGiven by_number seat given
-    → lines ≡ given.front
-    → ((line : LineData) → lines' ≡ given.front ++ line ∷ [] → seat' ≡ at_leisure (entered_by given line))
+    → entries ≡ given.front
+    → ((entry : EntryData) → entries' ≡ given.front ++ entry ∷ [] → seat' ≡ at_leisure (entered_by given entry))
     → HasDispatchedThere clock clock' position item asked heard made seat seat' × IsAtDesk seat'
 
 -- so it is with a message that is given up there
 abbrev pub ATurnGivesUp : Type 0
 ATurnGivesUp =
-    (clock clock' : Clock) (position : ℕ) (item : ItemData) (made : Made) (opening state : DeskState) (lines lines' : List LineData) (seat given seat' : DeskSeat)
-    → HasGivenUp clock clock' position item opening state lines lines' made
+    (clock clock' : Clock) (position : ℕ) (item : ItemData) (made : Made) (opening state : DeskState) (entries entries' : List EntryData) (seat given seat' : DeskSeat)
+    → HasGivenUp clock clock' position item opening state entries entries' made
     → seat.turn ≡ false
     → seat.thread ≡ clock.thread.0
     → seat.opening ≡ Some opening
     → IsGiven by_number seat given
-    → lines ≡ given.front
-    → ((line : LineData) → lines' ≡ given.front ++ line ∷ [] → seat' ≡ at_leisure (entered_by given line))
+    → entries ≡ given.front
+    → ((entry : EntryData) → entries' ≡ given.front ++ entry ∷ [] → seat' ≡ at_leisure (entered_by given entry))
     → HasGivenUpThere clock clock' position item made seat seat' × IsAtDesk seat'
 
 -- ---- nothing that fits is left out

@@ -4,8 +4,8 @@ pub mod Desk
 pub mod DeskCode
 pub mod DeskInside
 pub mod Dispatch
+pub mod Entry
 pub mod Laws
-pub mod Line
 pub mod Machine
 pub mod Place
 pub mod Properties

@@ -21,10 +21,10 @@ use Rattle.ak_desk.specs.declared.entry.Edit.TheVariants as edit
 use Rattle.ak_desk.specs.declared.entry.EditAnswer.{EditAnswer}
 use Rattle.ak_desk.specs.declared.entry.EditAnswer.TheVariants as answered
 use Rattle.ak_desk.specs.declared.entry.EntryRoute.{EntryRoute}
-use Rattle.ak_desk.specs.declared.entry.EntryRoute.TheVariants as entry
+use Rattle.ak_desk.specs.declared.entry.EntryRoute.TheVariants as went
 use Rattle.ak_desk.specs.Answering.{AreAnswered}
 use Rattle.ak_desk.specs.Dispatch.{dispatch_of, entry_route}
-use Rattle.ak_desk.specs.Line.{LineData}
+use Rattle.ak_desk.specs.Entry.{EntryData}
 use Rattle.ak_desk.specs.Place.{routed_of}
 use Rattle.ak_desk.specs.Replies.{none_reply}
 
@@ -83,13 +83,13 @@ pub record Replies (s : DeskState) (item : ItemData) (words : List AnswerWord) (
 -- an entry of a dispatch has its item; where there was no memory to begin it has no words, and nothing changes
 abbrev pub DispatchStep : DeskState → EntryRoute → Option ItemData → List AnswerWord → Bool → DeskState → Type 0
 DispatchStep s r None words quit t = ⊥
-DispatchStep s entry.NoMemory (Some item) words quit t = (words ≡ []) × ((quit ≡ false) × (t ≡ s))
+DispatchStep s went.NoMemory (Some item) words quit t = (words ≡ []) × ((quit ≡ false) × (t ≡ s))
 DispatchStep s r (Some item) words quit t = (r ≡ entry_route s (routed_of s item).route) × Dispatches s item words quit t
 
 -- the reply of such an entry; where there was no memory to begin, it is NONE
 abbrev pub StepReplies : DeskState → EntryRoute → Option ItemData → List AnswerWord → Option MessageData → Type 0
 StepReplies s r None words reply = ⊥
-StepReplies s entry.NoMemory (Some item) words reply = reply ≡ Some none_reply
+StepReplies s went.NoMemory (Some item) words reply = reply ≡ Some none_reply
 StepReplies s r (Some item) words reply = Replies s item words reply
 
 -- ---- one entry, of the looper with that number, after so many dispatches
@@ -102,9 +102,9 @@ abbrev pub IsBy : ℕ → ℕ → DeskEvent → Type 0
 IsBy looper by (event.Dispatched _ _ _ _) = by ≡ looper_thread looper
 IsBy looper by (event.Edited _ _) = Unit {0}
 
-pub record DeskStep (looper n : ℕ) (s : DeskState) (line : LineData) (t : DeskState) : Type 0 where
-  pub by : IsBy looper line.entry.by.0 line.entry.event
-  pub event : EventStep n s line.entry.event line.item t
+pub record DeskStep (looper n : ℕ) (s : DeskState) (entry : EntryData) (t : DeskState) : Type 0 where
+  pub by : IsBy looper entry.plain.by.0 entry.plain.event
+  pub event : EventStep n s entry.plain.event entry.item t
 
 -- ---- the whole list
 abbrev pub counted : ℕ → DeskEvent → ℕ
@@ -112,34 +112,34 @@ counted n (event.Dispatched _ _ _ _) = n + 1
 counted n (event.Edited _ _) = n
 
 -- with so many before
-abbrev pub counted_all : ℕ → List LineData → ℕ
+abbrev pub counted_all : ℕ → List EntryData → ℕ
 counted_all n [] = n
-counted_all n (line ∷ lines) = counted_all (counted n line.entry.event) lines
+counted_all n (entry ∷ entries) = counted_all (counted n entry.plain.event) entries
 
 -- how many messages were dispatched
-abbrev pub dispatches : List LineData → ℕ
-dispatches lines = counted_all 0 lines
+abbrev pub dispatches : List EntryData → ℕ
+dispatches entries = counted_all 0 entries
 
 -- from one state, with so many dispatches before, the list leads to another
-abbrev pub Replays : ℕ → ℕ → DeskState → List LineData → DeskState → Type 0
+abbrev pub Replays : ℕ → ℕ → DeskState → List EntryData → DeskState → Type 0
 Replays looper n s [] t = t ≡ s
-Replays looper n s (line ∷ lines) t =
-    (u : DeskState) × (DeskStep looper n s line u × Replays looper (counted n line.entry.event) u lines t)
+Replays looper n s (entry ∷ entries) t =
+    (u : DeskState) × (DeskStep looper n s entry u × Replays looper (counted n entry.plain.event) u entries t)
 
 -- the stamps rise, from past the one before
-abbrev pub StampsRise : ℕ → List LineData → Type 0
+abbrev pub StampsRise : ℕ → List EntryData → Type 0
 StampsRise last [] = Unit {0}
-StampsRise last (line ∷ lines) = (last < line.entry.stamp) × StampsRise line.entry.stamp lines
+StampsRise last (entry ∷ entries) = (last < entry.plain.stamp) × StampsRise entry.plain.stamp entries
 
 -- from that opening the list leads to this state
-pub record IsHistory (opening : DeskState) (lines : List LineData) (state : DeskState) : Type 0 where
-  pub replays : Replays opening.looper 0 opening lines state
-  pub stamps : StampsRise 0 lines
+pub record IsHistory (opening : DeskState) (entries : List EntryData) (state : DeskState) : Type 0 where
+  pub replays : Replays opening.looper 0 opening entries state
+  pub stamps : StampsRise 0 entries
 
 -- ---- there was no memory to begin a dispatch
 abbrev pub gives_up : DeskEvent → Bool
-gives_up (event.Dispatched position entry.NoMemory words quit) = true
+gives_up (event.Dispatched position went.NoMemory words quit) = true
 gives_up _ = false
 
-abbrev pub gave_up : List LineData → Bool
-gave_up lines = list_any (λ line. gives_up line.entry.event) lines
+abbrev pub gave_up : List EntryData → Bool
+gave_up entries = list_any (λ entry. gives_up entry.plain.event) entries

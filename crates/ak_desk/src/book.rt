@@ -1,6 +1,6 @@
 use crate::desk::Desk;
 use crate::ending::last_stamp;
-use crate::entry::{DeskEntry, DeskLine};
+use crate::entry::{DeskEntry, EntryWithItem};
 use ak_action::DeskState;
 use ak_base::NoMemory;
 use ak_turn::Book;
@@ -12,13 +12,13 @@ impl Book for Desk {
 
     type Opening = DeskState;
 
-    type Entry = DeskLine;
+    type Entry = EntryWithItem;
 
     ghost opening = { λ d. d.opening };
 
-    ghost entries = { λ d. d.lines };
+    ghost entries = { λ d. d.entries };
 
-    ghost plain = { λ line. line.entry };
+    ghost plain = { λ entry. entry.plain };
 
     ghost by = { λ entry. entry.by.0 };
 
@@ -27,16 +27,16 @@ impl Book for Desk {
     ghost at_rest = { λ d. d.begun ≡ None };
 
     fn last_stamp(&self) -> u64 {
-        last_stamp(&self.lines)
+        last_stamp(&self.entries)
     }
 
     fn len(&self) -> u64 {
-        self.lines.len() as u64
+        self.entries.len() as u64
     }
 
     fn entry(&self, place: u64) -> Result<Option<DeskEntry>, NoMemory> {
-        match self.lines.get(place as usize) {
-            Some(line) => Ok(Some(line.entry.try_clone(*self.lines.allocator())?)),
+        match self.entries.get(place as usize) {
+            Some(entry) => Ok(Some(entry.plain.try_clone(*self.entries.allocator())?)),
             None => Ok(None),
         }
     }

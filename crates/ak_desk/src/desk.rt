@@ -9,7 +9,7 @@ ghost use Rattle.ak_desk.specs.Place.{loopers_of, routed_of};
 ghost use Rattle.ak_desk.specs.Task.{heard_of, place_in, task_of, want_of, wants, wants_none, MayWant, TakesAnswer};
 
 use crate::built_in::is_own;
-use crate::entry::{DeskLine, EntryRoute};
+use crate::entry::{EntryRoute, EntryWithItem};
 use crate::reserved::{Spare, WordRoom};
 use crate::said::Said;
 use crate::task::Task;
@@ -48,7 +48,7 @@ pub(crate) struct Begun {
 #[derive(Drop)]
 pub struct Desk {
     pub(crate) state: DeskState,
-    pub(crate) lines: Vec<DeskLine>,
+    pub(crate) entries: Vec<EntryWithItem>,
     pub(crate) begun: Option<Begun>,
     opening: Snapshot<DeskState>,
 }
@@ -100,7 +100,7 @@ impl Desk {
         Ok(Desk {
             opening: Snapshot::of(&state),
             state,
-            lines: Vec::with_capacity(alloc, 1)?,
+            entries: Vec::with_capacity(alloc, 1)?,
             begun: None,
         })
     }
@@ -109,7 +109,7 @@ impl Desk {
     /// list makes of the opening. Takes no memory.
     pub fn state(&self) -> &DeskState
         ensures value { result.now ≡ self.now.state }
-        ensures history { self.now.begun ≡ None → IsHistory self.now.opening self.now.lines self.now.state }
+        ensures history { self.now.begun ≡ None → IsHistory self.now.opening self.now.entries self.now.state }
     {
         &self.state
     }
@@ -119,13 +119,13 @@ impl Desk {
     /// list stay as they are, and `want` comes next. `NoMemory` changes nothing; then `give_up` may come.
     pub fn begin(&mut self, taken: &Taken) -> Result<(), NoMemory>
         requires rest { self.old.begun ≡ None }
-        requires position { taken.now.position ≡ dispatches self.old.lines }
+        requires position { taken.now.position ≡ dispatches self.old.entries }
         ensures ok { OnOk result (self.new ≡ begun_with self.old taken.now) }
         ensures goes_on { OnOk result (DeskMayWant self.new) }
         ensures err { OnErr result (self.new ≡ self.old) }
     {
-        let begun = begun_at(*self.lines.allocator(), &self.state, taken)?;
-        self.lines.reserve(2)?;
+        let begun = begun_at(*self.entries.allocator(), &self.state, taken)?;
+        self.entries.reserve(2)?;
         self.begun = Some(begun);
         Ok(())
     }
@@ -137,7 +137,7 @@ impl Desk {
     pub fn want(&mut self) -> Result<Want, NoMemory>
         requires { DeskMayWant self.old }
         ensures opening { self.new.opening ≡ self.old.opening }
-        ensures lines { self.new.lines ≡ self.old.lines }
+        ensures entries { self.new.entries ≡ self.old.entries }
         ensures ok { IfOk result (λ w. Turns (Wants w) self.old self.new) }
         ensures err { OnErr result (Turns Fails self.old self.new) }
         ensures awaits { IfOk result (λ w. DeskAwaits w self.new) }
@@ -147,7 +147,7 @@ impl Desk {
         ak_route::routes_pop_within();
         ak_action::runs_act();
         ak_action::calls_act();
-        let alloc = *self.lines.allocator();
+        let alloc = *self.entries.allocator();
         if let Some(begun) = &mut self.begun {
             return begun.want(alloc, &mut self.state);
         }
@@ -160,13 +160,13 @@ impl Desk {
     pub fn give(&mut self, a: Answer)
         requires { DeskTakes self.old a }
         ensures opening { self.new.opening ≡ self.old.opening }
-        ensures lines { self.new.lines ≡ self.old.lines }
+        ensures entries { self.new.entries ≡ self.old.entries }
         ensures given { Turns (Hears a) self.old self.new }
         ensures goes_on { DeskMayWant self.new }
     {
         ak_action::runs_act();
         ak_action::calls_act();
-        let alloc = *self.lines.allocator();
+        let alloc = *self.entries.allocator();
         if let Some(begun) = &mut self.begun {
             begun.give(alloc, &mut self.state, a);
         }

@@ -21,19 +21,19 @@ impl Desk {
     pub fn edit(&mut self, e: Edit, clock: &mut Clock) -> EditAnswer
         requires rest { self.old.begun ≡ None }
         requires time { clock.old.time < 2 ^ 63 }
-        requires last { stamp_in self.old.lines < 2 ^ 63 }
+        requires last { stamp_in self.old.entries < 2 ^ 63 }
         ensures edits { Edits self.old clock.old e result self.new clock.new }
         ensures added { HasAdded (edit_entry e result) clock.old clock.new self.old self.new }
     {
-        if self.lines.reserve(2).is_err() {
+        if self.entries.reserve(2).is_err() {
             return EditAnswer::NoMemory;
         }
-        let answer = changed(*self.lines.allocator(), &mut self.state.handlers, &e);
+        let answer = changed(*self.entries.allocator(), &mut self.state.handlers, &e);
         if is_no_memory(answer) {
             return answer;
         }
         add(
-            &mut self.lines,
+            &mut self.entries,
             clock,
             DeskEvent::Edited { edit: e, answer },
             None,

@@ -1,10 +1,10 @@
 ghost use Rattle.std.specs.Prelude.{◌≡◌, ◌+◌, ◌++◌, ◌∷◌, ◌<◌, ◌≤◌, ◌^◌, [], true, false, None, Some, is_some, if◌then◌else◌, option_map, vec_len, vec_capacity, IfSome};
 ghost use Rattle.ak_base.specs.Thread.{looper_thread};
-ghost use Rattle.ak_desk.specs.Desk.{line_after, stamp_in, stamp_after};
+ghost use Rattle.ak_desk.specs.Desk.{entry_after, stamp_in, stamp_after};
 ghost use Rattle.ak_desk.specs.Dispatch.{fitting, ran_out};
 
 use crate::desk::{Begun, Desk};
-use crate::entry::{DeskEntry, DeskEvent, DeskLine, EntryRoute};
+use crate::entry::{DeskEntry, DeskEvent, EntryRoute, EntryWithItem};
 use crate::made::Made;
 use crate::replies::none_reply;
 use crate::reserved::Spare;
@@ -29,13 +29,13 @@ impl Desk {
         requires done { DeskIsDone self.old }
         requires looper { clock.old.thread.0 ≡ looper_thread self.old.opening.looper }
         requires time { clock.old.time < 2 ^ 63 }
-        requires last { stamp_in self.old.lines < 2 ^ 63 }
+        requires last { stamp_in self.old.entries < 2 ^ 63 }
         ensures desk { self.new ≡ ended self.old clock.old }
         ensures made { result ≡ made_by self.old.begun }
         ensures clock { clock.new ≡ clock_after self.old clock.old }
         ensures dispatched { IfSome self.old.begun (EndsDispatch clock.old clock.new self.old self.new result) }
     {
-        let alloc = *self.lines.allocator();
+        let alloc = *self.entries.allocator();
         let Some(begun) = self.begun.take() else {
             return Made {
                 reply: None,
@@ -68,7 +68,7 @@ impl Desk {
             answers,
             quit,
         };
-        add(&mut self.lines, clock, event, Some(item));
+        add(&mut self.entries, clock, event, Some(item));
         made(reply, quit, no_memory, spare)
     }
 
@@ -78,24 +78,24 @@ impl Desk {
     /// Takes no memory.
     pub fn give_up(&mut self, taken: &Taken, clock: &mut Clock) -> Made
         requires rest { self.old.begun ≡ None }
-        requires once { gave_up self.old.lines ≡ false }
-        requires position { taken.now.position ≡ dispatches self.old.lines }
+        requires once { gave_up self.old.entries ≡ false }
+        requires position { taken.now.position ≡ dispatches self.old.entries }
         requires looper { clock.old.thread.0 ≡ looper_thread self.old.opening.looper }
         requires time { clock.old.time < 2 ^ 63 }
-        requires last { stamp_in self.old.lines < 2 ^ 63 }
+        requires last { stamp_in self.old.entries < 2 ^ 63 }
         ensures desk { self.new ≡ given_up self.old clock.old taken.now }
         ensures made { result ≡ made_without_memory }
         ensures clock { clock.new ≡ clock_after self.old clock.old }
         ensures given_up { GivesUp clock.old clock.new self.old self.new taken.now result }
     {
-        let alloc = *self.lines.allocator();
+        let alloc = *self.entries.allocator();
         let event = DeskEvent::Dispatched {
             position: taken.position,
             route: EntryRoute::NoMemory,
             answers: Items::from_vec(Vec::new(alloc)),
             quit: false,
         };
-        add(&mut self.lines, clock, event, Some(Snapshot::of(&taken.item)));
+        add(&mut self.entries, clock, event, Some(Snapshot::of(&taken.item)));
         Made {
             reply: Some(none_reply(alloc)),
             forwarded: false,
@@ -105,34 +105,34 @@ impl Desk {
     }
 }
 
-// Adds a line where there is a place for it. Takes no memory.
+// Adds an entry where there is a place for it. Takes no memory.
 pub(crate) fn add(
-    lines: &mut Vec<DeskLine>,
+    entries: &mut Vec<EntryWithItem>,
     clock: &mut Clock,
     event: DeskEvent,
     item: Option<Snapshot<Item>>,
 )
-    requires place { vec_len lines.old < vec_capacity lines.old }
+    requires place { vec_len entries.old < vec_capacity entries.old }
     requires time { clock.old.time < 2 ^ 63 }
-    requires last { stamp_in lines.old.items < 2 ^ 63 }
-    ensures items { lines.new.items
-        ≡ lines.old.items ++ line_after lines.old.items clock.old event (option_map (λ x. x.value) item) ∷ [] }
-    ensures len { vec_len lines.new ≡ vec_len lines.old + 1 }
-    ensures capacity { vec_capacity lines.old ≤ vec_capacity lines.new }
-    ensures clock { clock.new ≡ record clock.old { time = stamp_after lines.old.items clock.old } }
+    requires last { stamp_in entries.old.items < 2 ^ 63 }
+    ensures items { entries.new.items
+        ≡ entries.old.items ++ entry_after entries.old.items clock.old event (option_map (λ x. x.value) item) ∷ [] }
+    ensures len { vec_len entries.new ≡ vec_len entries.old + 1 }
+    ensures capacity { vec_capacity entries.old ≤ vec_capacity entries.new }
+    ensures clock { clock.new ≡ record clock.old { time = stamp_after entries.old.items clock.old } }
 {
-    let entry = DeskEntry {
-        stamp: clock.stamp(last_stamp(lines)),
+    let plain = DeskEntry {
+        stamp: clock.stamp(last_stamp(entries)),
         by: clock.thread,
         event,
     };
-    lines.push(DeskLine { entry, item }).unwrap();
+    entries.push(EntryWithItem { plain, item }).unwrap();
 }
 
-pub(crate) fn last_stamp(lines: &[DeskLine]) -> u64
-    ensures { result ≡ stamp_in lines.now }
+pub(crate) fn last_stamp(entries: &[EntryWithItem]) -> u64
+    ensures { result ≡ stamp_in entries.now }
 {
-    lines.last().map_or(0, |line| line.entry.stamp)
+    entries.last().map_or(0, |entry| entry.plain.stamp)
 }
 
 // Whether the last word tells that memory ran out.

@@ -82,7 +82,7 @@ pub enum DeskEvent {
     },
 }
 
-/// One entry of a desk's list.
+/// What the journal shows of an entry of a desk's list.
 #[derive(Debug, Drop)]
 pub struct DeskEntry {
     /// One more than the greater of the clock's time and the last stamp before it.
@@ -93,22 +93,22 @@ pub struct DeskEntry {
     pub event: DeskEvent,
 }
 
-/// An entry, and of a dispatch the message that it was of, also where there was no memory to begin with it.
-/// Contracts alone see the message.
+/// An entry of a desk's list: what the journal shows of it, and of a dispatch the message that it was of, also
+/// where there was no memory to begin with it. Contracts alone see the message.
 #[derive(Drop)]
-pub struct DeskLine {
-    pub(crate) entry: DeskEntry,
+pub struct EntryWithItem {
+    pub(crate) plain: DeskEntry,
     pub(crate) item: Option<Snapshot<Item>>,
 }
 
-impl Model for DeskLine {
-    ghost use Rattle.ak_desk.specs.Line.{LineData, line_inside, coded_line};
+impl Model for EntryWithItem {
+    ghost use Rattle.ak_desk.specs.Entry.{EntryData, entry_inside, coded_entry};
 
-    ghost Value = { LineData };
+    ghost Value = { EntryData };
 
-    ghost coded = { coded_line };
+    ghost coded = { coded_entry };
 
-    ghost view = { line_inside };
+    ghost view = { entry_inside };
 }
 
 impl Edit {

@@ -2,11 +2,11 @@
 
 ghost use Rattle.ak_desk.specs.Laws as law;
 
-/// What holds of every list that the machine of a desk allows. Each line stands on the state that those before
+/// What holds of every list that the machine of a desk allows. Each entry stands on the state that those before
 /// it leave. A dispatched message has as its position how many were dispatched before it. A refused edit
 /// changes nothing. The opening and the list tell the state.
 pub fn the_list_tells_the_handlers()
-    ensures follows { law.EachLineFollows }
+    ensures follows { law.EachEntryFollows }
     ensures positions { law.PositionsCount }
     ensures refused { law.RefusedEditsChangeNothing }
     ensures one { law.StateIsOne }

@@ -21,7 +21,7 @@ mod shared;
 mod task;
 
 pub use desk::Desk;
-pub use entry::{DeskEntry, DeskEvent, DeskLine, Edit, EditAnswer, EntryRoute};
+pub use entry::{DeskEntry, DeskEvent, Edit, EditAnswer, EntryRoute, EntryWithItem};
 pub use laws::{
     a_turn_dispatches, a_turn_gives_up, an_entry_tells_its_reply, the_dispatches_are_its_own,
     the_list_tells_the_handlers, what_fits_is_told,

@@ -39,10 +39,10 @@ pub fn edit_shared<R: Wait>(
 fn edited(desk: &mut Desk, clock: &mut Clock, e: Edit) -> EditAnswer
     requires rest { desk.old.begun ≡ None }
     requires time { clock.old.time < 2 ^ 63 }
-    requires last { stamp_in desk.old.lines < 2 ^ 63 }
+    requires last { stamp_in desk.old.entries < 2 ^ 63 }
     ensures added { HasAdded (edit_entry e result) clock.old clock.new desk.old desk.new }
     ensures rest { desk.new.begun ≡ None }
-    ensures history { IsHistory desk.new.opening desk.new.lines desk.new.state }
+    ensures history { IsHistory desk.new.opening desk.new.entries desk.new.state }
 {
     let answer = desk.edit(e, clock);
     // Reading the handlers shows that the list leads to them.

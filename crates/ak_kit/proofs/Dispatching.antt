@@ -14,9 +14,9 @@ use Rattle.ak_action.specs.declared.state.DeskState.{DeskState}
 use Rattle.ak_desk.specs.declared.entry.DeskEvent.TheVariants as event
 use Rattle.ak_desk.specs.declared.made.Made.{Made}
 use Rattle.ak_desk.specs.BuiltIns.{built_in_reply}
-use Rattle.ak_desk.specs.Desk.{Asks, BegunData, DeskData, DeskIsDone, Ends, GoesOn, IsCarried, OfBegun, Turns, Wants, begun_at, begun_with, clock_after, ended, ended_event, line_after, made_by, stamp_after, stamp_in}
+use Rattle.ak_desk.specs.Desk.{Asks, BegunData, DeskData, DeskIsDone, Ends, GoesOn, IsCarried, OfBegun, Turns, Wants, begun_at, begun_with, clock_after, ended, ended_event, entry_after, made_by, stamp_after, stamp_in}
 use Rattle.ak_desk.specs.Dispatch.{Came, Dispatch, by_route, came_to, entry_route, fitting}
-use Rattle.ak_desk.specs.Line.{LineData}
+use Rattle.ak_desk.specs.Entry.{EntryData}
 use Rattle.ak_desk.specs.Place.{routed_of}
 use Rattle.ak_desk.specs.Properties.{property_replied}
 use Rattle.ak_desk.specs.Replies.{none_reply, not_understood}
@@ -26,15 +26,15 @@ use Rattle.ak_kit.specs.Messages.{no_reply}
 use Rattle.ak_kit.specs.Run.{came, line_of, reply_of}
 
 -- ---- the last stamp
-at_end : (lines : List LineData) (line : LineData) → slice_get (lines ++ line ∷ []) (length lines) ≡ Some line
+at_end : (lines : List EntryData) (line : EntryData) → slice_get (lines ++ line ∷ []) (length lines) ≡ Some line
 at_end [] line = refl
 at_end (x ∷ lines) line = at_end lines line
 
-stamp_push : (lines : List LineData) (line : LineData) → stamp_in (lines ++ line ∷ []) ≡ line.entry.stamp
+stamp_push : (lines : List EntryData) (line : EntryData) → stamp_in (lines ++ line ∷ []) ≡ line.plain.stamp
 stamp_push lines line =
     let last : length (lines ++ line ∷ []) - 1 ≡ length lines = omega (arith, length_push lines line) in
-    ap (λ (n : ℕ). unwrap_or (option_map (λ (l : LineData). l.entry.stamp) (slice_get (lines ++ line ∷ []) n)) 0) last
-    ∙ ap (λ (o : Option LineData). unwrap_or (option_map (λ (l : LineData). l.entry.stamp) o) 0) (at_end lines line)
+    ap (λ (n : ℕ). unwrap_or (option_map (λ (l : EntryData). l.plain.stamp) (slice_get (lines ++ line ∷ []) n)) 0) last
+    ∙ ap (λ (o : Option EntryData). unwrap_or (option_map (λ (l : EntryData). l.plain.stamp) o) 0) (at_end lines line)
 
 -- ---- what it comes to when it is first wanted
 -- nothing is asked for, and this is the reply
@@ -56,9 +56,9 @@ at_once s m (route.Forward looper) alone = absurd alone
 pub record Carried (d : DeskData) (clock : Clock) (item : ItemData) (e : DeskData) : Type 0 where
   pub done : DeskIsDone e
   pub opening : e.opening ≡ d.opening
-  pub stamp : stamp_in e.lines ≡ clock.time
+  pub stamp : stamp_in e.entries ≡ clock.time
   pub reply : (made_by e.begun).reply ≡ Some (reply_of d.opening item)
-  pub line : (ended e clock).lines ≡ d.lines ++ line_of d.opening clock.time item ∷ []
+  pub line : (ended e clock).entries ≡ d.entries ++ line_of d.opening clock.time item ∷ []
   pub kept : (ended e clock).opening ≡ d.opening
   pub rests : IsResting (ended e clock) (clock_after e clock)
 
@@ -80,11 +80,11 @@ module _ (d : DeskData) (clock : Clock) (item : ItemData) (position : ℕ) (rest
 
   -- the desk after the one want
   abbrev after : Came → DeskState → DeskData
-  after c v = record { opening = d.opening; state = v; lines = d.lines; begun = Some (then c) }
+  after c v = record { opening = d.opening; state = v; entries = d.entries; begun = Some (then c) }
 
-  abbrev new_line : LineData
+  abbrev new_line : EntryData
   new_line = record {
-    entry = record { stamp = clock.time + 1; by = record { 0 = 10000 }; event = event.Dispatched clock.time (entry_route d.state r) (came d.state item).words (came d.state item).quit };
+    plain = record { stamp = clock.time + 1; by = record { 0 = 10000 }; event = event.Dispatched clock.time (entry_route d.state r) (came d.state item).words (came d.state item).quit };
     item = Some item;
   }
 
@@ -97,16 +97,16 @@ module _ (d : DeskData) (clock : Clock) (item : ItemData) (position : ℕ) (rest
   reply_told = ap (λ (o : Option MessageData). unwrap_or (option_map fitting o) no_reply) a.told
 
   module _ (c : Came) (v : DeskState) (is : came d.state item ≡ came_to [] c v) where
-    abbrev added : LineData
-    added = line_after d.lines clock (ended_event (then c)) (Some item)
+    abbrev added : EntryData
+    added = entry_after d.entries clock (ended_event (then c)) (Some item)
 
     same_line : added ≡ new_line
     same_line =
-        let stamp : stamp_after d.lines clock ≡ clock.time + 1 = omega (arith, rests.stamp) in
+        let stamp : stamp_after d.entries clock ≡ clock.time + 1 = omega (arith, rests.stamp) in
         let words : c.words ≡ (came d.state item).words = ap (λ (p : Dispatch). p.words) (sym is) in
         let quit : c.quit ≡ (came d.state item).quit = ap (λ (p : Dispatch). p.quit) (sym is) in
         λ i. record {
-          entry = record { stamp = stamp i; by = record { 0 = rests.thread i }; event = event.Dispatched (place i) (entry_route d.state r) (words i) (quit i) };
+          plain = record { stamp = stamp i; by = record { 0 = rests.thread i }; event = event.Dispatched (place i) (entry_route d.state r) (words i) (quit i) };
           item = Some item;
         }
 
@@ -119,14 +119,14 @@ module _ (d : DeskData) (clock : Clock) (item : ItemData) (position : ℕ) (rest
           opening = refl;
           stamp = rests.stamp;
           reply = ap (λ (o : Option MessageData). option_map fitting o) reply ∙ ap (λ (m : MessageData). Some m) (sym reply_told) ∙ ap (λ (s : DeskState). Some (reply_of s item)) rests.state;
-          line = ap (λ (l : LineData). d.lines ++ l ∷ []) (same_line ∙ sym line_told) ∙ ap (λ (s : DeskState). d.lines ++ line_of s clock.time item ∷ []) rests.state;
+          line = ap (λ (l : EntryData). d.entries ++ l ∷ []) (same_line ∙ sym line_told) ∙ ap (λ (s : DeskState). d.entries ++ line_of s clock.time item ∷ []) rests.state;
           kept = refl;
           rests = record {
             rest = refl;
             state = state ∙ quiet.keeps ∙ rests.state;
-            count = omega (arith, length_push d.lines added, rests.count, rests.stamp);
-            position = omega (arith, counted_push 0 d.lines added, rests.position, rests.stamp);
-            stamp = stamp_push d.lines added;
+            count = omega (arith, length_push d.entries added, rests.count, rests.stamp);
+            position = omega (arith, counted_push 0 d.entries added, rests.position, rests.stamp);
+            stamp = stamp_push d.entries added;
             thread = rests.thread;
             looper = rests.looper;
           };
@@ -146,27 +146,27 @@ module _ (d : DeskData) (clock : Clock) (item : ItemData) (position : ℕ) (rest
   ends_so (want.Ask to m) b v h = asks_none (want.Ask to m) b v h
   ends_so (want.Forward looper popped) b v h = asks_none (want.Forward looper popped) b v h
 
-  by_begun : (w : Want) (o : DeskState) (v : DeskState) (lines : List LineData) (begun : Option BegunData) → o ≡ d.opening → lines ≡ d.lines → OfBegun (λ (b : BegunData). Wants w first d.state b v) begun → Carried d clock item (record { opening = o; state = v; lines = lines; begun = begun })
+  by_begun : (w : Want) (o : DeskState) (v : DeskState) (lines : List EntryData) (begun : Option BegunData) → o ≡ d.opening → lines ≡ d.entries → OfBegun (λ (b : BegunData). Wants w first d.state b v) begun → Carried d clock item (record { opening = o; state = v; entries = lines; begun = begun })
   by_begun w o v lines None opening same h = absurd h
   by_begun w o v lines (Some b) opening same h =
       let ends = ends_so w b v h in
       let is : came d.state item ≡ came_to [] ends.came v = subst (λ (x : BegunData). IsCarried None x v) ends.message ends.carried in
-      let whole : after ends.came v ≡ record { opening = o; state = v; lines = lines; begun = Some b } =
-      λ i. record { opening = sym opening i; state = v; lines = sym same i; begun = Some (sym ends.message i) } in
+      let whole : after ends.came v ≡ record { opening = o; state = v; entries = lines; begun = Some b } =
+      λ i. record { opening = sym opening i; state = v; entries = sym same i; begun = Some (sym ends.message i) } in
       subst (λ (x : DeskData). Carried d clock item x) whole (carried_after ends.came v is)
 
 pub carried
     : (d b e : DeskData) (clock : Clock) (item : ItemData) (position : ℕ) (w : Want) → IsResting d clock → IsQuiet d.opening item → position ≡ clock.time
-    → b ≡ begun_with d (record { position = position; item = item }) → e.opening ≡ b.opening → e.lines ≡ b.lines → Turns (Wants w) b e → Carried d clock item e
+    → b ≡ begun_with d (record { position = position; item = item }) → e.opening ≡ b.opening → e.entries ≡ b.entries → Turns (Wants w) b e → Carried d clock item e
 carried d b e clock item position w rests quiet place begun opening lines turns =
     let here : IsQuiet d.state item = subst (λ (s : DeskState). IsQuiet s item) (sym rests.state) quiet in
-    by_begun d clock item position rests here place w e.opening e.state e.lines e.begun (opening ∙ ap (λ (x : DeskData). x.opening) begun) (lines ∙ ap (λ (x : DeskData). x.lines) begun)
+    by_begun d clock item position rests here place w e.opening e.state e.entries e.begun (opening ∙ ap (λ (x : DeskData). x.opening) begun) (lines ∙ ap (λ (x : DeskData). x.entries) begun)
     (subst (λ (x : DeskData). Turns (Wants w) x e) begun turns)
 
 -- ---- after its end
 pub record Finished (d : DeskData) (clock : Clock) (item : ItemData) (e : DeskData) (later : Clock) (told : MessageData) : Type 0 where
   pub opening : e.opening ≡ d.opening
-  pub line : e.lines ≡ d.lines ++ line_of d.opening clock.time item ∷ []
+  pub line : e.entries ≡ d.entries ++ line_of d.opening clock.time item ∷ []
   pub rests : IsResting e later
   pub reply : told ≡ reply_of d.opening item
 
@@ -177,7 +177,7 @@ finished d e f clock later item m reply c desk_is clock_is made_is is =
     let told : Some (reply_of d.opening item) ≡ Some reply = sym c.reply ∙ ap (λ (x : Made). x.reply) (sym made_is) ∙ is in
     record {
       opening = ap (λ (x : DeskData). x.opening) desk_is ∙ c.kept;
-      line = ap (λ (x : DeskData). x.lines) desk_is ∙ c.line;
+      line = ap (λ (x : DeskData). x.entries) desk_is ∙ c.line;
       rests = subst (λ (x : DeskData). IsResting x later) (sym desk_is) (subst (λ (k : Clock). IsResting (ended e clock) k) (sym clock_is) c.rests);
       reply = cc;
     }

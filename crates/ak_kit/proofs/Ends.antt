@@ -7,7 +7,7 @@ use Rattle.ak_outside.specs.Sink.{AppendsPart}
 use Rattle.ak_outside.proofs.Joins.{Appends-joined}
 use Rattle.std.specs.List.{list_all}
 use Rattle.ak_action.specs.declared.state.DeskState.{DeskState}
-use Rattle.ak_desk.specs.Line.{LineData}
+use Rattle.ak_desk.specs.Entry.{EntryData}
 use Rattle.ak_desk.specs.Machine.{IsHistory}
 use Rattle.ak_kit.specs.Run.{Step, steps_of, lines_of, text_of}
 use Rattle.ak_kit.specs.Steps.{IsFrontOf, MadeBy, Progress, IsCut, IsStopped, Carries}
@@ -36,14 +36,14 @@ nothing_more text old mid new Failed before after =
     subst (Appends old new) (append-nil text) both
 
 -- all steps are done
-pub done_writes : (steps : List Step) (made : List LineData) (old mid new : Option (List ℕ)) (Failed : Type 0) → Progress steps [] made old mid → Closes [] [] mid new Failed
+pub done_writes : (steps : List Step) (made : List EntryData) (old mid new : Option (List ℕ)) (Failed : Type 0) → Progress steps [] made old mid → Closes [] [] mid new Failed
     → (made ≡ lines_of steps) × Appends old new (text_of steps)
 done_writes steps made old mid new Failed carried after =
     let all : steps ≡ carried.done = carried.split ∙ append-nil carried.done in
     (carried.entries ∙ ap lines_of (sym all), nothing_more (text_of steps) old mid new Failed (subst (λ (s : List Step). Appends old mid (text_of s)) (sym all) carried.written) after)
 
 -- a line was cut
-pub cut_writes : (steps : List Step) (made : List LineData) (old mid new : Option (List ℕ)) (Failed : Type 0) → IsCut steps made old mid → Closes [] [] mid new Failed → IsCut steps made old new
+pub cut_writes : (steps : List Step) (made : List EntryData) (old mid new : Option (List ℕ)) (Failed : Type 0) → IsCut steps made old mid → Closes [] [] mid new Failed → IsCut steps made old new
 cut_writes steps made old mid new Failed cut after = record {
   done = cut.done;
   step = cut.step;
@@ -56,16 +56,16 @@ cut_writes steps made old mid new Failed cut after = record {
 }
 
 -- memory ran out
-pub stopped_writes : (steps : List Step) (made : List LineData) (line : List ℕ) (old mid new : Option (List ℕ)) (Failed Failed' : Type 0) → (Failed → Failed') → IsStopped steps made old mid → Closes [] line mid new Failed
+pub stopped_writes : (steps : List Step) (made : List EntryData) (line : List ℕ) (old mid new : Option (List ℕ)) (Failed Failed' : Type 0) → (Failed → Failed') → IsStopped steps made old mid → Closes [] line mid new Failed
     → (done : List Step) × IsFrontOf done steps × MadeBy done made × Closes (text_of done) line old new Failed'
 stopped_writes steps made line old mid new Failed Failed' weaker stopped after =
     (stopped.done, stopped.lines, stopped.count, (after.0, Appends-joined old mid new (text_of stopped.done) (take after.0 line) stopped.written after.1, λ lt. weaker (after.2 lt)))
 
 -- the entries of a run whose line was cut
-pub cut_entries : (steps : List Step) (made : List LineData) (old new : Option (List ℕ)) → IsCut steps made old new → IsFrontOf made (lines_of steps)
+pub cut_entries : (steps : List Step) (made : List EntryData) (old new : Option (List ℕ)) → IsCut steps made old new → IsFrontOf made (lines_of steps)
 cut_entries steps made old new cut =
     let grouped : steps ≡ (cut.done ++ cut.step ∷ []) ++ cut.left = cut.split ∙ sym (append_assoc cut.done (cut.step ∷ []) cut.left) in
-    subst (λ (entries : List LineData). IsFrontOf entries (lines_of steps)) (sym cut.entries) (lines_of cut.left, ap lines_of grouped ∙ map-append (λ s. s.line) (cut.done ++ cut.step ∷ []) cut.left)
+    subst (λ (entries : List EntryData). IsFrontOf entries (lines_of steps)) (sym cut.entries) (lines_of cut.left, ap lines_of grouped ∙ map-append (λ s. s.line) (cut.done ++ cut.step ∷ []) cut.left)
 
 -- ---- the same of a run's own record
 
@@ -74,44 +74,44 @@ same_steps run opening asked same_opening same_asked = ap (λ (s : DeskState). s
 
 pub done_run
     : (run : FirstRun) (opening : DeskState) (asked : List (List ℕ)) (old mid new : Option (List ℕ)) (Failed Failed' : Type 0)
-    → run.desk.opening ≡ opening → run.asked ≡ asked → Progress (steps_of opening asked) [] run.desk.lines old mid → Closes [] [] mid new Failed
+    → run.desk.opening ≡ opening → run.asked ≡ asked → Progress (steps_of opening asked) [] run.desk.entries old mid → Closes [] [] mid new Failed
     → Writes ending.Done (Some run) old new Failed'
 done_run run opening asked old mid new Failed Failed' same_opening same_asked carried after =
     let same = same_steps run opening asked same_opening same_asked in
-    let d = done_writes (steps_of opening asked) run.desk.lines old mid new Failed carried after in
+    let d = done_writes (steps_of opening asked) run.desk.entries old mid new Failed carried after in
     (d.0 ∙ ap lines_of (sym same), subst (λ (s : List Step). Appends old new (text_of s)) (sym same) d.1)
 
 cut_run
     : (run : FirstRun) (opening : DeskState) (asked : List (List ℕ)) (old mid new : Option (List ℕ)) (Failed Failed' : Type 0)
-    → run.desk.opening ≡ opening → run.asked ≡ asked → IsCut (steps_of opening asked) run.desk.lines old mid → Closes [] [] mid new Failed
+    → run.desk.opening ≡ opening → run.asked ≡ asked → IsCut (steps_of opening asked) run.desk.entries old mid → Closes [] [] mid new Failed
     → Writes ending.WriteFault (Some run) old new Failed'
 cut_run run opening asked old mid new Failed Failed' same_opening same_asked cut after =
     let same = same_steps run opening asked same_opening same_asked in
-    subst (λ (s : List Step). IsCut s run.desk.lines old new) (sym same) (cut_writes (steps_of opening asked) run.desk.lines old mid new Failed cut after)
+    subst (λ (s : List Step). IsCut s run.desk.entries old new) (sym same) (cut_writes (steps_of opening asked) run.desk.entries old mid new Failed cut after)
 
 stopped_run
     : (run : FirstRun) (opening : DeskState) (asked : List (List ℕ)) (old mid new : Option (List ℕ)) (Failed Failed' : Type 0) → (Failed → Failed')
-    → run.desk.opening ≡ opening → run.asked ≡ asked → IsStopped (steps_of opening asked) run.desk.lines old mid → Closes [] (closing_line ending.NoMemory) mid new Failed
+    → run.desk.opening ≡ opening → run.asked ≡ asked → IsStopped (steps_of opening asked) run.desk.entries old mid → Closes [] (closing_line ending.NoMemory) mid new Failed
     → Writes ending.NoMemory (Some run) old new Failed'
 stopped_run run opening asked old mid new Failed Failed' weaker same_opening same_asked stopped after =
     let same = same_steps run opening asked same_opening same_asked in
-    subst (λ (s : List Step). ClosesEarly s run.desk.lines old new Failed') (sym same) (stopped_writes (steps_of opening asked) run.desk.lines (closing_line ending.NoMemory) old mid new Failed Failed' weaker stopped after)
+    subst (λ (s : List Step). ClosesEarly s run.desk.entries old new Failed') (sym same) (stopped_writes (steps_of opening asked) run.desk.entries (closing_line ending.NoMemory) old mid new Failed Failed' weaker stopped after)
 
 pub stops_run
     : (e : Stopped) (run : FirstRun) (opening : DeskState) (asked : List (List ℕ)) (old mid new : Option (List ℕ)) (Failed Failed' : Type 0) → (Failed → Failed')
-    → run.desk.opening ≡ opening → run.asked ≡ asked → Carries {A = Unit {0}} (Err e) (steps_of opening asked) run.desk.lines old mid → Closes [] (closing_line (ending_of e)) mid new Failed
+    → run.desk.opening ≡ opening → run.asked ≡ asked → Carries {A = Unit {0}} (Err e) (steps_of opening asked) run.desk.entries old mid → Closes [] (closing_line (ending_of e)) mid new Failed
     → Writes (ending_of e) (Some run) old new Failed'
 stops_run stop.WriteFault run opening asked old mid new Failed Failed' weaker same_opening same_asked cut after = cut_run run opening asked old mid new Failed Failed' same_opening same_asked cut after
 stops_run stop.NoMemory run opening asked old mid new Failed Failed' weaker same_opening same_asked stopped after = stopped_run run opening asked old mid new Failed Failed' weaker same_opening same_asked stopped after
 
 -- ---- the lines of a run
-all_lines : (steps : List Step) (made : List LineData) (old new : Option (List ℕ)) → Progress steps [] made old new → IsFrontOf made (lines_of steps)
+all_lines : (steps : List Step) (made : List EntryData) (old new : Option (List ℕ)) → Progress steps [] made old new → IsFrontOf made (lines_of steps)
 all_lines steps made old new carried =
     let all : steps ≡ carried.done = carried.split ∙ append-nil carried.done in
     let same : made ≡ lines_of steps = carried.entries ∙ ap lines_of (sym all) in
     ([], sym same ∙ sym (append-nil made))
 
-front_of : {A : Type 0} (r : Result A Stopped) (steps : List Step) (made : List LineData) (old new : Option (List ℕ)) → Carries r steps made old new → IsFrontOf made (lines_of steps)
+front_of : {A : Type 0} (r : Result A Stopped) (steps : List Step) (made : List EntryData) (old new : Option (List ℕ)) → Carries r steps made old new → IsFrontOf made (lines_of steps)
 front_of (Ok x) steps made old new carried = all_lines steps made old new carried
 front_of (Err stop.WriteFault) steps made old new cut = cut_entries steps made old new cut
 front_of (Err stop.NoMemory) steps made old new stopped = stopped.entries
@@ -119,13 +119,13 @@ front_of (Err stop.NoMemory) steps made old new stopped = stopped.entries
 pub run_lines
     : {A : Type 0} (r : Result A Stopped) (run : FirstRun) (rows : List (List ℕ × ℤ)) (opening : DeskState) (asked : List (List ℕ)) (old new : Option (List ℕ))
     → run.desk.opening ≡ opening → run.asked ≡ asked → OpensWith rows opening → list_all is_askable asked ≡ true
-    → Carries r (steps_of opening asked) run.desk.lines old new → HasLines run
+    → Carries r (steps_of opening asked) run.desk.entries old new → HasLines run
 run_lines r run rows opening asked old new same_opening same_asked opens askable carried =
-    let front : IsFrontOf run.desk.lines (lines_of (steps_of opening asked)) = front_of r (steps_of opening asked) run.desk.lines old new carried in
+    let front : IsFrontOf run.desk.entries (lines_of (steps_of opening asked)) = front_of r (steps_of opening asked) run.desk.entries old new carried in
     let same = same_steps run opening asked same_opening same_asked in
     record {
-      front = subst (λ (s : List Step). IsFrontOf run.desk.lines (lines_of s)) (sym same) front;
-      history = subst (λ (s : DeskState). IsHistory s run.desk.lines s) (sym same_opening) ((steps_match rows asked opening opens askable).history run.desk.lines front);
+      front = subst (λ (s : List Step). IsFrontOf run.desk.entries (lines_of s)) (sym same) front;
+      history = subst (λ (s : DeskState). IsHistory s run.desk.entries s) (sym same_opening) ((steps_match rows asked opening opens askable).history run.desk.entries front);
     }
 
 -- ---- the run of an input

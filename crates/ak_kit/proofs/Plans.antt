@@ -70,9 +70,9 @@ rests_first d clock is looper thread time =
     record {
       rest = ap (λ (x : DeskData). x.begun) is;
       state = ap (λ (x : DeskData). x.state) is;
-      count = ap (λ (x : DeskData). length x.lines) is ∙ sym time;
-      position = ap (λ (x : DeskData). dispatches x.lines) is ∙ sym time;
-      stamp = ap (λ (x : DeskData). stamp_in x.lines) is ∙ sym time;
+      count = ap (λ (x : DeskData). length x.entries) is ∙ sym time;
+      position = ap (λ (x : DeskData). dispatches x.entries) is ∙ sym time;
+      stamp = ap (λ (x : DeskData). stamp_in x.entries) is ∙ sym time;
       thread = thread;
       looper = looper;
     }

@@ -5,7 +5,7 @@ use Rattle.std.proofs.lemmas.List.Concat.{flat_map-append}
 use Rattle.std.proofs.Math.Seq.{drop-cons}
 use Rattle.std.specs.Io.KnownBytes.{Appends}
 use Rattle.ak_outside.proofs.Joins.{Appends-joined}
-use Rattle.ak_desk.specs.Line.{LineData}
+use Rattle.ak_desk.specs.Entry.{EntryData}
 use Rattle.ak_kit.specs.declared.stopped.Stopped.{Stopped}
 use Rattle.ak_kit.specs.declared.stopped.Stopped.TheVariants as stop
 use Rattle.std.specs.List.{list_all}
@@ -23,31 +23,31 @@ text_push : (done : List Step) (step : Step) → text_of (done ++ step ∷ []) �
 text_push done step = flat_map-append (λ s. s.text) done (step ∷ []) ∙ ap (λ (text : List ℕ). text_of done ++ text) (append-nil step.text)
 
 -- nothing is done yet
-pub begun : (steps : List Step) (made : List LineData) (given : Option (List ℕ)) → made ≡ [] → Progress steps steps made given given
+pub begun : (steps : List Step) (made : List EntryData) (given : Option (List ℕ)) → made ≡ [] → Progress steps steps made given given
 begun steps made given none = record { done = []; split = refl; entries = none; written = Appends-nothing given }
 
 -- one more step is done
-pub goes_on : (steps : List Step) (step : Step) (left : List Step) (made more : List LineData) (old mid new : Option (List ℕ)) → Progress steps (step ∷ left) made old mid
+pub goes_on : (steps : List Step) (step : Step) (left : List Step) (made more : List EntryData) (old mid new : Option (List ℕ)) → Progress steps (step ∷ left) made old mid
     → AddsLine step made more → Appends mid new step.text → Progress steps left more old new
 goes_on steps step left made more old mid new so_far entry line = record {
   done = so_far.done ++ step ∷ [];
   split = so_far.split ∙ sym (append_assoc so_far.done (step ∷ []) left);
-  entries = entry ∙ ap (λ (entries : List LineData). entries ++ step.line ∷ []) so_far.entries ∙ sym (map_push (λ s. s.line) so_far.done step);
+  entries = entry ∙ ap (λ (entries : List EntryData). entries ++ step.line ∷ []) so_far.entries ∙ sym (map_push (λ s. s.line) so_far.done step);
   written = subst (Appends old new) (sym (text_push so_far.done step)) (Appends-joined old mid new (text_of so_far.done) step.text so_far.written line);
 }
 
 front_of_entries : (steps done left : List Step) → steps ≡ done ++ left → IsFrontOf (lines_of done) (lines_of steps)
 front_of_entries steps done left split = (lines_of left, ap lines_of split ∙ map-append (λ s. s.line) done left)
 
-stopped_entries : (steps : List Step) (step : Step) (left : List Step) (made more : List LineData) (old mid : Option (List ℕ)) → Progress steps (step ∷ left) made old mid
+stopped_entries : (steps : List Step) (step : Step) (left : List Step) (made more : List EntryData) (old mid : Option (List ℕ)) → Progress steps (step ∷ left) made old mid
     → (more ≡ made) ⊎ AddsLine step made more → IsFrontOf more (lines_of steps)
 stopped_entries steps step left made more old mid so_far (inl same) =
-    subst (λ (entries : List LineData). IsFrontOf entries (lines_of steps)) (sym (same ∙ so_far.entries)) (front_of_entries steps so_far.done (step ∷ left) so_far.split)
+    subst (λ (entries : List EntryData). IsFrontOf entries (lines_of steps)) (sym (same ∙ so_far.entries)) (front_of_entries steps so_far.done (step ∷ left) so_far.split)
 stopped_entries steps step left made more old mid so_far (inr entry) =
-    let with_step : more ≡ lines_of (so_far.done ++ step ∷ []) = entry ∙ ap (λ (entries : List LineData). entries ++ step.line ∷ []) so_far.entries ∙ sym (map_push (λ s. s.line) so_far.done step) in
-    subst (λ (entries : List LineData). IsFrontOf entries (lines_of steps)) (sym with_step) (front_of_entries steps (so_far.done ++ step ∷ []) left (so_far.split ∙ sym (append_assoc so_far.done (step ∷ []) left)))
+    let with_step : more ≡ lines_of (so_far.done ++ step ∷ []) = entry ∙ ap (λ (entries : List EntryData). entries ++ step.line ∷ []) so_far.entries ∙ sym (map_push (λ s. s.line) so_far.done step) in
+    subst (λ (entries : List EntryData). IsFrontOf entries (lines_of steps)) (sym with_step) (front_of_entries steps (so_far.done ++ step ∷ []) left (so_far.split ∙ sym (append_assoc so_far.done (step ∷ []) left)))
 
-stopped_count : (steps : List Step) (step : Step) (left : List Step) (made more : List LineData) (old mid : Option (List ℕ)) → (so_far : Progress steps (step ∷ left) made old mid)
+stopped_count : (steps : List Step) (step : Step) (left : List Step) (made more : List EntryData) (old mid : Option (List ℕ)) → (so_far : Progress steps (step ∷ left) made old mid)
     → (more ≡ made) ⊎ AddsLine step made more → MadeBy so_far.done more
 stopped_count steps step left made more old mid so_far (inl same) =
     let count : length made ≡ length so_far.done = ap length so_far.entries ∙ length-map so_far.done (λ s. s.line) in
@@ -58,14 +58,14 @@ stopped_count steps step left made more old mid so_far (inr entry) =
     (omega (arith, count, more_by_one), omega (arith, count, more_by_one))
 
 -- the run ends at a step that was not done whole
-pub ends : (e : Stopped) (steps : List Step) (step : Step) (left : List Step) (made more : List LineData) (old mid new : Option (List ℕ)) → Progress steps (step ∷ left) made old mid
+pub ends : (e : Stopped) (steps : List Step) (step : Step) (left : List Step) (made more : List EntryData) (old mid new : Option (List ℕ)) → Progress steps (step ∷ left) made old mid
     → DoesStep {A = Unit {0}} (Err e) step made more mid new → Carries {A = Unit {0}} (Err e) steps more old new
 ends stop.WriteFault steps step left made more old mid new so_far (entry, part) = record {
   done = so_far.done;
   step = step;
   left = left;
   split = so_far.split;
-  entries = entry ∙ ap (λ (entries : List LineData). entries ++ step.line ∷ []) so_far.entries ∙ sym (map_push (λ s. s.line) so_far.done step);
+  entries = entry ∙ ap (λ (entries : List EntryData). entries ++ step.line ∷ []) so_far.entries ∙ sym (map_push (λ s. s.line) so_far.done step);
   part = part.0;
   short = part.1;
   written = Appends-joined old mid new (text_of so_far.done) (take part.0 step.text) so_far.written part.2;
@@ -88,7 +88,7 @@ next_hey s kept asked i slot property lt is same at =
     one ∙ ap (λ (x : Step). x ∷ hey_steps s (i + 1) (drop (i + 1) asked)) step
 
 -- after the last step
-pub is_done : (s : DeskState) (steps : List Step) (asked : List (List ℕ)) (i : ℕ) (made : List LineData) (old new : Option (List ℕ)) → length asked ≤ i → Progress steps (hey_steps s i (drop i asked)) made old new
+pub is_done : (s : DeskState) (steps : List Step) (asked : List (List ℕ)) (i : ℕ) (made : List EntryData) (old new : Option (List ℕ)) → length asked ≤ i → Progress steps (hey_steps s i (drop i asked)) made old new
     → Progress steps [] made old new
 is_done s steps asked i made old new le so_far = subst (λ (left : List (List ℕ)). Progress steps (hey_steps s i left) made old new) (drop_all i asked le) so_far
 

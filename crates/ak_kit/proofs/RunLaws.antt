@@ -21,7 +21,7 @@ use Rattle.ak_desk.specs.declared.entry.EntryRoute.TheVariants as entry
 use Rattle.ak_desk.specs.declared.entry.DeskEvent.TheVariants as event
 use Rattle.ak_desk.specs.Answering.{AreAnswered}
 use Rattle.ak_desk.specs.Dispatch.{Dispatch, entry_route, fitting}
-use Rattle.ak_desk.specs.Line.{LineData}
+use Rattle.ak_desk.specs.Entry.{EntryData}
 use Rattle.ak_desk.specs.Machine.{DeskStep, DispatchStep, Dispatches, IsHistory, Replays, StampsRise}
 use Rattle.ak_desk.specs.Place.{routed_of}
 use Rattle.ak_kit.specs.Dispatched.{IsQuiet}
@@ -39,11 +39,11 @@ use Rattle.ak_kit.proofs.Words.{both_true}
 pub quiet_from : (s : DeskState) (item : ItemData) (r : EntryRoute) (reply : MessageData) → Came s item r reply → IsQuiet s item
 quiet_from s item r reply c = record { alone = c.alone; keeps = ap (λ (d : Dispatch). d.state) c.dispatch_is }
 
-line_from : (s : DeskState) (position : ℕ) (item : ItemData) (r : EntryRoute) (reply : MessageData) → Came s item r reply → line_of s position item ≡ record { entry = entry_at position r; item = Some item }
+line_from : (s : DeskState) (position : ℕ) (item : ItemData) (r : EntryRoute) (reply : MessageData) → Came s item r reply → line_of s position item ≡ record { plain = entry_at position r; item = Some item }
 unfolding line_of
 line_from s position item r reply c =
-    ap (λ (x : EntryRoute). record { entry = record { stamp = position + 1; by = record { 0 = 10000 }; event = event.Dispatched position x (came s item).words (came s item).quit }; item = Some item }) c.route_is
-    ∙ ap (λ (d : Dispatch). record { entry = record { stamp = position + 1; by = record { 0 = 10000 }; event = event.Dispatched position r d.words d.quit }; item = Some item }) c.dispatch_is
+    ap (λ (x : EntryRoute). record { plain = record { stamp = position + 1; by = record { 0 = 10000 }; event = event.Dispatched position x (came s item).words (came s item).quit }; item = Some item }) c.route_is
+    ∙ ap (λ (d : Dispatch). record { plain = record { stamp = position + 1; by = record { 0 = 10000 }; event = event.Dispatched position r d.words d.quit }; item = Some item }) c.dispatch_is
 
 reply_from : (s : DeskState) (item : ItemData) (r : EntryRoute) (reply : MessageData) → Came s item r reply → reply_of s item ≡ reply
 unfolding reply_of
@@ -68,13 +68,13 @@ hey_lines_told rows s slot [] opens askable = refl
 hey_lines_told rows s slot (word ∷ asked) opens askable =
     let parts = both_true (is_askable word) (list_all is_askable asked) askable in
     let one = line_from s (slot + 1) (get_item slot word) _ _ (word_came opens.0 opens.1 rows s slot word opens.2 parts.0) in
-    ap (λ (line : LineData). line ∷ lines_of (hey_steps s (slot + 1) asked)) one
-    ∙ ap (λ (lines : List LineData). (record { entry = entry_at (slot + 1) (route_to (value_of_row rows word)); item = Some (get_item slot word) }) ∷ lines) (hey_lines_told rows s (slot + 1) asked opens parts.1)
+    ap (λ (line : EntryData). line ∷ lines_of (hey_steps s (slot + 1) asked)) one
+    ∙ ap (λ (lines : List EntryData). (record { plain = entry_at (slot + 1) (route_to (value_of_row rows word)); item = Some (get_item slot word) }) ∷ lines) (hey_lines_told rows s (slot + 1) asked opens parts.1)
 
 all_lines_told : (rows : List (List ℕ × ℤ)) (s : DeskState) (asked : List (List ℕ)) → OpensWith rows s → list_all is_askable asked ≡ true → lines_of (steps_of s asked) ≡ lines_told rows asked
 all_lines_told rows s asked opens askable =
-    ap (λ (line : LineData). line ∷ lines_of (hey_steps s 0 asked)) (line_from s 0 ready_item (entry.To 0) no_reply (launch_came opens.0 opens.1 rows s opens.2))
-    ∙ ap (λ (lines : List LineData). (record { entry = entry_at 0 (entry.To 0); item = Some ready_item }) ∷ lines) (hey_lines_told rows s 0 asked opens askable)
+    ap (λ (line : EntryData). line ∷ lines_of (hey_steps s 0 asked)) (line_from s 0 ready_item (entry.To 0) no_reply (launch_came opens.0 opens.1 rows s opens.2))
+    ∙ ap (λ (lines : List EntryData). (record { plain = entry_at 0 (entry.To 0); item = Some ready_item }) ∷ lines) (hey_lines_told rows s 0 asked opens askable)
 
 -- ---- the machine
 never : (s : DeskState) (r : Route) → entry_route s r ≡ entry.NoMemory → ⊥
@@ -106,41 +106,41 @@ dispatch_step s item entry.NotUnderstood reply c = (sym c.route_is, dispatches_s
 dispatch_step s item (entry.Forward looper) reply c = (sym c.route_is, dispatches_so s item (entry.Forward looper) reply c)
 dispatch_step s item entry.NoMemory reply c = absurd (never s (routed_of s item).route c.route_is)
 
-desk_step : (s : DeskState) (item : ItemData) (r : EntryRoute) (reply : MessageData) (n : ℕ) → s.looper ≡ 0 → Came s item r reply → DeskStep s.looper n s (record { entry = entry_at n r; item = Some item }) s
+desk_step : (s : DeskState) (item : ItemData) (r : EntryRoute) (reply : MessageData) (n : ℕ) → s.looper ≡ 0 → Came s item r reply → DeskStep s.looper n s (record { plain = entry_at n r; item = Some item }) s
 desk_step s item r reply n first c = record { by = omega (arith, first); event = (refl, dispatch_step s item r reply c) }
 
-same_head : (x y : LineData) (xs ys : List LineData) → x ∷ xs ≡ y ∷ ys → x ≡ y
+same_head : (x y : EntryData) (xs ys : List EntryData) → x ∷ xs ≡ y ∷ ys → x ≡ y
 same_head x y xs ys e = cc
 
-same_tail : (x y : LineData) (xs ys : List LineData) → x ∷ xs ≡ y ∷ ys → xs ≡ ys
+same_tail : (x y : EntryData) (xs ys : List EntryData) → x ∷ xs ≡ y ∷ ys → xs ≡ ys
 same_tail x y xs ys e = cc
 
 -- the lines of any front of the words replay, and their stamps rise
 hey_replays
-    : (rows : List (List ℕ × ℤ)) (s : DeskState) (slot : ℕ) (asked : List (List ℕ)) (front : List LineData) → OpensWith rows s → list_all is_askable asked ≡ true → IsFrontOf front (lines_from rows slot asked)
+    : (rows : List (List ℕ × ℤ)) (s : DeskState) (slot : ℕ) (asked : List (List ℕ)) (front : List EntryData) → OpensWith rows s → list_all is_askable asked ≡ true → IsFrontOf front (lines_from rows slot asked)
     → Replays s.looper (slot + 1) s front s × StampsRise (slot + 1) front
 hey_replays rows s slot asked [] opens askable of = (refl, tt)
 hey_replays rows s slot [] (line ∷ front) opens askable (rest, e) = absurd cc
 hey_replays rows s slot (word ∷ asked) (line ∷ front) opens askable (rest, e) =
     let parts = both_true (is_askable word) (list_all is_askable asked) askable in
     let r : EntryRoute = route_to (value_of_row rows word) in
-    let told : LineData = record { entry = entry_at (slot + 1) r; item = Some (get_item slot word) } in
+    let told : EntryData = record { plain = entry_at (slot + 1) r; item = Some (get_item slot word) } in
     let head = same_head told line (lines_from rows (slot + 1) asked) (front ++ rest) e in
     let tail = same_tail told line (lines_from rows (slot + 1) asked) (front ++ rest) e in
     let later = hey_replays rows s (slot + 1) asked front opens parts.1 (rest, tail) in
     let step = desk_step s (get_item slot word) r _ (slot + 1) opens.2.looper_is (word_came opens.0 opens.1 rows s slot word opens.2 parts.0) in
-    subst (λ (l : LineData). Replays s.looper (slot + 1) s (l ∷ front) s × StampsRise (slot + 1) (l ∷ front)) head
+    subst (λ (l : EntryData). Replays s.looper (slot + 1) s (l ∷ front) s × StampsRise (slot + 1) (l ∷ front)) head
     ((s, (step, later.0)), (omega arith, later.1))
 
-told_history : (rows : List (List ℕ × ℤ)) (s : DeskState) (asked : List (List ℕ)) (front : List LineData) → OpensWith rows s → list_all is_askable asked ≡ true → IsFrontOf front (lines_told rows asked) → IsHistory s front s
+told_history : (rows : List (List ℕ × ℤ)) (s : DeskState) (asked : List (List ℕ)) (front : List EntryData) → OpensWith rows s → list_all is_askable asked ≡ true → IsFrontOf front (lines_told rows asked) → IsHistory s front s
 told_history rows s asked [] opens askable of = record { replays = refl; stamps = tt }
 told_history rows s asked (line ∷ front) opens askable (rest, e) =
-    let told : LineData = record { entry = entry_at 0 (entry.To 0); item = Some ready_item } in
+    let told : EntryData = record { plain = entry_at 0 (entry.To 0); item = Some ready_item } in
     let head = same_head told line (lines_from rows 0 asked) (front ++ rest) e in
     let tail = same_tail told line (lines_from rows 0 asked) (front ++ rest) e in
     let later = hey_replays rows s 0 asked front opens askable (rest, tail) in
     let step = desk_step s ready_item (entry.To 0) no_reply 0 opens.2.looper_is (launch_came opens.0 opens.1 rows s opens.2) in
-    subst (λ (l : LineData). IsHistory s (l ∷ front) s) head (record { replays = (s, (step, later.0)); stamps = (omega arith, later.1) })
+    subst (λ (l : EntryData). IsHistory s (l ∷ front) s) head (record { replays = (s, (step, later.0)); stamps = (omega arith, later.1) })
 
 -- ---- the text
 printed : (value : Option ℤ) → reply_text_line (answer value) ≡ codes "reply " ++ reply_words value ++ 10 ∷ []
@@ -214,5 +214,5 @@ steps_match rows asked s opens askable =
       lines = told;
       replies = record { launch = launch_reply rows s opens; words = λ slot word can. word_reply rows s slot word opens can };
       text = step_lines rows s asked opens askable;
-      history = λ front of. told_history rows s asked front opens askable (subst (λ (lines : List LineData). IsFrontOf front lines) told of);
+      history = λ front of. told_history rows s asked front opens askable (subst (λ (lines : List EntryData). IsFrontOf front lines) told of);
     }

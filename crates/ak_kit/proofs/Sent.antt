@@ -6,7 +6,7 @@ use Rattle.ak_flatten.specs.declared.item.Duty.TheVariants as duty
 use Rattle.ak_flatten.specs.Item.{ItemData}
 use Rattle.ak_flatten.specs.Spelling.{spelling}
 use Rattle.ak_action.specs.declared.state.DeskState.{DeskState}
-use Rattle.ak_desk.specs.Line.{LineData}
+use Rattle.ak_desk.specs.Entry.{EntryData}
 use Rattle.ak_kit.specs.Dispatched.{IsQuiet}
 use Rattle.ak_kit.specs.FirstInput.{is_askable}
 use Rattle.ak_kit.specs.Messages.{answer, get_of, ready_to_run}
@@ -38,7 +38,7 @@ word_is_answered s slot word item reply is made (rows, opens) askable =
     let same : reply ≡ answer (value_of_row rows word) = is ∙ ap (λ (x : ItemData). reply_of s x) made ∙ word_reply rows s slot word opens askable in
     subst IsAnswer (sym same) (an_answer (value_of_row rows word))
 
-pub word_line : (s : DeskState) (time slot : ℕ) (word : List ℕ) (item : ItemData) (old new : List LineData) → 1 ≤ time → slot ≡ time - 1 → item ≡ get_item slot word → new ≡ old ++ line_of s time item ∷ [] → AddsLine (hey_step s (time - 1) word) old new
+pub word_line : (s : DeskState) (time slot : ℕ) (word : List ℕ) (item : ItemData) (old new : List EntryData) → 1 ≤ time → slot ≡ time - 1 → item ≡ get_item slot word → new ≡ old ++ line_of s time item ∷ [] → AddsLine (hey_step s (time - 1) word) old new
 word_line s time slot word item old new begun is made added =
     let place : time ≡ (time - 1) + 1 = omega (arith, begun) in
     added ∙ ap (λ (x : ItemData). old ++ line_of s time x ∷ []) (made ∙ ap (λ (n : ℕ). get_item n word) is) ∙ ap (λ (n : ℕ). old ++ line_of s n (get_item (time - 1) word) ∷ []) place
@@ -57,7 +57,7 @@ launch_item m item is made = made ∙ ap (λ (x : MessageData). item_of duty.Non
 pub launch_is_quiet : (s : DeskState) (item : ItemData) → item ≡ ready_item → IsOpening s → IsQuiet s item
 launch_is_quiet s item is opens = subst (λ (x : ItemData). IsQuiet s x) (sym is) (launch_quiet s opens)
 
-pub launch_line : (s : DeskState) (time : ℕ) (item : ItemData) (old new : List LineData) → time ≡ 0 → item ≡ ready_item → new ≡ old ++ line_of s time item ∷ [] → AddsLine (launch_step s) old new
+pub launch_line : (s : DeskState) (time : ℕ) (item : ItemData) (old new : List EntryData) → time ≡ 0 → item ≡ ready_item → new ≡ old ++ line_of s time item ∷ [] → AddsLine (launch_step s) old new
 launch_line s time item old new begins made added =
     added ∙ ap (λ (x : ItemData). old ++ line_of s time x ∷ []) made ∙ ap (λ (n : ℕ). old ++ line_of s n ready_item ∷ []) begins
 

@@ -35,8 +35,8 @@ pub record IsQuiet (s : DeskState) (item : ItemData) : Type 0 where
 pub record IsResting (d : DeskData) (clock : Clock) : Type 0 where
   pub rest : d.begun ≡ None
   pub state : d.state ≡ d.opening
-  pub count : length d.lines ≡ clock.time
-  pub position : dispatches d.lines ≡ clock.time
-  pub stamp : stamp_in d.lines ≡ clock.time
+  pub count : length d.entries ≡ clock.time
+  pub position : dispatches d.entries ≡ clock.time
+  pub stamp : stamp_in d.entries ≡ clock.time
   pub thread : clock.thread.0 ≡ looper_thread 0
   pub looper : d.opening.looper ≡ 0

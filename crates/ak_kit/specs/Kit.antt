@@ -5,7 +5,7 @@ use Rattle.ak_base.specs.declared.ending.Ending.{Ending}
 use Rattle.ak_base.specs.declared.ending.Ending.TheVariants as ending
 use Rattle.ak_base.specs.declared.ending.RefusalKind.TheVariants as kind
 use Rattle.ak_message.specs.Limits.{input_limit}
-use Rattle.ak_desk.specs.Line.{LineData}
+use Rattle.ak_desk.specs.Entry.{EntryData}
 use Rattle.ak_desk.specs.Machine.{IsHistory}
 use Rattle.ak_kit.specs.declared.stopped.Stopped.{Stopped}
 use Rattle.ak_kit.specs.declared.stopped.Stopped.TheVariants as stop
@@ -99,8 +99,8 @@ run_steps run = steps_of run.desk.opening run.asked
 -- the desk's list is the lines of the script's first steps, and its machine allows it: from the opening on it replays, to handlers
 -- that are as they began
 pub record HasLines (run : FirstRun) : Type 0 where
-  pub front : IsFrontOf run.desk.lines (lines_of (run_steps run))
-  pub history : IsHistory run.desk.opening run.desk.lines run.desk.opening
+  pub front : IsFrontOf run.desk.entries (lines_of (run_steps run))
+  pub history : IsHistory run.desk.opening run.desk.entries run.desk.opening
 
 -- ---- what is written
 
@@ -109,15 +109,15 @@ abbrev pub Closes : List ℕ → List ℕ → Option (List ℕ) → Option (List
 Closes before line old new Failed = (n : ℕ) × Appends old new (before ++ take n line) × (n < length line → Failed)
 
 -- the texts of some first steps, whose lines the desk has, and then that there is no memory
-abbrev pub ClosesEarly : List Step → List LineData → Option (List ℕ) → Option (List ℕ) → Type 0 → Type 0
+abbrev pub ClosesEarly : List Step → List EntryData → Option (List ℕ) → Option (List ℕ) → Type 0 → Type 0
 ClosesEarly steps made old new Failed = (done : List Step) × IsFrontOf done steps × MadeBy done made × Closes (text_of done) (closing_line ending.NoMemory) old new Failed
 
 -- What is written at each ending: the whole text, a front of it, some of its first lines and the closing line, or the closing line
 -- alone. The desk of a run that is done has every line.
 abbrev pub Writes : Ending → Option FirstRun → Option (List ℕ) → Option (List ℕ) → Type 0 → Type 0
-Writes ending.Done (Some run) old new Failed = (run.desk.lines ≡ lines_of (run_steps run)) × Appends old new (text_of (run_steps run))
-Writes ending.WriteFault (Some run) old new Failed = IsCut (run_steps run) run.desk.lines old new
-Writes ending.NoMemory (Some run) old new Failed = ClosesEarly (run_steps run) run.desk.lines old new Failed
+Writes ending.Done (Some run) old new Failed = (run.desk.entries ≡ lines_of (run_steps run)) × Appends old new (text_of (run_steps run))
+Writes ending.WriteFault (Some run) old new Failed = IsCut (run_steps run) run.desk.entries old new
+Writes ending.NoMemory (Some run) old new Failed = ClosesEarly (run_steps run) run.desk.entries old new Failed
 Writes ending.NoMemory None old new Failed = Closes [] (closing_line ending.NoMemory) old new Failed
 Writes ending.Usage None old new Failed = Closes [] (closing_line ending.Usage) old new Failed
 Writes (ending.Refused line reason) None old new Failed = Closes [] (closing_line (ending.Refused line reason)) old new Failed

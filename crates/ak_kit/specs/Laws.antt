@@ -9,7 +9,7 @@ use Rattle.ak_desk.specs.declared.entry.DeskEntry.{DeskEntry}
 use Rattle.ak_desk.specs.declared.entry.DeskEvent.TheVariants as event
 use Rattle.ak_desk.specs.declared.entry.EntryRoute.{EntryRoute}
 use Rattle.ak_desk.specs.declared.entry.EntryRoute.TheVariants as entry
-use Rattle.ak_desk.specs.Line.{LineData}
+use Rattle.ak_desk.specs.Entry.{EntryData}
 use Rattle.ak_desk.specs.Machine.{IsHistory}
 use Rattle.ak_kit.specs.FirstInput.{Script, IsFirstInput, is_askable}
 use Rattle.ak_kit.specs.Messages.{get_of, ready_to_run, no_reply, not_understood, value_reply, answer}
@@ -33,15 +33,15 @@ abbrev pub entry_at : ℕ → EntryRoute → DeskEntry
 entry_at position r = record { stamp = position + 1; by = record { 0 = looper_thread 0 }; event = event.Dispatched position r [] false }
 
 -- the message that gets each word, the first one owed to that slot
-abbrev pub lines_from : List (List ℕ × ℤ) → ℕ → List (List ℕ) → List LineData
+abbrev pub lines_from : List (List ℕ × ℤ) → ℕ → List (List ℕ) → List EntryData
 lines_from rows slot [] = []
 lines_from rows slot (word ∷ asked) =
-    (record { entry = entry_at (slot + 1) (route_to (value_of_row rows word)); item = Some (get_item slot word) })
+    (record { plain = entry_at (slot + 1) (route_to (value_of_row rows word)); item = Some (get_item slot word) })
     ∷ lines_from rows (slot + 1) asked
 
 -- the launch's message comes first, and then the message that gets each word, in order: the positions are 0, 1, 2, .. without a gap
-abbrev pub lines_told : List (List ℕ × ℤ) → List (List ℕ) → List LineData
-lines_told rows asked = (record { entry = entry_at 0 (entry.To 0); item = Some ready_item }) ∷ lines_from rows 0 asked
+abbrev pub lines_told : List (List ℕ × ℤ) → List (List ℕ) → List EntryData
+lines_told rows asked = (record { plain = entry_at 0 (entry.To 0); item = Some ready_item }) ∷ lines_from rows 0 asked
 
 -- ---- replies
 -- of a looper that begins with these properties: its reply to the launch is none, and to a word it is the property's value, or that the
@@ -70,7 +70,7 @@ pub record AreSteps (rows : List (List ℕ × ℤ)) (asked : List (List ℕ)) (s
   pub replies : Replies rows s
   pub text : AreLines rows asked (text_of (steps_of s asked))
   -- the machine allows each front of the list, and it leaves the handlers as they began
-  pub history : (front : List LineData) → IsFrontOf front (lines_of (steps_of s asked)) → IsHistory s front s
+  pub history : (front : List EntryData) → IsFrontOf front (lines_of (steps_of s asked)) → IsHistory s front s
 
 -- the steps of a script are what its properties and its words say
 abbrev pub StepsMatch : Type 0

@@ -12,7 +12,7 @@ use Rattle.ak_flatten.specs.Spelling.{spelling}
 use Rattle.ak_action.specs.declared.state.DeskState.{DeskState}
 use Rattle.ak_desk.specs.declared.entry.DeskEvent.TheVariants as event
 use Rattle.ak_desk.specs.Dispatch.{Dispatch, dispatch_of, entry_route, fitting}
-use Rattle.ak_desk.specs.Line.{LineData}
+use Rattle.ak_desk.specs.Entry.{EntryData}
 use Rattle.ak_desk.specs.Place.{routed_of}
 use Rattle.ak_kit.specs.Messages.{get_of, no_reply, ready_to_run}
 
@@ -35,10 +35,10 @@ abbrev pub came : DeskState → ItemData → Dispatch
 came s item = dispatch_of s item [] None
 
 -- the line of the message at that position, dispatched by the looper's thread, in that state
-unfoldable pub line_of : DeskState → ℕ → ItemData → LineData
+unfoldable pub line_of : DeskState → ℕ → ItemData → EntryData
 line_of s position item =
     record {
-      entry = record {
+      plain = record {
         stamp = position + 1;
         by = record { 0 = looper_thread 0 };
         event = event.Dispatched position (entry_route s (routed_of s item).route) (came s item).words (came s item).quit;
@@ -52,7 +52,7 @@ reply_of s item = unwrap_or (option_map fitting (came s item).reply) no_reply
 
 -- ---- the steps
 pub record Step : Type 0 where
-  pub line : LineData
+  pub line : EntryData
   pub text : List ℕ
 
 -- the launch: the looper gets the message that the application is ready to run
@@ -75,7 +75,7 @@ hey_steps s slot (property ∷ asked) = hey_step s slot property ∷ hey_steps s
 abbrev pub steps_of : DeskState → List (List ℕ) → List Step
 steps_of s asked = launch_step s ∷ hey_steps s 0 asked
 
-abbrev pub lines_of : List Step → List LineData
+abbrev pub lines_of : List Step → List EntryData
 lines_of steps = map (λ step. step.line) steps
 
 abbrev pub text_of : List Step → List ℕ

@@ -63,9 +63,9 @@ fn dispatch(desk: &mut Desk, clock: &mut Clock, item: Item) -> Result<Message, N
     requires time { clock.old.time < 2 ^ 63 }
     ensures opening { desk.new.opening ≡ desk.old.opening }
     ensures reply { IfOk result (λ reply. reply ≡ reply_of desk.old.opening item) }
-    ensures line { OnOk result (desk.new.lines ≡ desk.old.lines ++ line_of desk.old.opening clock.old.time item ∷ []) }
+    ensures line { OnOk result (desk.new.entries ≡ desk.old.entries ++ line_of desk.old.opening clock.old.time item ∷ []) }
     ensures rests { OnOk result (IsResting desk.new clock.new) }
-    ensures err { OnErr result (desk.new.lines ≡ desk.old.lines) }
+    ensures err { OnErr result (desk.new.entries ≡ desk.old.entries) }
 {
     let taken = Taken {
         position: desk.len(),
@@ -91,9 +91,9 @@ fn ask(
     requires time { clock.old.time < 2 ^ 63 }
     ensures opening { desk.new.opening ≡ desk.old.opening }
     ensures text { IfOk result (λ line. line ≡ (hey_step desk.old.opening (clock.old.time - 1) property.now).text) }
-    ensures line { OnOk result (AddsLine (hey_step desk.old.opening (clock.old.time - 1) property.now) desk.old.lines desk.new.lines) }
+    ensures line { OnOk result (AddsLine (hey_step desk.old.opening (clock.old.time - 1) property.now) desk.old.entries desk.new.entries) }
     ensures rests { OnOk result (IsResting desk.new clock.new) }
-    ensures err { OnErr result ((desk.new.lines ≡ desk.old.lines) ⊎ AddsLine (hey_step desk.old.opening (clock.old.time - 1) property.now) desk.old.lines desk.new.lines) }
+    ensures err { OnErr result ((desk.new.entries ≡ desk.old.entries) ⊎ AddsLine (hey_step desk.old.opening (clock.old.time - 1) property.now) desk.old.entries desk.new.entries) }
 {
     let message = get_message(alloc, property.try_clone()?)?;
     let item = item(alloc, Duty::Slot(desk.len() - 1), &message)?;
@@ -114,7 +114,7 @@ fn hey<K: Sink>(
     requires begun { 1 ≤ clock.old.time }
     requires time { clock.old.time < 2 ^ 63 }
     ensures opening { desk.new.opening ≡ desk.old.opening }
-    ensures step { DoesStep result (hey_step desk.old.opening (clock.old.time - 1) property.now) desk.old.lines desk.new.lines (K.written sink.old) (K.written sink.new) }
+    ensures step { DoesStep result (hey_step desk.old.opening (clock.old.time - 1) property.now) desk.old.entries desk.new.entries (K.written sink.old) (K.written sink.new) }
     ensures rests { OnOk result (IsResting desk.new clock.new) }
     ensures cause { IsErrOf result Stopped.WriteFault → Rose (K.faults sink.old) (K.faults sink.new) }
     ensures never_falls { K.faults sink.old ≤ K.faults sink.new }
@@ -135,7 +135,7 @@ fn launch<K: Sink>(
     requires opening { IsOpening desk.old.opening }
     requires begins { clock.old.time ≡ 0 }
     ensures opening { desk.new.opening ≡ desk.old.opening }
-    ensures step { DoesStep result (launch_step desk.old.opening) desk.old.lines desk.new.lines (K.written sink.old) (K.written sink.new) }
+    ensures step { DoesStep result (launch_step desk.old.opening) desk.old.entries desk.new.entries (K.written sink.old) (K.written sink.new) }
     ensures rests { OnOk result (IsResting desk.new clock.new) }
     ensures cause { IsErrOf result Stopped.WriteFault → Rose (K.faults sink.old) (K.faults sink.new) }
     ensures never_falls { K.faults sink.old ≤ K.faults sink.new }
@@ -158,11 +158,11 @@ pub(crate) fn carry_out<K: Sink>(
     requires rests { IsResting desk.old clock.old }
     requires opening { IsOpening desk.old.opening }
     requires begins { clock.old.time ≡ 0 }
-    requires lines { desk.old.lines ≡ [] }
+    requires lines { desk.old.entries ≡ [] }
     requires few { length asked.now ≤ hey_limit }
     requires asked { list_all is_askable asked.now ≡ true }
     ensures opening { desk.new.opening ≡ desk.old.opening }
-    ensures steps { Carries result (steps_of desk.old.opening asked.now) desk.new.lines (K.written sink.old) (K.written sink.new) }
+    ensures steps { Carries result (steps_of desk.old.opening asked.now) desk.new.entries (K.written sink.old) (K.written sink.new) }
     ensures cause { IsErrOf result Stopped.WriteFault → Rose (K.faults sink.old) (K.faults sink.new) }
     ensures never_falls { K.faults sink.old ≤ K.faults sink.new }
     ensures kept { OnOk result (K.faults sink.new ≡ K.faults sink.old) }

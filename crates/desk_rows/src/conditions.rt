@@ -69,7 +69,7 @@ fn contains(names: &[Text], name: &[u8]) -> bool
 // ---- the list
 /// Whether there are stamps left.
 pub(crate) fn may_stamp(desk: &Desk, clock: &Clock) -> bool
-    ensures { IsTrue result → (clock.now.time < 2 ^ 63) × (stamp_in desk.now.lines < 2 ^ 63) }
+    ensures { IsTrue result → (clock.now.time < 2 ^ 63) × (stamp_in desk.now.entries < 2 ^ 63) }
 {
     clock.time < 1 << 63 && desk.last_stamp() < 1 << 63
 }
@@ -84,8 +84,8 @@ pub(crate) struct Counts {
 /// Counts the entries of the list.
 #[tactic(auto, using(crate::proofs::Counting::counting))]
 pub(crate) fn counts_of(desk: &Desk) -> Result<Counts, NoMemory>
-    ensures dispatches { IfOk result (λ c. c.dispatches ≡ dispatches desk.now.lines) }
-    ensures gave_up { IfOk result (λ c. c.gave_up ≡ gave_up desk.now.lines) }
+    ensures dispatches { IfOk result (λ c. c.dispatches ≡ dispatches desk.now.entries) }
+    ensures gave_up { IfOk result (λ c. c.gave_up ≡ gave_up desk.now.entries) }
 {
     let mut counts = Counts {
         dispatches: 0,

@@ -43,7 +43,7 @@ fn unused(alloc: Global) -> Result<Desk, Fail>
 
 // Whether there are stamps left.
 fn may_stamp(desk: &Desk, clock: &Clock) -> bool
-    ensures { IsTrue result → (clock.now.time < 2 ^ 63) × (stamp_in desk.now.lines < 2 ^ 63) }
+    ensures { IsTrue result → (clock.now.time < 2 ^ 63) × (stamp_in desk.now.entries < 2 ^ 63) }
 {
     clock.time < 1 << 63 && desk.last_stamp() < 1 << 63
 }

@@ -54,7 +54,7 @@ returns-clause-line c =
     let place = ap (λ (n : ℕ). n - 1) (c.len.ensures ∙ c.requires.rests.count) in
     let message = c.in_ok-message.ensures ∙ ap get_of c.in_ok-try_clone.ensures in
     let made = word_item c.in_ok-message.message word c.in_ok-item.item slot message c.in_ok-item.ensures in
-    on_ok c.reply_line.result (word_line s c.args.clock.now.time slot word c.in_ok-item.item c.args.desk.now.lines c.dispatch.new.desk.lines c.requires.begun place made c.in_ok-reply.ensures.line)
+    on_ok c.reply_line.result (word_line s c.args.clock.now.time slot word c.in_ok-item.item c.args.desk.now.entries c.dispatch.new.desk.entries c.requires.begun place made c.in_ok-reply.ensures.line)
 
 pub returns-clause-rests : goal.returns-clause-rests
 returns-clause-rests c = on_ok c.reply_line.result c.in_ok-reply.ensures.rests
@@ -67,4 +67,4 @@ returns-clause-err c =
     let place = ap (λ (n : ℕ). n - 1) (c.len.ensures ∙ c.requires.rests.count) in
     let message = c.in_ok-message.ensures ∙ ap get_of c.in_ok-try_clone.ensures in
     let made = word_item c.in_ok-message.message word c.in_ok-item.item slot message c.in_ok-item.ensures in
-    on_err c.reply_line.result (inr (word_line s c.args.clock.now.time slot word c.in_ok-item.item c.args.desk.now.lines c.dispatch.new.desk.lines c.requires.begun place made c.in_ok-reply.ensures.line))
+    on_err c.reply_line.result (inr (word_line s c.args.clock.now.time slot word c.in_ok-item.item c.args.desk.now.entries c.dispatch.new.desk.entries c.requires.begun place made c.in_ok-reply.ensures.line))

@@ -9,7 +9,7 @@ invariant-loop-property g l = record {
   opening : l.desk.opening ≡ l.fn.desk.opening;
   count : l.clock.time ≡ l.property-index + 1;
   rests : IsResting l.desk l.clock;
-  progress : Progress (steps_of l.fn.desk.opening l.asked) (hey_steps l.fn.desk.opening l.property-index (drop l.property-index l.asked)) l.desk.lines (g.K.Sink.written l.fn.sink) (g.K.Sink.written l.sink);
+  progress : Progress (steps_of l.fn.desk.opening l.asked) (hey_steps l.fn.desk.opening l.property-index (drop l.property-index l.asked)) l.desk.entries (g.K.Sink.written l.fn.sink) (g.K.Sink.written l.sink);
   kept : g.K.Sink.faults l.sink ≡ g.K.Sink.faults l.fn.sink;
   never_falls : g.K.Sink.faults l.fn.sink ≤ g.K.Sink.faults l.sink;
 }

@@ -27,7 +27,7 @@ carry_out-carried-requires g c =
       rests = rests_first c.in-Ok.desk _ c.in-Ok.ensures.opened opens.looper_is refl refl;
       opening = (c.deref.result.now, (c.args.script.looper, c.args.script.capacity, opens));
       begins = refl;
-      lines = ap (λ d. d.lines) c.in-Ok.ensures.opened;
+      lines = ap (λ d. d.entries) c.in-Ok.ensures.opened;
       few = subst (λ (words : List (List ℕ)). length words ≤ 7999) (sym c.deref-2.ensures.value) c.requires.few_asked;
       asked = ap (list_all is_askable) c.deref-2.ensures.value ∙ c.requires.asked;
     }

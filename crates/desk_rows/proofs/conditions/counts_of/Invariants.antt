@@ -6,7 +6,7 @@ use Rattle.desk_rows.proofs.conditions.counts_of.Given as goal
 abbrev pub invariant-loop-place : goal.invariant-loop-place
 invariant-loop-place l =
     record {
-      dispatches : l.counts.dispatches ≡ counted_all 0 (take l.place l.desk.lines);
-      gave_up : l.counts.gave_up ≡ gave_up (take l.place l.desk.lines);
+      dispatches : l.counts.dispatches ≡ counted_all 0 (take l.place l.desk.entries);
+      gave_up : l.counts.gave_up ≡ gave_up (take l.place l.desk.entries);
       within : l.counts.dispatches ≤ l.place;
     }
