@@ -5,8 +5,8 @@ use Rattle.ak_roster.specs.declared.entry.RosterEntry.{RosterEntry}
 use Rattle.ak_roster.specs.declared.entry.RosterEvent.{RosterEvent}
 use Rattle.ak_roster.specs.Machine.{LooperData, RosterState, IsLegal, after}
 use Rattle.ak_roster.specs.Kept.{Kept, IsSound, count_of, roster_seen}
-use Rattle.ak_roster.specs.Roster.{RosterData, IsRoster, IsAtRest, AreKept, Enters, last_stamp, new_line, state}
-use Rattle.ak_roster.proofs.Sound.{Grows, line_of, seen, sound_grows, state_is}
+use Rattle.ak_roster.specs.Roster.{RosterData, IsRoster, IsAtRest, AreKept, Enters, last_stamp, new_entry, state}
+use Rattle.ak_roster.proofs.Sound.{Grows, full_entry, seen, sound_grows, state_is}
 
 -- the entry of an event by that clock, past that stamp
 abbrev pub entry_of : Clock → ℕ → RosterEvent → RosterEntry
@@ -20,15 +20,15 @@ pub record Entered {D O : Type 0} (object : D → Option O) (threads : D → Opt
   pub state_is : state (roster_seen object new) ≡ after roster.heads (state roster) clock.thread.0 what
 
 module _ {D O : Type 0} (object : D → Option O) (threads : D → Option (List ℕ)) (old : Kept D) (roster : RosterData D O) (view : roster_seen object old ≡ roster)
-    (clock later : Clock) (what : RosterEvent) (e : RosterEntry) (last : ℕ) (sound : IsSound object threads old) (stamp : last ≡ last_stamp roster.lines)
+    (clock later : Clock) (what : RosterEvent) (e : RosterEntry) (last : ℕ) (sound : IsSound object threads old) (stamp : last ≡ last_stamp roster.entries)
     (entry : e ≡ entry_of clock last what) (time : later ≡ record clock { time = 1 + max clock.time last }) where
   pub legal_for : IsLegal roster.heads (state roster) clock.thread.0 what → IsLegal old.heads (state (roster_seen object old)) e.by.0 e.event
   legal_for legal =
       subst (λ (r : RosterData D O). IsLegal r.heads (state r) e.by.0 e.event) (sym view)
       (subst (λ (x : RosterEntry). IsLegal roster.heads (state roster) x.by.0 x.event) (sym entry) legal)
 
-  pub past_for : last_stamp (roster_seen object old).lines < e.stamp
-  past_for = subst (λ (r : RosterData D O). last_stamp r.lines < e.stamp) (sym view) (omega (arith, stamp, ap (λ (x : RosterEntry). x.stamp) entry))
+  pub past_for : last_stamp (roster_seen object old).entries < e.stamp
+  past_for = subst (λ (r : RosterData D O). last_stamp r.entries < e.stamp) (sym view) (omega (arith, stamp, ap (λ (x : RosterEntry). x.stamp) entry))
 
   pub after_for : after old.heads (state (roster_seen object old)) e.by.0 e.event ≡ after roster.heads (state roster) clock.thread.0 what
   after_for =
@@ -38,18 +38,18 @@ module _ {D O : Type 0} (object : D → Option O) (threads : D → Option (List 
   count_for = ap (λ (r : RosterData D O). count_of r.heads e.event) view ∙ ap (λ (x : RosterEntry). count_of roster.heads x.event) entry
 
   module _ (new : Kept D) (added : List (Option O)) (doors : List D) (doors_are : new.doors ≡ doors) (g : Grows object threads old new e added) where
-    line_is : roster_seen object new ≡ record { heads = roster.heads; lines = roster.lines ++ new_line clock roster.lines what added ∷ []; doors = doors }
-    line_is =
+    entry_is : roster_seen object new ≡ record { heads = roster.heads; entries = roster.entries ++ new_entry clock roster.entries what added ∷ []; doors = doors }
+    entry_is =
         seen object threads old new e added sound g
-        ∙ ap (λ (r : RosterData D O). (let s : RosterData D O = record { heads = r.heads; lines = r.lines ++ line_of object threads e added ∷ []; doors = new.doors } in s)) view
-        ∙ ap (λ (x : RosterEntry). (let s : RosterData D O = record { heads = roster.heads; lines = roster.lines ++ line_of object threads x added ∷ []; doors = new.doors } in s))
+        ∙ ap (λ (r : RosterData D O). (let s : RosterData D O = record { heads = r.heads; entries = r.entries ++ full_entry object threads e added ∷ []; doors = new.doors } in s)) view
+        ∙ ap (λ (x : RosterEntry). (let s : RosterData D O = record { heads = roster.heads; entries = roster.entries ++ full_entry object threads x added ∷ []; doors = new.doors } in s))
         (entry ∙ ap (λ (n : ℕ). entry_of clock n what) stamp)
-        ∙ ap (λ (ds : List D). (let s : RosterData D O = record { heads = roster.heads; lines = roster.lines ++ new_line clock roster.lines what added ∷ []; doors = ds } in s)) doors_are
+        ∙ ap (λ (ds : List D). (let s : RosterData D O = record { heads = roster.heads; entries = roster.entries ++ new_entry clock roster.entries what added ∷ []; doors = ds } in s)) doors_are
 
     pub entered : Entered object threads what added doors roster new clock later
     entered = record {
       sound = sound_grows object threads old new e added sound g;
-      entry = (line_is, time ∙ ap (λ (n : ℕ). (let c : Clock = record clock { time = 1 + max clock.time n } in c)) stamp);
+      entry = (entry_is, time ∙ ap (λ (n : ℕ). (let c : Clock = record clock { time = 1 + max clock.time n } in c)) stamp);
       state_is = state_is object threads old new e added sound g ∙ after_for;
     }
 

@@ -16,8 +16,8 @@ use Rattle.ak_roster.specs.declared.answer.Launched.{Launched}
 use Rattle.ak_roster.specs.declared.answer.Launched.TheVariants as answer
 use Rattle.ak_roster.specs.Answers.{OnRefusal, UnlessRefusal, OnStarted, UnlessStarted}
 use Rattle.ak_roster.specs.Machine.{LooperData, after, holders, loopers_at, loopers_of}
-use Rattle.ak_roster.specs.Roster.{RosterData, Enters, Stays, IsStranger, new_line, state}
-use Rattle.ak_roster.proofs.Sound.{state-line}
+use Rattle.ak_roster.specs.Roster.{RosterData, Enters, Stays, IsStranger, new_entry, state}
+use Rattle.ak_roster.proofs.Sound.{state-entry}
 
 abbrev pub AreFresh : List LooperData → Type 0
 AreFresh loopers = All (λ l. l.given ≡ []) loopers
@@ -32,7 +32,7 @@ fresh_of heads by launch.Limit = All-nil (λ l. l.given ≡ [])
 -- the state after an entry
 pub state-enters : {D O : Type 0} (what : RosterEvent) (added : List (Option O)) (doors : List D) (old new : RosterData D O) (clock later : Clock)
     → Enters what added doors old new clock later → state new ≡ after old.heads (state old) clock.thread.0 what
-state-enters what added doors old new clock later e = ap (λ r. state r) e.0 ∙ state-line old.heads old.lines (new_line clock old.lines what added)
+state-enters what added doors old new clock later e = ap (λ r. state r) e.0 ∙ state-entry old.heads old.entries (new_entry clock old.entries what added)
 
 -- a launch leaves them so
 pub fresh_launched : {D O : Type 0} (word : AppWord) (o : LaunchOutcome) (added : List (Option O)) (doors : List D) (old new : RosterData D O) (clock later : Clock)

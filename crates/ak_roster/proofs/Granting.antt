@@ -81,7 +81,7 @@ same_item xs i x stands = ap (λ y. set xs i y) (sym (get_or_from_slice_get xs i
 
 module _ {D O P : Type 0} (object : D → Option O) (threads : D → Option (List ℕ)) (part_object : P → Option O) (is_for : P → ℕ → Type 0)
     (old : Kept D) (roster : RosterData D O) (view : roster_seen object old ≡ roster)
-    (clock later : Clock) (looper : ℕ) (e : RosterEntry) (last : ℕ) (sound : IsSound object threads old) (stamp : last ≡ last_stamp roster.lines)
+    (clock later : Clock) (looper : ℕ) (e : RosterEntry) (last : ℕ) (sound : IsSound object threads old) (stamp : last ≡ last_stamp roster.entries)
     (entry : e ≡ entry_of clock last (event.Door looper)) (time : later ≡ record clock { time = 1 + max clock.time last })
     (new : Kept D) (part : P) (rest : IsAtRest roster) (stranger : IsStranger clock.thread.0 looper (slice_get (state roster).loopers looper))
     (gives : GivesPartAt object threads part_object is_for looper part clock.thread.0 old.doors new.doors)
@@ -139,7 +139,7 @@ module _ {D O P : Type 0} (object : D → Option O) (threads : D → Option (Lis
       rests object threads (event.Door looper) [] new.doors roster new clock later gives_door
       (ap length gives.doors ∙ length-set old.doors looper gives.door ∙ ap length doors_are ∙ rest ∙ sym (length-with_given clock.thread.0 looper (state roster).loopers))
 
-  pub part_is : slice_get (objects_of roster.lines) looper ≡ Some (part_object part)
+  pub part_is : slice_get (objects_of roster.entries) looper ≡ Some (part_object part)
   part_is =
       ap (λ os. slice_get os looper) (sym ((roster_held object threads old roster view clock later (event.Door looper) e last sound stamp entry time).objects rest))
       ∙ slice_get-map object roster.doors looper ∙ ap (λ ds. option_map object (slice_get ds looper)) (sym doors_are) ∙ ap (option_map object) gives.stands

@@ -10,7 +10,7 @@ use Rattle.ak_roster.specs.declared.entry.LaunchOutcome.{LaunchOutcome}
 use Rattle.ak_roster.specs.declared.entry.LaunchOutcome.TheVariants as launch
 use Rattle.ak_roster.specs.Machine.{LooperData, RosterState, IsLegal, IsHistory, after, loopers_at, loopers_of, state_from, state_of, start, with_given}
 use Rattle.ak_roster.specs.Kept.{count_of, count_launched}
-use Rattle.ak_roster.proofs.Lines.{count_all}
+use Rattle.ak_roster.proofs.Entries.{count_all}
 
 module _ (heads : List AppHead) where
   pub state_from-append : (s : RosterState) (es : List RosterEntry) (e : RosterEntry)

@@ -74,7 +74,7 @@ module _ {D : Type 0} (threads : D → Option (List ℕ)) where
   length-AreKept n (d ∷ ds) (l ∷ ls) kept = ap suc (length-AreKept (suc n) ds ls kept.1)
 
 module _ {D O : Type 0} (object : D → Option O) (threads : D → Option (List ℕ)) (old : Kept D) (roster : RosterData D O) (view : roster_seen object old ≡ roster)
-    (clock later : Clock) (word : AppWord) (e : RosterEntry) (last : ℕ) (sound : IsSound object threads old) (stamp : last ≡ last_stamp roster.lines)
+    (clock later : Clock) (word : AppWord) (e : RosterEntry) (last : ℕ) (sound : IsSound object threads old) (stamp : last ≡ last_stamp roster.entries)
     (entry : e ≡ entry_of clock last (event.Launch word (launch_of roster.heads (state roster) word))) (time : later ≡ record clock { time = 1 + max clock.time last })
     (place team first : ℕ) (starts : launch_of roster.heads (state roster) word ≡ launch.Started place team first)
     (new : Kept D) (more : List D) (rest : IsAtRest roster)

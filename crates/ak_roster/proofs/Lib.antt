@@ -1,4 +1,4 @@
-pub mod Lines
+pub mod Entries
 pub mod Histories
 pub mod Sound
 pub mod Entering

@@ -4,18 +4,18 @@ use Rattle.std.proofs.lemmas.List.{length-append, length-map, take_all, map-appe
 use Rattle.std.proofs.lemmas.Grind.{flat_map-append}
 use Rattle.ak_roster.specs.declared.head.AppHead.{AppHead}
 use Rattle.ak_roster.specs.declared.entry.RosterEntry.{RosterEntry}
-use Rattle.ak_roster.specs.declared.entry.RosterLine.{RosterLine}
+use Rattle.ak_roster.specs.declared.entry.EntryWithObjects.{EntryWithObjects}
 use Rattle.ak_roster.specs.Machine.{RosterState, IsLegal, IsHistory, after, state_of}
-use Rattle.ak_roster.specs.Kept.{Kept, IsSound, count_of, lines_of, roster_seen}
-use Rattle.ak_roster.specs.Roster.{RosterData, IsRoster, AreKept, entries_of, objects_of, last_stamp, state}
-use Rattle.ak_roster.proofs.Lines.{count_all, entries_of-lines_of, last_stamp-entries_of, lines_of-append, objects_of-lines_of}
+use Rattle.ak_roster.specs.Kept.{Kept, IsSound, count_of, with_objects, roster_seen}
+use Rattle.ak_roster.specs.Roster.{RosterData, IsRoster, AreKept, plain_entries, objects_of, last_stamp, state}
+use Rattle.ak_roster.proofs.Entries.{count_all, plain_entries-with_objects, last_stamp-plain_entries, with_objects-append, objects_of-with_objects}
 use Rattle.ak_roster.proofs.Histories.{history_goes_on, length-loopers, loopers-after, state_of-append}
 
--- the state after one line more
-pub state-line : {O : Type 0} (heads : List AppHead) (lines : List (RosterLine O)) (line : RosterLine O)
-    → state_of heads (entries_of (lines ++ line ∷ [])) ≡ after heads (state_of heads (entries_of lines)) line.entry.by.0 line.entry.event
-state-line heads lines line =
-    ap (λ (es : List RosterEntry). state_of heads es) (map-append (λ l. l.entry) lines (line ∷ [])) ∙ state_of-append heads (entries_of lines) line.entry
+-- the state after one entry more
+pub state-entry : {O : Type 0} (heads : List AppHead) (entries : List (EntryWithObjects O)) (entry : EntryWithObjects O)
+    → state_of heads (plain_entries (entries ++ entry ∷ [])) ≡ after heads (state_of heads (plain_entries entries)) entry.plain.by.0 entry.plain.event
+state-entry heads entries entry =
+    ap (λ (es : List RosterEntry). state_of heads es) (map-append (λ l. l.plain) entries (entry ∷ [])) ∙ state_of-append heads (plain_entries entries) entry.plain
 
 module _ {D O : Type 0} (object : D → Option O) (threads : D → Option (List ℕ)) where
   abbrev pub old_state : Kept D → RosterState
@@ -28,7 +28,7 @@ module _ {D O : Type 0} (object : D → Option O) (threads : D → Option (List 
     pub doors : map object (new.taken ++ new.doors) ≡ map object (old.taken ++ old.doors) ++ added
     pub count : length added ≡ count_of old.heads e.event
     pub legal : IsLegal old.heads (state (roster_seen object old)) e.by.0 e.event
-    pub past : last_stamp (roster_seen object old).lines < e.stamp
+    pub past : last_stamp (roster_seen object old).entries < e.stamp
     pub running : new.running ≡ (after old.heads (state (roster_seen object old)) e.by.0 e.event).running
     pub teams : new.teams ≡ (after old.heads (state (roster_seen object old)) e.by.0 e.event).teams
     pub loopers : new.loopers ≡ old.loopers + count_of old.heads e.event
@@ -43,35 +43,35 @@ module _ {D O : Type 0} (object : D → Option O) (threads : D → Option (List 
   counts : (old : Kept D) → IsSound object threads old → length (map object (old.taken ++ old.doors)) ≡ count_all old.heads old.entries
   counts old sound =
       length-map (old.taken ++ old.doors) object ∙ sound.all_doors ∙ sound.loopers
-      ∙ length-loopers old.heads (entries_of (roster_seen object old).lines)
-      ∙ ap (λ (es : List RosterEntry). count_all old.heads es) (entries_of-lines_of old.heads (map object (old.taken ++ old.doors)) old.entries)
+      ∙ length-loopers old.heads (plain_entries (roster_seen object old).entries)
+      ∙ ap (λ (es : List RosterEntry). count_all old.heads es) (plain_entries-with_objects old.heads (map object (old.taken ++ old.doors)) old.entries)
 
-  abbrev pub line_of : RosterEntry → List (Option O) → RosterLine O
-  line_of e added = record { entry = e; objects = added }
+  abbrev pub full_entry : RosterEntry → List (Option O) → EntryWithObjects O
+  full_entry e added = record { plain = e; objects = added }
 
-  -- the same book with other doors and one line more
-  abbrev pub grown : Kept D → RosterLine O → List D → RosterData D O
-  grown old line doors = record { heads = old.heads; lines = (roster_seen object old).lines ++ line ∷ []; doors = doors }
+  -- the same book with other doors and one entry more
+  abbrev pub grown : Kept D → EntryWithObjects O → List D → RosterData D O
+  grown old entry doors = record { heads = old.heads; entries = (roster_seen object old).entries ++ entry ∷ []; doors = doors }
 
   module _ (old new : Kept D) (e : RosterEntry) (added : List (Option O)) (sound : IsSound object threads old) (g : Grows old new e added) where
-    lines_grow : lines_of new.heads (map object (new.taken ++ new.doors)) new.entries ≡ (roster_seen object old).lines ++ line_of e added ∷ []
-    lines_grow =
-        ap (λ (hs : List AppHead). lines_of hs (map object (new.taken ++ new.doors)) new.entries) g.heads
-        ∙ ap (λ (os : List (Option O)). lines_of old.heads os new.entries) g.doors
-        ∙ ap (λ (es : List RosterEntry). lines_of old.heads (map object (old.taken ++ old.doors) ++ added) es) g.entries
-        ∙ lines_of-append old.heads (map object (old.taken ++ old.doors)) added old.entries e (counts old sound)
-        ∙ ap (λ (os : List (Option O)). (roster_seen object old).lines ++ line_of e os ∷ []) (take_all (count_of old.heads e.event) added (omega (arith, g.count)))
+    entries_grow : with_objects new.heads (map object (new.taken ++ new.doors)) new.entries ≡ (roster_seen object old).entries ++ full_entry e added ∷ []
+    entries_grow =
+        ap (λ (hs : List AppHead). with_objects hs (map object (new.taken ++ new.doors)) new.entries) g.heads
+        ∙ ap (λ (os : List (Option O)). with_objects old.heads os new.entries) g.doors
+        ∙ ap (λ (es : List RosterEntry). with_objects old.heads (map object (old.taken ++ old.doors) ++ added) es) g.entries
+        ∙ with_objects-append old.heads (map object (old.taken ++ old.doors)) added old.entries e (counts old sound)
+        ∙ ap (λ (os : List (Option O)). (roster_seen object old).entries ++ full_entry e os ∷ []) (take_all (count_of old.heads e.event) added (omega (arith, g.count)))
 
-    pub seen : roster_seen object new ≡ grown old (line_of e added) new.doors
+    pub seen : roster_seen object new ≡ grown old (full_entry e added) new.doors
     seen =
-        ap (λ (hs : List AppHead). (let r : RosterData D O = record { heads = hs; lines = lines_of new.heads (map object (new.taken ++ new.doors)) new.entries; doors = new.doors } in r)) g.heads
-        ∙ ap (λ (ls : List (RosterLine O)). (let r : RosterData D O = record { heads = old.heads; lines = ls; doors = new.doors } in r)) lines_grow
+        ap (λ (hs : List AppHead). (let r : RosterData D O = record { heads = hs; entries = with_objects new.heads (map object (new.taken ++ new.doors)) new.entries; doors = new.doors } in r)) g.heads
+        ∙ ap (λ (ls : List (EntryWithObjects O)). (let r : RosterData D O = record { heads = old.heads; entries = ls; doors = new.doors } in r)) entries_grow
 
     abbrev pub next : RosterState
     next = after old.heads (state (roster_seen object old)) e.by.0 e.event
 
-    next_is : state (grown old (line_of e added) new.doors) ≡ next
-    next_is = state-line old.heads (roster_seen object old).lines (line_of e added)
+    next_is : state (grown old (full_entry e added) new.doors) ≡ next
+    next_is = state-entry old.heads (roster_seen object old).entries (full_entry e added)
 
     pub state_is : state (roster_seen object new) ≡ next
     state_is = ap (λ (r : RosterData D O). state r) seen ∙ next_is
@@ -88,20 +88,20 @@ module _ {D O : Type 0} (object : D → Option O) (threads : D → Option (List 
     none_taken : length new.doors ≡ length next.loopers → new.taken ≡ []
     none_taken rest = nil_from_length new.taken (omega (arith, all_doors, loopers_is, length-append new.taken new.doors))
 
-    objects_grow : length new.doors ≡ length next.loopers → map object new.doors ≡ objects_of ((roster_seen object old).lines ++ line_of e added ∷ [])
+    objects_grow : length new.doors ≡ length next.loopers → map object new.doors ≡ objects_of ((roster_seen object old).entries ++ full_entry e added ∷ [])
     objects_grow rest =
         ap (λ (ds : List D). map object (ds ++ new.doors)) (sym (none_taken rest))
         ∙ g.doors
-        ∙ ap (λ (os : List (Option O)). os ++ added) (sym (objects_of-lines_of old.heads (map object (old.taken ++ old.doors)) old.entries (counts old sound)))
-        ∙ ap (λ (os : List (Option O)). objects_of (roster_seen object old).lines ++ os) (sym (append-nil added))
-        ∙ sym (flat_map-append (λ line. line.objects) (roster_seen object old).lines (line_of e added ∷ []))
+        ∙ ap (λ (os : List (Option O)). os ++ added) (sym (objects_of-with_objects old.heads (map object (old.taken ++ old.doors)) old.entries (counts old sound)))
+        ∙ ap (λ (os : List (Option O)). objects_of (roster_seen object old).entries ++ os) (sym (append-nil added))
+        ∙ sym (flat_map-append (λ entry. entry.objects) (roster_seen object old).entries (full_entry e added ∷ []))
 
-    roster_grows : IsRoster object threads (grown old (line_of e added) new.doors)
+    roster_grows : IsRoster object threads (grown old (full_entry e added) new.doors)
     roster_grows = record {
       heads = sound.roster.heads;
-      history = subst (λ (es : List RosterEntry). IsHistory old.heads es) (sym (map-append (λ l. l.entry) (roster_seen object old).lines (line_of e added ∷ [])))
-          (history_goes_on old.heads (entries_of (roster_seen object old).lines) e sound.roster.history g.legal
-          (subst (λ (n : ℕ). n < e.stamp) (sym (last_stamp-entries_of (roster_seen object old).lines)) g.past));
+      history = subst (λ (es : List RosterEntry). IsHistory old.heads es) (sym (map-append (λ l. l.plain) (roster_seen object old).entries (full_entry e added ∷ [])))
+          (history_goes_on old.heads (plain_entries (roster_seen object old).entries) e sound.roster.history g.legal
+          (subst (λ (n : ℕ). n < e.stamp) (sym (last_stamp-plain_entries (roster_seen object old).entries)) g.past));
       objects = λ rest. objects_grow (rest ∙ ap (λ (s : RosterState). length s.loopers) next_is);
       kept = λ rest. subst (λ (s : RosterState). AreKept threads 0 new.doors s.loopers) (sym next_is)
           (g.kept (rest ∙ ap (λ (s : RosterState). length s.loopers) next_is));

@@ -4,7 +4,7 @@ use Rattle.ak_base.specs.Limits.{looper_limit}
 use Rattle.ak_roster.specs.declared.head.AppHead.{AppHead}
 use Rattle.ak_roster.specs.declared.team.Running.{Running}
 use Rattle.ak_roster.specs.declared.entry.RosterEntry.{RosterEntry}
-use Rattle.ak_roster.specs.declared.entry.RosterLine.{RosterLine}
+use Rattle.ak_roster.specs.declared.entry.EntryWithObjects.{EntryWithObjects}
 use Rattle.ak_roster.specs.declared.entry.RosterEvent.{RosterEvent}
 use Rattle.ak_roster.specs.declared.entry.RosterEvent.TheVariants as event
 use Rattle.ak_roster.specs.declared.entry.LaunchOutcome.{LaunchOutcome}
@@ -40,17 +40,17 @@ count_of heads (event.Door looper) = 0
 
 module _ {O : Type 0} (heads : List AppHead) where
   -- the entries, each launch with the objects of its loopers
-  abbrev pub lines_of : List (Option O) → List RosterEntry → List (RosterLine O)
-  lines_of objects [] = []
-  lines_of objects (entry ∷ rest) =
-      (record { entry = entry; objects = take (count_of heads entry.event) objects }) ∷ lines_of (drop (count_of heads entry.event) objects) rest
+  abbrev pub with_objects : List (Option O) → List RosterEntry → List (EntryWithObjects O)
+  with_objects objects [] = []
+  with_objects objects (entry ∷ rest) =
+      (record { plain = entry; objects = take (count_of heads entry.event) objects }) ∷ with_objects (drop (count_of heads entry.event) objects) rest
 
 module _ {D O : Type 0} (object : D → Option O) where
   abbrev pub roster_seen : Kept D → RosterData D O
   roster_seen kept =
       record {
         heads = kept.heads;
-        lines = lines_of kept.heads (map object (kept.taken ++ kept.doors)) kept.entries;
+        entries = with_objects kept.heads (map object (kept.taken ++ kept.doors)) kept.entries;
         doors = kept.doors;
       }
 

@@ -9,7 +9,7 @@ use Rattle.ak_roster.specs.declared.head.Mode.{Mode}
 use Rattle.ak_roster.specs.declared.head.Mode.TheVariants as mode
 use Rattle.ak_roster.specs.declared.team.Running.{Running}
 use Rattle.ak_roster.specs.declared.entry.RosterEntry.{RosterEntry}
-use Rattle.ak_roster.specs.declared.entry.RosterLine.{RosterLine}
+use Rattle.ak_roster.specs.declared.entry.EntryWithObjects.{EntryWithObjects}
 use Rattle.ak_roster.specs.declared.entry.RosterEvent.{RosterEvent}
 use Rattle.ak_roster.specs.declared.entry.RosterEvent.TheVariants as event
 use Rattle.ak_roster.specs.declared.entry.LaunchOutcome.{LaunchOutcome}
@@ -17,7 +17,7 @@ use Rattle.ak_roster.specs.declared.entry.LaunchOutcome.TheVariants as launch
 use Rattle.ak_roster.specs.declared.entry.FindOutcome.{FindOutcome}
 use Rattle.ak_roster.specs.Heads.{last_part, team_fits, team_for}
 use Rattle.ak_roster.specs.Machine.{IsHistory, LooperData, RosterState, holders, loopers_at, runs_team, state_of}
-use Rattle.ak_roster.specs.Roster.{IsStranger, entries_of}
+use Rattle.ak_roster.specs.Roster.{IsStranger, plain_entries}
 use Rattle.ak_turn.specs.Entries.{made_by}
 use Rattle.ak_roster.specs.Limits.{team_limit}
 use Rattle.ak_turn.specs.Seats.{SeatData, KnowsWhole}
@@ -136,20 +136,20 @@ FourTakeNoDoor =
     (heads : List AppHead) (entries : List RosterEntry) (number : ℕ) (looper : LooperData) → IsHistory heads entries → slice_get (state_of heads entries).loopers number ≡ Some looper
     → (thread : ℕ) → TookDoor entries number thread → IsNoneOfFour thread number looper
 
--- ---- seats at the roster's lock see lines: of each thread just its entries are theirs
-abbrev pub LinesTellEntries : Type 0 → Type 0
-LinesTellEntries O = (thread : ℕ) (lines : List (RosterLine O)) → made_by (λ (entry : RosterEntry). entry.by.0) thread (entries_of lines) ≡ entries_of (made_by (λ (line : RosterLine O). line.entry.by.0) thread lines)
+-- ---- seats at the roster's lock see entries with objects: of each thread just its own are what the journal shows as its own
+abbrev pub EntriesTellPlain : Type 0 → Type 0
+EntriesTellPlain O = (thread : ℕ) (entries : List (EntryWithObjects O)) → made_by (λ (entry : RosterEntry). entry.by.0) thread (plain_entries entries) ≡ plain_entries (made_by (λ (entry : EntryWithObjects O). entry.plain.by.0) thread entries)
 
--- the line at a place is none of that door
-abbrev pub IsNotOfDoor : {O : Type 0} → List (RosterLine O) → ℕ → ℕ → Type 0
-IsNotOfDoor {O} lines number place = IfSome (slice_get lines place) (λ (line : RosterLine O). line.entry.event ≢ event.Door number)
+-- the entry at a place is none of that door
+abbrev pub IsNotOfDoor : {O : Type 0} → List (EntryWithObjects O) → ℕ → ℕ → Type 0
+IsNotOfDoor {O} entries number place = IfSome (slice_get entries place) (λ (entry : EntryWithObjects O). entry.plain.event ≢ event.Door number)
 
 -- so a seat that knows its list, whose thread is none of the four and has the door in none of its own places, is a stranger's
 abbrev pub SeatsAreStrangers : Type 0 → Type 0
 SeatsAreStrangers O =
-    (heads : List AppHead) (seat : SeatData (List AppHead) (RosterLine O)) (number : ℕ) → IsHistory heads (entries_of seat.front) → KnowsWhole (λ (line : RosterLine O). line.entry.by.0) seat
-    → IfSome (slice_get (state_of heads (entries_of seat.front)).loopers number) (IsNoneOfFour seat.thread number) → All (IsNotOfDoor seat.front number) seat.own
-    → IsStranger seat.thread number (slice_get (state_of heads (entries_of seat.front)).loopers number)
+    (heads : List AppHead) (seat : SeatData (List AppHead) (EntryWithObjects O)) (number : ℕ) → IsHistory heads (plain_entries seat.front) → KnowsWhole (λ (entry : EntryWithObjects O). entry.plain.by.0) seat
+    → IfSome (slice_get (state_of heads (plain_entries seat.front)).loopers number) (IsNoneOfFour seat.thread number) → All (IsNotOfDoor seat.front number) seat.own
+    → IsStranger seat.thread number (slice_get (state_of heads (plain_entries seat.front)).loopers number)
 
 -- ---- so many loopers are there from that number on, and of each of them P holds
 abbrev pub AreThere : (LooperData → Type 0) → List LooperData → ℕ → ℕ → Type 0

@@ -8,40 +8,41 @@ use Rattle.ak_turn.specs.Called as at_lock
 use Rattle.ak_turn.specs.Entries.{last_stamp_of}
 use Rattle.ak_roster.specs.declared.head.AppHead.{AppHead}
 use Rattle.ak_roster.specs.declared.entry.RosterEntry.{RosterEntry}
-use Rattle.ak_roster.specs.declared.entry.RosterLine.{RosterLine}
+use Rattle.ak_roster.specs.declared.entry.EntryWithObjects.{EntryWithObjects}
 use Rattle.ak_roster.specs.declared.entry.RosterEvent.{RosterEvent}
 use Rattle.ak_roster.specs.Heads.{IsHeads}
 use Rattle.ak_roster.specs.Told.{told_with}
 use Rattle.ak_roster.specs.Machine.{LooperData, RosterState, IsHistory, holders, state_of}
 
--- the described applications; what was done, of which the line of a launch that started a team has the objects that its doors told, in the
--- order of the loopers; and the doors that the book keeps, by the loopers' numbers
+-- the described applications; what was done, of which the entry of a launch that started a team has the objects that its doors told, in
+-- the order of the loopers; and the doors that the book keeps, by the loopers' numbers
 pub record RosterData (D O : Type 0) : Type 0 where
   pub heads : List AppHead
-  pub lines : List (RosterLine O)
+  pub entries : List (EntryWithObjects O)
   pub doors : List D
 
 module _ {O : Type 0} where
-  abbrev pub entries_of : List (RosterLine O) → List RosterEntry
-  entries_of lines = map (λ line. line.entry) lines
+  -- what the journal shows of them
+  abbrev pub plain_entries : List (EntryWithObjects O) → List RosterEntry
+  plain_entries entries = map (λ entry. entry.plain) entries
 
   -- the objects of all loopers that were started, by their numbers
-  abbrev pub objects_of : List (RosterLine O) → List (Option O)
-  objects_of lines = flat_map (λ line. line.objects) lines
+  abbrev pub objects_of : List (EntryWithObjects O) → List (Option O)
+  objects_of entries = flat_map (λ entry. entry.objects) entries
 
-  abbrev pub stamp_of_line : RosterLine O → ℕ
-  stamp_of_line line = line.entry.stamp
+  abbrev pub stamp_number : EntryWithObjects O → ℕ
+  stamp_number entry = entry.plain.stamp
 
-  abbrev pub last_stamp : List (RosterLine O) → ℕ
-  last_stamp lines = last_stamp_of stamp_of_line lines
+  abbrev pub last_stamp : List (EntryWithObjects O) → ℕ
+  last_stamp entries = last_stamp_of stamp_number entries
 
-  -- the line with that stamp, thread and event, and those objects
-  abbrev pub line_with : List (Option O) → ℕ → ThreadId → RosterEvent → RosterLine O
-  line_with objects stamp by what = record { entry = record { stamp = stamp; by = by; event = what }; objects = objects }
+  -- the entry with that stamp, thread and event, and those objects
+  abbrev pub entry_with : List (Option O) → ℕ → ThreadId → RosterEvent → EntryWithObjects O
+  entry_with objects stamp by what = record { plain = record { stamp = stamp; by = by; event = what }; objects = objects }
 
-  -- the line of a new entry by that clock
-  abbrev pub new_line : Clock → List (RosterLine O) → RosterEvent → List (Option O) → RosterLine O
-  new_line clock lines what objects = at_lock.entry_now stamp_of_line (line_with objects) clock lines what
+  -- a new entry by that clock
+  abbrev pub new_entry : Clock → List (EntryWithObjects O) → RosterEvent → List (Option O) → EntryWithObjects O
+  new_entry clock entries what objects = at_lock.entry_now stamp_number (entry_with objects) clock entries what
 
 -- the same threads, in whatever order
 abbrev pub AreSame : List ℕ → List ℕ → Type 0
@@ -61,28 +62,24 @@ module _ {D : Type 0} (threads : D → Option (List ℕ)) where
 module _ {D O : Type 0} where
   -- the state that its entries leave
   abbrev pub state : RosterData D O → RosterState
-  state roster = state_of roster.heads (entries_of roster.lines)
+  state roster = state_of roster.heads (plain_entries roster.entries)
 
   -- it keeps one door for each looper that was started
   abbrev pub IsAtRest : RosterData D O → Type 0
   IsAtRest roster = length roster.doors ≡ length (state roster).loopers
 
-  -- it has one line more
-  abbrev pub with_line : RosterLine O → RosterData D O → RosterData D O
-  with_line line roster = record roster { lines = roster.lines ++ line ∷ [] }
-
 -- ---- a call at the book, in the words for every object
 module _ {D O : Type 0} where
-  -- that line more, and these doors
-  abbrev pub HasOneMore : List D → RosterData D O → RosterLine O → RosterData D O → Type 0
-  HasOneMore doors old line new = new ≡ record { heads = old.heads; lines = old.lines ++ line ∷ []; doors = doors }
+  -- that entry more, and these doors
+  abbrev pub HasOneMore : List D → RosterData D O → EntryWithObjects O → RosterData D O → Type 0
+  HasOneMore doors old entry new = new ≡ record { heads = old.heads; entries = old.entries ++ entry ∷ []; doors = doors }
 
-  -- one line more, with those objects, and these doors; or nothing has changed
+  -- one entry more, with those objects, and these doors; or nothing has changed
   abbrev pub HasAdded : List (Option O) → List D → Option RosterEvent → Clock → Clock → RosterData D O → RosterData D O → Type 0
   HasAdded objects doors what clock later old new =
-      at_lock.HasAdded stamp_of_line (line_with objects) (λ (r : RosterData D O). r.lines) (HasOneMore doors) what clock later old new
+      at_lock.HasAdded stamp_number (entry_with objects) (λ (r : RosterData D O). r.entries) (HasOneMore doors) what clock later old new
 
-  -- it has one line more, of an entry by that clock, which has its stamp then
+  -- it has one entry more by that clock, which has its stamp then
   abbrev pub Enters : RosterEvent → List (Option O) → List D → RosterData D O → RosterData D O → Clock → Clock → Type 0
   Enters what objects doors old new clock later = HasAdded objects doors (Some what) clock later old new
 
@@ -93,9 +90,9 @@ module _ {D O : Type 0} where
 -- what is always true of it
 pub record IsRoster {D O : Type 0} (object : D → Option O) (threads : D → Option (List ℕ)) (roster : RosterData D O) : Type 0 where
   pub heads : IsHeads roster.heads
-  pub history : IsHistory roster.heads (entries_of roster.lines)
-  -- at rest each door tells the object that its looper's line has
-  pub objects : IsAtRest roster → map object roster.doors ≡ objects_of roster.lines
+  pub history : IsHistory roster.heads (plain_entries roster.entries)
+  -- at rest each door tells the object that its looper's launch has
+  pub objects : IsAtRest roster → map object roster.doors ≡ objects_of roster.entries
   pub kept : IsAtRest roster → AreKept threads 0 roster.doors (state roster).loopers
 
 -- the thread has no part of what the looper's door leads to, if there is such a looper

@@ -1,9 +1,9 @@
 ghost use Rattle.std.specs.Prelude.{◌≡◌, [], IfOk, slice_get};
 ghost use Rattle.ak_turn.specs.Entries.{last_stamp_of};
 ghost use Rattle.ak_roster.specs.Heads.{IsHeads};
-ghost use Rattle.ak_roster.specs.Roster.{entries_of, IsAtRest, IsRoster, state};
+ghost use Rattle.ak_roster.specs.Roster.{plain_entries, IsAtRest, IsRoster, state};
 
-use crate::entry::{RosterEntry, RosterLine};
+use crate::entry::{EntryWithObjects, RosterEntry};
 use crate::grant::Grant;
 use crate::head::AppHead;
 use crate::team::{Running, TEAM_LIMIT};
@@ -14,7 +14,7 @@ use std::marker::Model;
 use std::snapshot::Snapshot;
 
 /// The book of the roster: the described applications, the teams that run, and all that was done, oldest first.
-/// It keeps a door for each looper that was started. Contracts see the descriptions, the lines and the doors.
+/// It keeps a door for each looper that was started. Contracts see the descriptions, the entries and the doors.
 /// It is at rest while it has a door of each of these. A call that is given a clock asks that its time and the
 /// last stamp are below 2^63. So they are at a turn, once the clock is ready. (The Be Book, The Application
 /// Kit, BRoster.)
@@ -47,7 +47,7 @@ impl<D: Grant> RosterBook<D> {
     /// room for the teams and doors of a run. Answers `NoMemory` where memory ran out.
     pub fn new(alloc: Global, apps: Vec<AppHead>) -> Result<RosterBook<D>, NoMemory>
         requires { IsHeads apps.items }
-        ensures { IfOk result (λ roster. roster ≡ record { heads = apps.items; lines = []; doors = [] }) }
+        ensures { IfOk result (λ roster. roster ≡ record { heads = apps.items; entries = []; doors = [] }) }
     {
         let doors = Vec::with_capacity(alloc, LOOPER_LIMIT as usize)?;
         Ok(RosterBook {
@@ -80,7 +80,7 @@ impl<D: Grant> RosterBook<D> {
 
     /// The entries, oldest first; the doors that are left are dropped. Takes no memory.
     pub fn into_entries(self) -> Vec<RosterEntry>
-        ensures { result.items ≡ entries_of self.lines }
+        ensures { result.items ≡ plain_entries self.entries }
     {
         let Self { entries, .. } = self;
         entries
@@ -88,17 +88,17 @@ impl<D: Grant> RosterBook<D> {
 }
 
 impl<D: Grant> Book for RosterBook<D> {
-    type Entry = RosterEntry;
+    type Plain = RosterEntry;
 
     type Opening = Items<AppHead>;
 
-    type Line = RosterLine<D::Object>;
+    type Entry = EntryWithObjects<D::Object>;
 
     ghost opening = { λ roster. roster.heads };
 
-    ghost lines = { λ roster. roster.lines };
+    ghost entries = { λ roster. roster.entries };
 
-    ghost plain = { λ line. line.entry };
+    ghost plain = { λ entry. entry.plain };
 
     ghost by = { λ entry. entry.by.0 };
 

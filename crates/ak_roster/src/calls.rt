@@ -28,7 +28,7 @@ impl<D: Grant> RosterBook<D> {
     /// there is none: `launch` makes it. `NoMemory` makes none either, and nothing changes.
     pub fn decide(&mut self, word: &AppWord, clock: &mut Clock) -> Decision
         requires time { clock.old.time < 2 ^ 63 }
-        requires stamp { last_stamp self.old.lines < 2 ^ 63 }
+        requires stamp { last_stamp self.old.entries < 2 ^ 63 }
         ensures answer { OnDecision result (result ≡ decision_of (launch_of self.old.heads (state self.old) word.now)) }
         ensures entry { OnRefusal result (Enters (RosterEvent.Launch word.now (launch_of self.old.heads (state self.old) word.now)) [] self.old.doors self.old self.new clock.old clock.new) }
         ensures stays { UnlessRefusal result (Stays self.old self.new clock.old clock.new) }
@@ -65,7 +65,7 @@ impl<D: Grant> RosterBook<D> {
     /// BRoster: TeamFor().)
     pub fn find(&mut self, word: &AppWord, clock: &mut Clock) -> FindAnswer
         requires time { clock.old.time < 2 ^ 63 }
-        requires stamp { last_stamp self.old.lines < 2 ^ 63 }
+        requires stamp { last_stamp self.old.entries < 2 ^ 63 }
         ensures answer { OnFound result (result ≡ answer_of (team_for self.old.heads (state self.old).running word.now)) }
         ensures entry { OnFound result (Enters (RosterEvent.Find word.now (find_of self.old.heads (state self.old) word.now)) [] self.old.doors self.old self.new clock.old clock.new) }
         ensures stays { UnlessFound result (Stays self.old self.new clock.old clock.new) }
@@ -86,7 +86,7 @@ impl<D: Grant> RosterBook<D> {
     /// team's number is not used again. Takes no memory.
     pub fn gone(&mut self, team: u32, clock: &mut Clock) -> bool
         requires time { clock.old.time < 2 ^ 63 }
-        requires stamp { last_stamp self.old.lines < 2 ^ 63 }
+        requires stamp { last_stamp self.old.entries < 2 ^ 63 }
         ensures answer { result ≡ list_any (runs_team team) (state self.old).running }
         ensures entry { IsTrue result → Enters (RosterEvent.Gone team) [] self.old.doors self.old self.new clock.old clock.new }
         ensures stays { IsFalse result → Stays self.old self.new clock.old clock.new }
@@ -126,7 +126,7 @@ impl<D: Grant> RosterBook<D> {
     // Enters an event that changes no state.
     fn enter(&mut self, event: RosterEvent, clock: &mut Clock) -> Result<(), NoMemory>
         requires time { clock.old.time < 2 ^ 63 }
-        requires stamp { last_stamp self.old.lines < 2 ^ 63 }
+        requires stamp { last_stamp self.old.entries < 2 ^ 63 }
         requires legal { IsLegal self.old.heads (state self.old) clock.old.thread.0 event }
         requires quiet { after self.old.heads (state self.old) clock.old.thread.0 event ≡ state self.old }
         requires no_looper { count_of self.old.heads event ≡ 0 }

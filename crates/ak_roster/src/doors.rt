@@ -24,10 +24,10 @@ impl<D: Grant> RosterBook<D> {
         requires rest { IsAtRest self.old }
         requires thread { IsStranger clock.old.thread.0 looper (slice_get (state self.old).loopers looper) }
         requires time { clock.old.time < 2 ^ 63 }
-        requires stamp { last_stamp self.old.lines < 2 ^ 63 }
+        requires stamp { last_stamp self.old.entries < 2 ^ 63 }
         ensures none { (result ≡ Ok None) ↔ (length (state self.old).loopers ≤ looper) }
         ensures part { IfPart result (λ part. GivesPartAt D.object D.threads D.part_object D.is_for looper part clock.old.thread.0 self.old.doors self.new.doors) }
-        ensures object { IfPart result (λ part. slice_get (objects_of self.old.lines) looper ≡ Some (D.part_object part)) }
+        ensures object { IfPart result (λ part. slice_get (objects_of self.old.entries) looper ≡ Some (D.part_object part)) }
         ensures entry { IfPart result (λ _. Enters (RosterEvent.Door looper) [] self.new.doors self.old self.new clock.old clock.new) }
         ensures stays { UnlessPart result (Stays self.old self.new clock.old clock.new) }
         ensures rest { IsAtRest self.new }
@@ -45,7 +45,7 @@ impl<D: Grant> RosterBook<D> {
     }
 
     /// All doors, by the loopers' numbers from 0; the book keeps none, and is at rest no more where there were
-    /// some. They tell the objects that the lines have, and the threads that have a part. It serves the end of
+    /// some. They tell the objects that the entries have, and the threads that have a part. It serves the end of
     /// a run. Takes no memory.
     pub fn take_doors(&mut self) -> Vec<D>
         requires rest { IsAtRest self.old }

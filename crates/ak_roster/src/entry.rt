@@ -64,7 +64,7 @@ pub enum RosterEvent {
     },
 }
 
-/// An entry of the roster's history.
+/// What the journal shows of an entry of the roster's history.
 #[derive(Debug, Drop)]
 pub struct RosterEntry {
     /// One more than the greater of the clock's time and the last stamp before it.
@@ -75,11 +75,11 @@ pub struct RosterEntry {
     pub event: RosterEvent,
 }
 
-/// An entry, for proofs alone, with what the doors of its loopers tell where it started a team. No value of it
-/// is made.
-pub struct RosterLine<O> {
-    /// The entry.
-    pub entry: RosterEntry,
+/// An entry of the roster's history, for proofs alone: what the journal shows of it, and what the doors of its
+/// loopers tell where it started a team. No value of it is made.
+pub struct EntryWithObjects<O> {
+    /// What the journal shows of it.
+    pub plain: RosterEntry,
     /// What the doors of the started loopers tell of their objects, in the order of the loopers; else nothing.
     pub objects: LinkedList<Option<O>>,
 }

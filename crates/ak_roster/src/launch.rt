@@ -28,7 +28,7 @@ impl<D: Grant> RosterBook<D> {
         requires starts { IsStarted (launch_of self.old.heads (state self.old) word.now) }
         requires doors { AreKept D.threads (length (state self.old).loopers) doors.items (loopers_of self.old.heads clock.old.thread.0 (launch_of self.old.heads (state self.old) word.now)) }
         requires time { clock.old.time < 2 ^ 63 }
-        requires stamp { last_stamp self.old.lines < 2 ^ 63 }
+        requires stamp { last_stamp self.old.entries < 2 ^ 63 }
         ensures answer { OnStarted result (LaunchedTo (launch_of self.old.heads (state self.old) word.now) result) }
         ensures entry { OnStarted result (Enters (RosterEvent.Launch word.now (launch_of self.old.heads (state self.old) word.now)) (map D.object doors.items) (self.old.doors ++ doors.items) self.old self.new clock.old clock.new) }
         ensures back { UnlessStarted result (λ back. back.items ≡ doors.items) }

@@ -43,10 +43,10 @@ pub fn holders_are_told()
     ensures four { law.FourTakeNoDoor }
 {}
 
-/// What a seat at the roster's lock knows of its own lines tells whether its thread is a stranger to a door, as
-/// `grant` asks: where it is none of the four, and none of the lines at its own places is of that door.
+/// What a seat at the roster's lock knows of its own entries tells whether its thread is a stranger to a door, as
+/// `grant` asks: where it is none of the four, and none of the entries at its own places is of that door.
 pub fn seats_tell_strangers<D: Grant>()
-    ensures lines { law.LinesTellEntries D.Object }
+    ensures entries { law.EntriesTellPlain D.Object }
     ensures strangers { law.SeatsAreStrangers D.Object }
 {}
 

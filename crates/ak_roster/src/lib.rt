@@ -20,7 +20,7 @@ mod team;
 pub use ak_base::LOOPER_LIMIT;
 pub use answer::{Decision, FindAnswer, Launched};
 pub use book::RosterBook;
-pub use entry::{FindOutcome, LaunchOutcome, RosterEntry, RosterEvent, RosterLine};
+pub use entry::{EntryWithObjects, FindOutcome, LaunchOutcome, RosterEntry, RosterEvent};
 pub use grant::Grant;
 pub use head::{AppHead, Mode};
 pub use laws::{

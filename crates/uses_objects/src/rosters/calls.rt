@@ -70,7 +70,7 @@ fn add_head(alloc: Global, heads: &mut Vec<AppHead>, row: Row) -> Result<(), Fai
 pub fn roster_of(alloc: Global, rows: &[Row]) -> Result<Roster, Fail>
     ensures rest { IfOk result (λ roster. IsAtRest roster) }
     ensures fresh { IfOk result (λ roster. All (λ l. l.given ≡ []) (state roster).loopers) }
-    ensures empty { IfOk result (λ roster. roster.lines ≡ []) }
+    ensures empty { IfOk result (λ roster. roster.entries ≡ []) }
 {
     let mut heads = Vec::new(alloc);
     for row in rows {
@@ -98,7 +98,7 @@ fn is_launch_word(word: &AppWord) -> bool
 // Whether stamps are left for the clock and the roster.
 pub fn has_stamps(roster: &Roster, clock: &Clock) -> bool
     ensures time { OnTrue result (clock.now.time < 2 ^ 63) }
-    ensures stamp { OnTrue result (last_stamp roster.now.lines < 2 ^ 63) }
+    ensures stamp { OnTrue result (last_stamp roster.now.entries < 2 ^ 63) }
 {
     roster.last_stamp() < 1 << 63 && clock.time < 1 << 63
 }
@@ -121,7 +121,7 @@ fn decide_and_launch(
     requires rest { IsAtRest roster.old }
     requires word { IsWord word.now }
     requires time { clock.old.time < 2 ^ 63 }
-    requires stamp { last_stamp roster.old.lines < 2 ^ 63 }
+    requires stamp { last_stamp roster.old.entries < 2 ^ 63 }
     ensures rest { IsAtRest roster.new }
     ensures fresh { All (λ l. l.given ≡ []) (state roster.old).loopers → All (λ l. l.given ≡ []) (state roster.new).loopers }
 {

@@ -22,9 +22,9 @@ pub fn find_in(
     requires of { seat.old.lock ≡ roster.now }
     requires idle { seat.old.turn ≡ false }
     requires thread { seat.old.thread ≡ clock.old.thread.0 }
-    ensures called { OnFound result ((line : _) × HasCalled (λ l. l.entry.by.0) line seat.old seat.new) }
-    ensures seen { UnlessFound result (HasSeen (λ l. l.entry.by.0) seat.old seat.new) }
-    ensures known { KnowsWhole (λ l. l.entry.by.0) seat.new }
+    ensures called { OnFound result ((entry : _) × HasCalled (λ e. e.plain.by.0) entry seat.old seat.new) }
+    ensures seen { UnlessFound result (HasSeen (λ e. e.plain.by.0) seat.old seat.new) }
+    ensures known { KnowsWhole (λ e. e.plain.by.0) seat.new }
 {
     let mut turn = roster.lock(rt, seat);
     clock.ready(rt);

@@ -14,11 +14,11 @@ pub fn with_both(alloc: Global) -> Result<Bytes, NoMemory> {
     bytes_of(alloc, &[INPUT.as_bytes(), lines])
 }
 
-/// A line of a desk's list, of a message that was dispatched: its stamp and its thread, its position, its route, how many
+/// An entry of a desk's list, of a message that was dispatched: its stamp and its thread, its position, its route, how many
 /// words it has, and whether it ends the looper.
-pub type Line = (u64, ThreadId, u64, EntryRoute, usize, bool);
+pub type Entry = (u64, ThreadId, u64, EntryRoute, usize, bool);
 
-fn line_at(desk: &Desk, place: u64) -> Result<Line, Fail> {
+fn entry_at(desk: &Desk, place: u64) -> Result<Entry, Fail> {
     let DeskEntry { stamp, by, event } = desk.entry(place)?.ok_or("no entry")?;
     match event {
         DeskEvent::Dispatched {
@@ -32,7 +32,7 @@ fn line_at(desk: &Desk, place: u64) -> Result<Line, Fail> {
 }
 
 /// Whether a run has the one property, `Count` of 3, and the two words, `Count` and `Nothing`; and its desk's list.
-pub type Listed = ([bool; 2], [Line; 3], u64);
+pub type Listed = ([bool; 2], [Entry; 3], u64);
 
 fn is_its_property(rows: &[(Text, i32)]) -> bool {
     match rows {
@@ -49,16 +49,16 @@ fn are_its_words(asked: &[Text]) -> bool {
 }
 
 fn listed_by(run: &FirstRun) -> Result<Listed, Fail> {
-    let lines = [
-        line_at(&run.desk, 0)?,
-        line_at(&run.desk, 1)?,
-        line_at(&run.desk, 2)?,
+    let entries = [
+        entry_at(&run.desk, 0)?,
+        entry_at(&run.desk, 1)?,
+        entry_at(&run.desk, 2)?,
     ];
     let has = [
         is_its_property(run.rows.as_slice()),
         are_its_words(run.asked.as_slice()),
     ];
-    Ok((has, lines, run.desk.len()))
+    Ok((has, entries, run.desk.len()))
 }
 
 /// What the run of that input has.
