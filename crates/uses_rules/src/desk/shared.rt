@@ -73,12 +73,12 @@ fn edited_in_turn<R: Wait>(rt: &R, alloc: Global) -> Result<([EditAnswer; 5], De
 
 // Who made an entry, when, and what was answered.
 #[derive(Clone, Copy, Debug, PartialEq, Eq)]
-struct Line(u32, u64, EditAnswer);
+struct Entry(u32, u64, EditAnswer);
 
-fn line_at(desk: &Desk, place: u64) -> Result<Line, Fail> {
+fn entry_at(desk: &Desk, place: u64) -> Result<Entry, Fail> {
     match desk.entry(place)? {
         Some(entry) => match entry.event {
-            DeskEvent::Edited { answer, .. } => Ok(Line(entry.by.0, entry.stamp, answer)),
+            DeskEvent::Edited { answer, .. } => Ok(Entry(entry.by.0, entry.stamp, answer)),
             DeskEvent::Dispatched { .. } => Err(Fail::new("the entry is no edit")),
         },
         None => Err(Fail::new("there is no such entry")),
@@ -87,41 +87,41 @@ fn line_at(desk: &Desk, place: u64) -> Result<Line, Fail> {
 
 // What was answered, how many entries there are, each of the first five, how many handlers there are then, and
 // the next one of the handler with token 1.
-type Edited = ([EditAnswer; 5], u64, [Line; 5], u32, Option<u64>);
+type Edited = ([EditAnswer; 5], u64, [Entry; 5], u32, Option<u64>);
 
-static LINES: [Line; 5] = [
-    Line(0, 1, Token(2)),
-    Line(1, 7, Done),
-    Line(0, 8, Refused(HandlerFault::BadHandler)),
-    Line(1, 9, Refused(HandlerFault::NameInUse)),
-    Line(0, 10, Done),
+static ENTRIES: [Entry; 5] = [
+    Entry(0, 1, Token(2)),
+    Entry(1, 7, Done),
+    Entry(0, 8, Refused(HandlerFault::BadHandler)),
+    Entry(1, 9, Refused(HandlerFault::NameInUse)),
+    Entry(0, 10, Done),
 ];
 
-fn lines(desk: &Desk) -> Result<[Line; 5], Fail> {
+fn entries(desk: &Desk) -> Result<[Entry; 5], Fail> {
     Ok([
-        line_at(desk, 0)?,
-        line_at(desk, 1)?,
-        line_at(desk, 2)?,
-        line_at(desk, 3)?,
-        line_at(desk, 4)?,
+        entry_at(desk, 0)?,
+        entry_at(desk, 1)?,
+        entry_at(desk, 2)?,
+        entry_at(desk, 3)?,
+        entry_at(desk, 4)?,
     ])
 }
 
-fn answers_in(lines: &[Line; 5]) -> [EditAnswer; 5] {
-    [lines[0].2, lines[1].2, lines[2].2, lines[3].2, lines[4].2]
+fn answers_in(entries: &[Entry; 5]) -> [EditAnswer; 5] {
+    [entries[0].2, entries[1].2, entries[2].2, entries[3].2, entries[4].2]
 }
 
 fn edited<R: Wait>(rt: &R, alloc: Global) -> Result<Edited, Fail> {
     let (answers, desk) = edited_in_turn(rt, alloc)?;
     let handlers = &desk.state().handlers;
     let next = handlers.next_of(1);
-    Ok((answers, desk.len(), lines(&desk)?, handlers.len(), next))
+    Ok((answers, desk.len(), entries(&desk)?, handlers.len(), next))
 }
 
 // The answers are those of one list, which has the edits of both.
 #[test]
 fn two_threads_edit_one_desk(rt: HostRuntime) -> Result<(), Fail> {
-    let told: Edited = (answers_in(&LINES), 5, LINES, 2, Some(0));
+    let told: Edited = (answers_in(&ENTRIES), 5, ENTRIES, 2, Some(0));
     assert_eq!(rt; edited(&rt, rt.alloc())?, told);
     Ok(())
 }

@@ -39,7 +39,7 @@ fn words_of(alloc: Global, words: &str) -> Result<Vec<Bytes>, NoMemory> {
     Ok(given)
 }
 
-/// How a run ended: its status, its ending, how many lines its desk's list has, where there is a run; whether it wrote
+/// How a run ended: its status, its ending, how many entries its desk's list has, where there is a run; whether it wrote
 /// the text that it was to write; and whether a read behind it fails.
 #[derive(Clone, Copy, Debug, PartialEq)]
 pub struct Ended {
