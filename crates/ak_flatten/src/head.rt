@@ -2,7 +2,6 @@
 
 ghost use Rattle.std.specs.Prelude.{◌≡◌, ◌≤◌, true, false, is_some, IfSome, IfNone, IfOk};
 ghost use Rattle.ak_base.specs.Word as word;
-ghost use Rattle.ak_message.specs.Kind.{kind_of_code};
 ghost use Rattle.ak_message.specs.Fields.{field_named};
 ghost use Rattle.ak_message.specs.Limits.{field_limit};
 ghost use Rattle.ak_flatten.specs.Format.{is_length};
@@ -11,7 +10,7 @@ ghost use Rattle.ak_flatten.specs.Seen.{Reads, left_of};
 
 use crate::fault::{FlatFault, FlatKind};
 use crate::input::Input;
-use ak_base::{TEXT_LIMIT, WORD_LIMIT, is_word};
+use ak_base::{Code, TEXT_LIMIT, WORD_LIMIT, is_word};
 use ak_message::{Address, FIELD_LIMIT, FindFault, Kind, Message, Target};
 
 // The longest text and the longest raw value.
@@ -52,34 +51,13 @@ pub(crate) fn opening(input: Input) -> Result<((u32, u32), Input), FlatFault>
     Ok(((what, count), rest))
 }
 
-fn kind_of_code(code: u32) -> Option<Kind>
-    ensures { result ≡ kind_of_code code }
-{
-    match code {
-        0x424f_4f4c => Some(Kind::Bool),
-        0x4259_5445 => Some(Kind::Int8),
-        0x5348_5254 => Some(Kind::Int16),
-        0x4c4f_4e47 => Some(Kind::Int32),
-        0x4c4c_4e47 => Some(Kind::Int64),
-        0x5542_5954 => Some(Kind::UInt8),
-        0x5553_4854 => Some(Kind::UInt16),
-        0x554c_4e47 => Some(Kind::UInt32),
-        0x554c_4c47 => Some(Kind::UInt64),
-        0x4353_5452 => Some(Kind::Text),
-        0x4d53_4747 => Some(Kind::Message),
-        0x4d53_4e47 => Some(Kind::Messenger),
-        0x5241_5754 => Some(Kind::Raw),
-        _ => None,
-    }
-}
-
 /// A field's kind.
 #[tactic(auto, unfolding(crate::specs::Reading::kind_at))]
 pub(crate) fn kind(input: Input) -> Result<(Kind, Input), FlatFault>
     ensures { Reads (λ x. (x.0, left_of x.1)) result (reads.kind_at (left_of input.entry)) }
 {
     let (code, rest) = input.number32()?;
-    match kind_of_code(code) {
+    match Kind::from_code(Code(code)) {
         Some(kind) => Ok((kind, rest)),
         None => Err(input.fault(FlatKind::BadType)),
     }

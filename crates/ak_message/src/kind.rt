@@ -1,5 +1,5 @@
 ghost use Rattle.std.specs.Prelude.{◌≡◌};
-ghost use Rattle.ak_message.specs.Kind.{code_of_kind};
+ghost use Rattle.ak_message.specs.Kind.{code_of_kind, kind_of_code};
 
 use ak_base::Code;
 
@@ -55,5 +55,27 @@ impl Kind {
             Kind::Raw => b"RAWT",
         };
         Code(u32::from_be_bytes(*letters))
+    }
+
+    /// The kind of that type code. None where no kind has it.
+    pub fn from_code(code: Code) -> Option<Kind>
+        ensures { result ≡ kind_of_code code.0 }
+    {
+        match code.0 {
+            0x424f_4f4c => Some(Kind::Bool),
+            0x4259_5445 => Some(Kind::Int8),
+            0x5348_5254 => Some(Kind::Int16),
+            0x4c4f_4e47 => Some(Kind::Int32),
+            0x4c4c_4e47 => Some(Kind::Int64),
+            0x5542_5954 => Some(Kind::UInt8),
+            0x5553_4854 => Some(Kind::UInt16),
+            0x554c_4e47 => Some(Kind::UInt32),
+            0x554c_4c47 => Some(Kind::UInt64),
+            0x4353_5452 => Some(Kind::Text),
+            0x4d53_4747 => Some(Kind::Message),
+            0x4d53_4e47 => Some(Kind::Messenger),
+            0x5241_5754 => Some(Kind::Raw),
+            _ => None,
+        }
     }
 }

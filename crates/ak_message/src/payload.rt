@@ -2,38 +2,16 @@
 
 ghost use Rattle.std.specs.Prelude.{◌≡◌, ◌<◌, ◌≤◌, ◌^◌, ◌&&◌, ◌≤ℤ◌, pos, negsuc, unsigned_abs, int_le, length, IfSome};
 ghost use Rattle.ak_base.specs.Limits.{digits_limit};
-ghost use Rattle.ak_message.specs.Kind.{kind_of_code};
 ghost use Rattle.ak_message.specs.InputText.{IntsAreRead};
 ghost use Rattle.ak_message.specs.Payload as reads;
 ghost use Rattle.ak_message.specs.Payload.{where_true};
 
 use crate::address::{Address, Target};
 use crate::kind::Kind;
-use ak_base::read_int;
+use ak_base::{Code, read_int};
 
 /// What stands between the letters of a value's kind and its payload, and before it.
 pub(crate) const LETTERS_LEN: usize = 5;
-
-fn kind_of_code(code: u32) -> Option<Kind>
-    ensures { result ≡ kind_of_code code }
-{
-    match code {
-        0x424f_4f4c => Some(Kind::Bool),
-        0x4259_5445 => Some(Kind::Int8),
-        0x5348_5254 => Some(Kind::Int16),
-        0x4c4f_4e47 => Some(Kind::Int32),
-        0x4c4c_4e47 => Some(Kind::Int64),
-        0x5542_5954 => Some(Kind::UInt8),
-        0x5553_4854 => Some(Kind::UInt16),
-        0x554c_4e47 => Some(Kind::UInt32),
-        0x554c_4c47 => Some(Kind::UInt64),
-        0x4353_5452 => Some(Kind::Text),
-        0x4d53_4747 => Some(Kind::Message),
-        0x4d53_4e47 => Some(Kind::Messenger),
-        0x5241_5754 => Some(Kind::Raw),
-        _ => None,
-    }
-}
 
 /// The kind whose letters and a colon the text begins with.
 pub(crate) fn kind_before(text: &[u8]) -> Option<Kind>
@@ -43,7 +21,9 @@ pub(crate) fn kind_before(text: &[u8]) -> Option<Kind>
     if text.len() < LETTERS_LEN || text[4] != b':' {
         return None;
     }
-    kind_of_code(u32::from_be_bytes([text[0], text[1], text[2], text[3]]))
+    Kind::from_code(Code(u32::from_be_bytes([
+        text[0], text[1], text[2], text[3],
+    ])))
 }
 
 pub(crate) fn bool_from(text: &[u8]) -> Option<bool>
