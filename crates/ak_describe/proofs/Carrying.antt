@@ -10,8 +10,7 @@ use Rattle.ak_filter.specs.declared.filter.Filter.{Filter}
 use Rattle.ak_message.specs.declared.kind.Kind.{Kind}
 use Rattle.ak_message.specs.Kind.{is_same_kind}
 use Rattle.ak_message.specs.Message.{ValueData, kind_of}
-use Rattle.ak_message.specs.Payload.{where_true}
-use Rattle.ak_message.specs.Words.{◌>>=◌}
+use Rattle.ak_base.specs.Option.{where_true, ◌>>=◌}
 use Rattle.ak_action.specs.declared.action.Action.{Action}
 use Rattle.ak_action.specs.declared.action.Action.TheVariants as action
 use Rattle.ak_action.specs.declared.action.Reaction.{Reaction}

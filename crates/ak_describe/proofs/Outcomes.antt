@@ -1,8 +1,7 @@
 -- What was given along the way to what reading gives.
 use Rattle.std.proofs.Common.{◌≡◌, ◌-◌, Bool, true, false, if◌then◌else◌, List, length, set, Option, Some, None, option_map, Result, Ok, Err, refl, sym, ap, ◌∙◌}
 use Rattle.ak_base.specs.declared.ending.RefusalKind.{RefusalKind}
-use Rattle.ak_message.specs.Payload.{where_true}
-use Rattle.ak_message.specs.Words.{◌>>=◌}
+use Rattle.ak_base.specs.Option.{where_true, ◌>>=◌}
 use Rattle.ak_describe.specs.Pass.{judged, last_item, with_item, on_item, on_last, or_bad, or_limit, then_read}
 
 -- ---- of options

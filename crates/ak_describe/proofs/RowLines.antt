@@ -13,8 +13,7 @@ use Rattle.ak_message.specs.declared.kind.Kind.TheVariants as k
 use Rattle.ak_message.specs.Kind.{is_same_kind}
 use Rattle.ak_message.specs.Message.{ValueData}
 use Rattle.ak_message.specs.Message as message
-use Rattle.ak_message.specs.Payload.{where_true}
-use Rattle.ak_message.specs.Words.{◌>>=◌}
+use Rattle.ak_base.specs.Option.{where_true, ◌>>=◌}
 use Rattle.ak_property.specs.declared.table.PropertyRow.{PropertyRow}
 use Rattle.ak_value.specs.declared.fault.ElementFault.{ElementFault}
 use Rattle.ak_value.specs.declared.fault.ElementFault.TheVariants as fault

@@ -6,9 +6,8 @@ use Rattle.ak_base.specs.declared.app_word.AppWord.{AppWord}
 use Rattle.ak_base.specs.declared.app_word.AppWord.TheVariants as app
 use Rattle.ak_base.specs.declared.code.Code.{Code}
 use Rattle.ak_message.specs.Message.{ValueData, FieldData, MessageData}
-use Rattle.ak_message.specs.Payload.{where_true}
+use Rattle.ak_base.specs.Option.{where_true, ◌>>=◌}
 use Rattle.ak_message.specs.Reading.{field_split}
-use Rattle.ak_message.specs.Words.{◌>>=◌}
 use Rattle.ak_flatten.specs.Spelling.{spelling}
 use Rattle.ak_flatten.specs.Limits.{flat_limit}
 use Rattle.ak_action.specs.declared.action.Action.{Action}

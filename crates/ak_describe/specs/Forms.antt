@@ -11,8 +11,7 @@ use Rattle.ak_filter.specs.declared.filter.SourceIs.{SourceIs}
 use Rattle.ak_filter.specs.declared.filter.SourceIs.TheVariants as sides
 use Rattle.ak_message.specs.declared.kind.Kind.{Kind}
 use Rattle.ak_message.specs.Message.{ValueData}
-use Rattle.ak_message.specs.Payload.{where_true}
-use Rattle.ak_message.specs.Words.{◌>>=◌}
+use Rattle.ak_base.specs.Option.{where_true, ◌>>=◌}
 use Rattle.ak_describe.specs.declared.form.filter.Passing.{Passing}
 use Rattle.ak_describe.specs.declared.form.heads.AppForm.{AppForm}
 use Rattle.ak_describe.specs.declared.form.heads.LooperForm.{LooperForm}

@@ -6,9 +6,8 @@ use Rattle.ak_message.specs.declared.kind.Kind.TheVariants as k
 use Rattle.ak_message.specs.Kind.{is_same_kind}
 use Rattle.ak_message.specs.Message.{ValueData, bool_value, int8_value, int16_value, int32_value, int64_value, uint8_value, uint16_value, uint32_value, uint64_value, text_value, message_value, messenger_value, raw_value}
 use Rattle.ak_message.specs.Message as message
-use Rattle.ak_message.specs.Payload.{where_true}
+use Rattle.ak_base.specs.Option.{where_true, ◌>>=◌}
 use Rattle.ak_message.specs.Reading as reading
-use Rattle.ak_message.specs.Words.{◌>>=◌}
 use Rattle.ak_flatten.specs.Spelling.{value_bytes}
 use Rattle.ak_flatten.specs.Limits.{flat_limit}
 use Rattle.ak_action.specs.declared.number.Number.{Number}

@@ -10,9 +10,9 @@ use Rattle.ak_base.specs.declared.app_word.AppWord.TheVariants as app
 use Rattle.ak_message.specs.declared.kind.Kind.{Kind}
 use Rattle.ak_message.specs.declared.kind.Kind.TheVariants as k
 use Rattle.ak_message.specs.declared.line.Word.{Word}
-use Rattle.ak_message.specs.Payload.{where_true, uint_within}
+use Rattle.ak_base.specs.Option.{where_true, ◌>>=◌}
+use Rattle.ak_message.specs.Payload.{uint_within}
 use Rattle.ak_message.specs.Reading.{code_from}
-use Rattle.ak_message.specs.Words.{◌>>=◌}
 use Rattle.ak_roster.specs.declared.head.Mode.{Mode}
 use Rattle.ak_roster.specs.declared.head.Mode.TheVariants as mode
 

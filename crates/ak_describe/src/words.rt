@@ -2,7 +2,8 @@
 
 ghost use Rattle.std.specs.Prelude.{◌≡◌, ◌&&◌, true, [], pos, int_le, unsigned_abs, IfOk, option_map};
 ghost use Rattle.ak_base.specs.Word.{is_word};
-ghost use Rattle.ak_message.specs.Payload.{where_true, uint_within};
+ghost use Rattle.ak_base.specs.Option.{where_true};
+ghost use Rattle.ak_message.specs.Payload.{uint_within};
 ghost use Rattle.ak_describe.specs.Seen.{word_and_rest, read_and_rest, rest_seen};
 ghost use Rattle.ak_describe.specs.Answers.{Gives};
 ghost use Rattle.ak_describe.specs.Words as reads;

@@ -3,7 +3,8 @@ use Rattle.std.proofs.Common.{◌≡◌, ℕ, List, [], ◌∷◌, ◌++◌, ℤ
 use Rattle.std.specs.Prelude.{codes}
 use Rattle.std.specs.List.{flat_map}
 use Rattle.ak_kit.specs.FirstInput.{Script, name_of, names_differ, IsScript, line, row_lines, hey_line, spelling, IsFirstInput}
-use Rattle.ak_kit.specs.Reading.{◌>>=◌, where_true, after, App, app_at, looper_at, rows_at, asked_at, launch_at, statements_at, opening_at, script_from, script_of}
+use Rattle.ak_base.specs.Option.{◌>>=◌, where_true}
+use Rattle.ak_kit.specs.Reading.{after, App, app_at, looper_at, rows_at, asked_at, launch_at, statements_at, opening_at, script_from, script_of}
 use Rattle.ak_kit.proofs.GrammarFields.{bind_some, test_some, some_is, after_takes, after_again}
 use Rattle.ak_kit.proofs.GrammarLines.{app_line, IsApp, app_takes, app_again, looper_line, IsLooper, looper_takes, looper_again, rows_take, rows_again, asked_take, asked_again}
 

@@ -9,7 +9,8 @@ use Rattle.std.proofs.lemmas.Bool.{or_cases}
 use Rattle.std.proofs.lemmas.Slice.Eq.{bytes_eq-Decides}
 use Rattle.ak_base.specs.Word.{is_word_byte, is_word}
 use Rattle.ak_kit.specs.FirstInput.{begins_with, is_path, is_signature, is_mode, is_askable, IsRow, AllRows, line, row_lines, hey_line}
-use Rattle.ak_kit.specs.Reading.{◌>>=◌, where_true, after, field_at, int32_of, capacity_of, App, app_at, looper_at, row_at, rows_at, hey_at, asked_at}
+use Rattle.ak_base.specs.Option.{◌>>=◌, where_true}
+use Rattle.ak_kit.specs.Reading.{after, field_at, int32_of, capacity_of, App, app_at, looper_at, row_at, rows_at, hey_at, asked_at}
 use Rattle.ak_kit.proofs.Words.{both_true}
 use Rattle.ak_kit.proofs.Numbers.{int32_takes}
 use Rattle.ak_kit.proofs.GrammarFields.{bind_some, test_some, some_is, after_takes, after_again, NoGap, no_gap_word_bytes, no_gap_word, field_takes, field_again, is_int32_fits, int32_again, no_gap_int32, capacity_takes, capacity_again, no_gap_capacity}

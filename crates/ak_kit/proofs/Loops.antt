@@ -5,7 +5,8 @@ use Rattle.std.specs.Prelude.{codes}
 use Rattle.ak_kit.specs.declared.fault.ScriptFault.{ScriptFault}
 use Rattle.ak_kit.specs.declared.fault.ScriptFault.TheVariants as fault
 use Rattle.ak_kit.specs.Seen.{Fails}
-use Rattle.ak_kit.specs.Reading.{◌>>=◌, after, row_at, rows_at, hey_at, asked_at}
+use Rattle.ak_base.specs.Option.{◌>>=◌}
+use Rattle.ak_kit.specs.Reading.{after, row_at, rows_at, hey_at, asked_at}
 
 -- ---- properties
 

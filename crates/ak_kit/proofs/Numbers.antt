@@ -8,7 +8,8 @@ use Rattle.std.proofs.lemmas.Fmt.{decimal_is_IsNumeral_wide}
 use Rattle.std.proofs.lemmas.Slice.Eq.{bytes_eq-Decides}
 use Rattle.ak_base.specs.Number.{IsIntText}
 use Rattle.ak_base.proofs.Digits.{below_from_short, short_from_below, decimal-ne_minus}
-use Rattle.ak_kit.specs.Reading.{where_true, int_value, is_int32, int32_of}
+use Rattle.ak_base.specs.Option.{where_true}
+use Rattle.ak_kit.specs.Reading.{int_value, is_int32, int32_of}
 use Rattle.ak_kit.proofs.Fronts.{not_begins}
 use Rattle.ak_kit.proofs.Words.{both_true}
 

@@ -1,23 +1,16 @@
 -- Reading such an input from its front: each reader answers what it read and the bytes after it, or nothing.
-use Rattle.std.specs.Prelude.{ℕ, zero, suc, ◌++◌, Bool, not, ◌&&◌, ◌||◌, ◌==◌, List, [], ◌∷◌, length, take, drop, codes, ℤ, pos, negsuc, neg_ℤ, unsigned_abs, int_le, Option, Some, None, option_and_then, if◌then◌else◌}
+use Rattle.std.specs.Prelude.{ℕ, zero, suc, ◌++◌, Bool, not, ◌&&◌, ◌||◌, ◌==◌, List, [], ◌∷◌, length, take, drop, codes, ℤ, pos, negsuc, neg_ℤ, unsigned_abs, int_le, Option, Some, None, if◌then◌else◌}
 use Rattle.std.specs.Option.{option_map_or}
 use Rattle.std.specs.List.{prefix_len}
 use Rattle.std.specs.Str.{bytes_eq}
 use Rattle.std.specs.Str.Parse.{digits_value}
 use Rattle.std.specs.Fmt.{signed_decimal}
 use Rattle.ak_base.specs.Word.{is_word}
+use Rattle.ak_base.specs.Option.{◌>>=◌, where_true}
 use Rattle.ak_base.specs.Limits.{capacity_limit}
 use Rattle.ak_property.specs.Limits.{row_limit}
 use Rattle.ak_kit.specs.FirstInput.{Script, begins_with, is_path, is_signature, is_mode, name_of, is_askable, names_differ}
 use Rattle.ak_kit.specs.Limits.{hey_limit}
-
-infixl 10 ◌>>=◌
-abbrev pub ◌>>=◌ : {A B : Type 0} → Option A → (A → Option B) → Option B
-o >>= f = option_and_then f o
-
--- x, where the test passed
-abbrev pub where_true : {A : Type 0} → Bool → A → Option A
-where_true test x = if test then Some x else None
 
 -- the bytes after this front
 unfoldable pub after : List ℕ → List ℕ → Option (List ℕ)

@@ -8,7 +8,7 @@ ghost use Rattle.ak_base.specs.Word as word;
 ghost use Rattle.ak_property.specs.Limits.{row_limit};
 ghost use Rattle.ak_kit.specs.FirstInput.{AreParts, IsTextOf, IsNoScript, name_of, is_path, is_signature, is_mode, is_reserved, is_askable, names_differ};
 ghost use Rattle.ak_kit.specs.Reading as reads;
-ghost use Rattle.ak_kit.specs.Reading.{where_true};
+ghost use Rattle.ak_base.specs.Option.{where_true};
 ghost use Rattle.ak_kit.specs.Seen.{Gives, opening_seen, opening_told, pair_of, parts_of, seen, seen_script};
 ghost use Rattle.ak_kit.specs.Limits.{hey_limit};
 

@@ -10,7 +10,8 @@ use Rattle.std.proofs.lemmas.Nat.{be_bytes_4, from_be_bytes-to_be_bytes_4}
 use Rattle.std.proofs.lemmas.Slice.Eq.{starts_is}
 use Rattle.ak_base.specs.Code.{bytes_of, may_all_be_quoted, hex_of, IsCodeText}
 use Rattle.ak_base.proofs.Codes.{quoted_found}
-use Rattle.ak_message.specs.Payload.{where_true, raw_from}
+use Rattle.ak_base.specs.Option.{where_true}
+use Rattle.ak_message.specs.Payload.{raw_from}
 use Rattle.ak_message.specs.Reading.{code_from}
 use Rattle.ak_message.proofs.HexLaws.{raws_take, raws_again}
 use Rattle.ak_message.proofs.WordLaws.{cond_some, some_is}

@@ -8,7 +8,7 @@ use Rattle.std.proofs.lemmas.List.Elements.{All-nil, All-cons, All-head, All-tai
 use Rattle.ak_base.specs.Code.{hex_of}
 use Rattle.ak_message.specs.InputText.{RawsAreRead}
 use Rattle.ak_message.specs.Payload.{hex_value, raw_from}
-use Rattle.ak_message.specs.Words.{◌>>=◌}
+use Rattle.ak_base.specs.Option.{◌>>=◌}
 use Rattle.ak_message.proofs.WordLaws.{bind_some, some_is}
 
 -- ---- digits

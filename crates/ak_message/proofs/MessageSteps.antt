@@ -9,7 +9,7 @@ use Rattle.ak_message.specs.Message.{MessageData}
 use Rattle.ak_message.specs.Pieces.{pieces_of}
 use Rattle.ak_message.specs.Reading.{Got, Built, values_added, field_split, field_begun, field_behind, fields_behind, code_from, message_of}
 use Rattle.ak_message.specs.ReadSeen.{Fails, seen}
-use Rattle.ak_message.specs.Words.{◌>>=◌}
+use Rattle.ak_base.specs.Option.{◌>>=◌}
 
 -- the first one fails
 pub fails_first : {A B : Type 0} (e : ParseFault) (o : Option A) (f : A → Option B) → Fails e o → Fails e (o >>= f)

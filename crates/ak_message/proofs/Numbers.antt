@@ -11,7 +11,8 @@ use Rattle.std.proofs.lemmas.Slice.Eq.{bytes_eq-Decides, starts_is}
 use Rattle.ak_base.specs.Number.{IsIntText}
 use Rattle.ak_base.proofs.Digits.{below_from_short, short_from_below, decimal-ne_minus}
 use Rattle.ak_message.specs.InputText.{IntsAreRead}
-use Rattle.ak_message.specs.Payload.{where_true, int_value, int_within}
+use Rattle.ak_base.specs.Option.{where_true}
+use Rattle.ak_message.specs.Payload.{int_value, int_within}
 
 digits_value-decimal : (n : ℕ) → length (decimal n) ≤ 20 → digits_value 10 (decimal n) ≡ n
 digits_value-decimal n short = let below = below_from_short n short in (decimal_is_IsNumeral_wide n (omega arith)).1

@@ -9,7 +9,7 @@ use Rattle.ak_message.specs.declared.pieces.Separator.{Separator}
 use Rattle.ak_message.specs.Marks.{start, step, is_outside}
 use Rattle.ak_message.specs.Pieces.{separates, pieces_from}
 use Rattle.ak_message.specs.ReadSeen.{seen}
-use Rattle.ak_message.specs.Words.{◌>>=◌}
+use Rattle.ak_base.specs.Option.{◌>>=◌}
 
 -- a piece goes on: these bytes stand before the first of those that are read
 abbrev pub onto_front : List ℕ → List (List ℕ) → List (List ℕ)

@@ -10,8 +10,8 @@ use Rattle.ak_message.specs.declared.marks.Quotes.TheVariants as q
 use Rattle.ak_message.specs.InputText.{TextsAreRead}
 use Rattle.ak_message.specs.Marks.{double_step}
 use Rattle.ak_message.specs.MessageText.{quoted_byte, quoted}
-use Rattle.ak_message.specs.Payload.{where_true, hex_value, is_control, after_zero, text_step, onto, quoted_from, unquoted}
-use Rattle.ak_message.specs.Words.{◌>>=◌}
+use Rattle.ak_base.specs.Option.{where_true, ◌>>=◌}
+use Rattle.ak_message.specs.Payload.{hex_value, is_control, after_zero, text_step, onto, quoted_from, unquoted}
 use Rattle.ak_message.proofs.HexLaws.{digit_again, digit_takes}
 use Rattle.ak_message.proofs.WordLaws.{bind_some, some_is, cond_some}
 

@@ -4,7 +4,7 @@ use Rattle.std.proofs.lemmas.List.{append-nil, drop_all, drop_more}
 use Rattle.ak_message.specs.declared.marks.Quotes.{Quotes}
 use Rattle.ak_message.specs.Marks.{is_unquoted}
 use Rattle.ak_message.specs.Payload.{text_step, onto, put, quoted_from, hex_value, raw_from}
-use Rattle.ak_message.specs.Words.{◌>>=◌}
+use Rattle.ak_base.specs.Option.{◌>>=◌}
 
 -- behind bytes that were read before
 abbrev pub bytes_behind : List ℕ → Option (List ℕ) → Option (List ℕ)

@@ -7,7 +7,8 @@ use Rattle.ak_message.specs.declared.line.Word.{Word}
 use Rattle.ak_message.specs.declared.marks.Marks.{Marks}
 use Rattle.ak_message.specs.declared.words.Begun.{Begun}
 use Rattle.ak_message.specs.Marks.{is_blank, step, plain_step, start, is_outside, ends_before}
-use Rattle.ak_message.specs.Words.{GoesOn, IsWordText, is_end, IsLine, ◌>>=◌, begun_at, grown, opened_at, words_from}
+use Rattle.ak_base.specs.Option.{◌>>=◌}
+use Rattle.ak_message.specs.Words.{GoesOn, IsWordText, is_end, IsLine, begun_at, grown, opened_at, words_from}
 
 -- ---- steps
 

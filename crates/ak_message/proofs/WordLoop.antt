@@ -9,7 +9,8 @@ use Rattle.ak_message.specs.declared.words.WordsFault.{WordsFault}
 use Rattle.ak_message.specs.declared.words.WordsFault.TheVariants as fault
 use Rattle.ak_message.specs.LineSeen.{Fails, IsFaultOf}
 use Rattle.ak_message.specs.Marks.{step, is_outside, ends_before}
-use Rattle.ak_message.specs.Words.{◌>>=◌, grown, opened_at, words_behind, words_from, line_words}
+use Rattle.ak_base.specs.Option.{◌>>=◌}
+use Rattle.ak_message.specs.Words.{grown, opened_at, words_behind, words_from, line_words}
 
 pub words_end : (words : List Word) (begun : Option Begun) (column i : ℕ) (line : List ℕ) (total : Option (List Word)) → length line ≤ i → begun ≡ None
     → words_behind words (words_from begun column (drop i line)) ≡ total → total ≡ Some words

@@ -13,11 +13,7 @@ use Rattle.ak_message.specs.declared.marks.Quotes.{Quotes}
 use Rattle.ak_message.specs.declared.marks.Quotes.TheVariants as q
 use Rattle.ak_message.specs.Kind.{kind_of_code}
 use Rattle.ak_message.specs.Marks.{is_unquoted, double_step, escape_step, hex_step, is_hex_digit}
-use Rattle.ak_message.specs.Words.{◌>>=◌}
-
--- x, where the test passed
-abbrev pub where_true : {A : Type 0} → Bool → A → Option A
-where_true test x = if test then Some x else None
+use Rattle.ak_base.specs.Option.{◌>>=◌, where_true}
 
 -- the kind whose letters and a colon the text begins with
 abbrev pub kind_before : List ℕ → Option Kind

@@ -5,8 +5,7 @@ use Rattle.ak_message.specs.declared.marks.Marks.{Marks}
 use Rattle.ak_message.specs.declared.pieces.Separator.{Separator}
 use Rattle.ak_message.specs.declared.pieces.Separator.TheVariants as by
 use Rattle.ak_message.specs.Marks.{is_blank, start, step, is_outside}
-use Rattle.ak_message.specs.Payload.{where_true}
-use Rattle.ak_message.specs.Words.{◌>>=◌}
+use Rattle.ak_base.specs.Option.{where_true, ◌>>=◌}
 
 abbrev pub separates : Separator → ℕ → Bool
 separates by.Blank b = is_blank b

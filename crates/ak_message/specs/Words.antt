@@ -1,9 +1,10 @@
 -- The words of a line: how they are read, byte by byte, and which words a line has.
-use Rattle.std.specs.Prelude.{◌≡◌, ℕ, ◌+◌, Bool, true, false, ◌||◌, ◌==◌, if◌then◌else◌, List, [], ◌∷◌, ◌++◌, length, Option, Some, None, option_map, option_and_then, Result, Ok, Err}
+use Rattle.std.specs.Prelude.{◌≡◌, ℕ, ◌+◌, Bool, true, false, ◌||◌, ◌==◌, if◌then◌else◌, List, [], ◌∷◌, ◌++◌, length, Option, Some, None, option_map, Result, Ok, Err}
 use Rattle.std.specs.List.{list_all}
 use Rattle.std.specs.Str.{is_utf8}
 use Rattle.ak_base.specs.declared.ending.RefusalKind.{RefusalKind}
 use Rattle.ak_base.specs.declared.ending.RefusalKind.TheVariants as refusal
+use Rattle.ak_base.specs.Option.{◌>>=◌}
 use Rattle.ak_message.specs.declared.line.Word.{Word}
 use Rattle.ak_message.specs.declared.marks.Marks.{Marks}
 use Rattle.ak_message.specs.declared.words.Begun.{Begun}
@@ -46,10 +47,6 @@ abbrev pub OneLine : Type 0
 OneLine = (line : List ℕ) (v w : List Word) → IsLine 1 line v → IsLine 1 line w → v ≡ w
 
 -- ---- how they are read
-
-infixl 10 ◌>>=◌
-abbrev pub ◌>>=◌ : {A B : Type 0} → Option A → (A → Option B) → Option B
-o >>= f = option_and_then f o
 
 -- a word of one byte, so far
 abbrev pub begun_at : ℕ → ℕ → Marks → Begun

@@ -4,7 +4,7 @@ ghost use Rattle.std.specs.Prelude.{◌≡◌, ◌<◌, ◌≤◌, ◌^◌, ◌&
 ghost use Rattle.ak_base.specs.Limits.{digits_limit};
 ghost use Rattle.ak_message.specs.InputText.{IntsAreRead};
 ghost use Rattle.ak_message.specs.Payload as reads;
-ghost use Rattle.ak_message.specs.Payload.{where_true};
+ghost use Rattle.ak_base.specs.Option.{where_true};
 
 use crate::address::{Address, Target};
 use crate::kind::Kind;

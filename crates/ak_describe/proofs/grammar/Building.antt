@@ -9,7 +9,7 @@ use Rattle.std.proofs.lemmas.Slice.Eq.{bytes_eq-Decides}
 use Rattle.ak_base.specs.declared.code.Code.{Code}
 use Rattle.ak_base.specs.Word.{is_word}
 use Rattle.ak_flatten.specs.Spelling.{spelling}
-use Rattle.ak_message.specs.Words.{◌>>=◌}
+use Rattle.ak_base.specs.Option.{◌>>=◌}
 use Rattle.ak_action.specs.declared.template.Given.{Given}
 use Rattle.ak_action.specs.declared.template.Template.{Template}
 use Rattle.ak_action.specs.declared.template.TemplateFault.{TemplateFault}

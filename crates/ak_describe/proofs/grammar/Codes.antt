@@ -10,9 +10,9 @@ use Rattle.std.proofs.lemmas.List.Elements.{All-nil, All-cons, All-get_or}
 use Rattle.std.proofs.lemmas.Slice.Eq.{starts_is}
 use Rattle.ak_base.specs.declared.code.Code.{Code}
 use Rattle.ak_base.specs.Code.{may_be_quoted, may_all_be_quoted}
-use Rattle.ak_message.specs.Payload.{where_true, hex_value, raw_from}
+use Rattle.ak_base.specs.Option.{where_true, ◌>>=◌}
+use Rattle.ak_message.specs.Payload.{hex_value, raw_from}
 use Rattle.ak_message.specs.Reading.{code_from}
-use Rattle.ak_message.specs.Words.{◌>>=◌}
 use Rattle.ak_message.proofs.CodeLaws.{code_again, code_takes}
 use Rattle.ak_message.proofs.WordLaws.{bind_some, cond_some}
 use Rattle.ak_describe.specs.Grammar.{WritesCode}

@@ -3,7 +3,7 @@ use Rattle.std.proofs.Common.{◌≡◌, ◌↔◌, ℕ, true, List, [], ◌∷�
 use Rattle.std.specs.Prelude.{codes}
 use Rattle.ak_describe.specs.Forms.{is_end, hook_form}
 use Rattle.ak_describe.specs.Words.{behind}
-use Rattle.ak_message.specs.Words.{◌>>=◌}
+use Rattle.ak_base.specs.Option.{◌>>=◌}
 use Rattle.ak_describe.proofs.grammar.Parts.{behind_takes, ends_nil}
 
 -- ---- `quit refuse`

@@ -9,11 +9,11 @@ use Rattle.ak_message.specs.declared.kind.Kind.{Kind}
 use Rattle.ak_message.specs.declared.kind.Kind.TheVariants as k
 use Rattle.ak_message.specs.Kind.{code_of_kind, is_same_kind, kind_of_code, same_kind-is}
 use Rattle.ak_message.specs.Message.{ValueData, MessageData, int32_value, bool_value, text_value, raw_value, value_of_message}
-use Rattle.ak_message.specs.Payload.{where_true, kind_before, bool_from, int_within, raw_from, unquoted}
+use Rattle.ak_base.specs.Option.{where_true, ◌>>=◌}
+use Rattle.ak_message.specs.Payload.{kind_before, bool_from, int_within, raw_from, unquoted}
 use Rattle.ak_message.specs.Pieces.{braced}
 use Rattle.ak_message.specs.Reading as reading
 use Rattle.ak_message.specs.Reading.{Got, got, over, text_of, text_from, raw_within, raw_value_from, small_from, number_or, short_from, read_value, words_of, message_of, got_message, message_from}
-use Rattle.ak_message.specs.Words.{◌>>=◌}
 use Rattle.ak_message.proofs.WordLaws.{bind_some, some_is}
 use Rattle.ak_describe.specs.Made.{kind_over, kind_read, value_from, value_of_kind, value_by_letter}
 use Rattle.ak_describe.proofs.grammar.Choices.{chosen}

@@ -6,8 +6,8 @@ use Rattle.std.specs.Str.Parse.{AllDigits}
 use Rattle.std.proofs.lemmas.Bool.{leb-true, le-leb}
 use Rattle.std.proofs.lemmas.Str.Parse.{digit_from_value}
 use Rattle.ak_base.proofs.Digits.{IsForm-decimal, short_from_below}
-use Rattle.ak_message.specs.Payload.{where_true, int_within, uint_within}
-use Rattle.ak_message.specs.Words.{◌>>=◌}
+use Rattle.ak_base.specs.Option.{where_true, ◌>>=◌}
+use Rattle.ak_message.specs.Payload.{int_within, uint_within}
 use Rattle.ak_message.proofs.Numbers.{ints_read}
 use Rattle.ak_message.proofs.WordLaws.{bind_some, cond_some, some_is}
 use Rattle.ak_describe.specs.Grammar.{WritesNumber}

@@ -14,7 +14,8 @@ use Rattle.ak_base.specs.declared.code.Code.{Code}
 use Rattle.ak_base.proofs.Codes.{hex_found, quoted_found}
 use Rattle.ak_message.specs.declared.kind.Kind.TheVariants as k
 use Rattle.ak_message.specs.Message.{text_value}
-use Rattle.ak_message.specs.Payload.{where_true, raw_from, unquoted}
+use Rattle.ak_base.specs.Option.{where_true}
+use Rattle.ak_message.specs.Payload.{raw_from, unquoted}
 use Rattle.ak_message.specs.Reading.{Got, got, over, code_from, text_from, text_of}
 use Rattle.ak_message.proofs.CodeLaws.{code_again}
 use Rattle.ak_message.proofs.HexLaws.{raws_take}

@@ -4,7 +4,7 @@ use Rattle.std.specs.List.{list_any}
 use Rattle.std.specs.Str.{bytes_eq}
 use Rattle.std.proofs.lemmas.List.{map-append}
 use Rattle.ak_message.specs.Message.{MessageData}
-use Rattle.ak_message.specs.Payload.{where_true}
+use Rattle.ak_base.specs.Option.{where_true}
 use Rattle.ak_message.specs.Reading.{Built}
 use Rattle.ak_message.specs.ReadSeen.{seen}
 use Rattle.ak_message.proofs.reading.begin.Goals as goal
