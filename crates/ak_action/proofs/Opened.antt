@@ -14,7 +14,8 @@ use Rattle.ak_action.specs.Opening.{described_from, described_rows, opening_hand
 use Rattle.ak_action.specs.OpeningInside.{described_row, described_with, nexts_from}
 use Rattle.ak_action.specs.Plan.{IsPlan, chains_end_below, fits_table, may_be, next_place, place_after, place_named, place_or_looper}
 use Rattle.ak_action.specs.Whole.{IsNamed, IsWholeTable, PlansAreWhole}
-use Rattle.ak_action.proofs.Tested.{All-list_all, Tests, looper_is, named, names_apart, no_row, none_is, table_whole, tests_passed}
+use Rattle.ak_base.proofs.Options.{none_is}
+use Rattle.ak_action.proofs.Tested.{All-list_all, Tests, looper_is, named, names_apart, no_row, table_whole, tests_passed}
 
 -- ---- the handlers from a place on
 module _ (all : List PlanRow) where

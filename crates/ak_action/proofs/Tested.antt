@@ -7,6 +7,7 @@ use Rattle.std.proofs.lemmas.List.Elements.{All-nil, All-cons}
 use Rattle.std.proofs.lemmas.List.Kept.{AllPairs-cons}
 use Rattle.std.proofs.lemmas.List.Quantifiers.{position-Some}
 use Rattle.std.proofs.lemmas.Slice.Eq.{bytes_eq-Decides}
+use Rattle.ak_base.proofs.Options.{passed, none_is}
 use Rattle.ak_handler.proofs.Looking.{is_some-position}
 use Rattle.ak_message.specs.declared.kind.Kind.TheVariants as k
 use Rattle.ak_message.specs.Kind.{is_same_kind, same_kind-is}
@@ -34,10 +35,6 @@ pub record Tests (parts : PlanParts) : Type 0 where
 no_first : (o p : Option PlanFault) → first_of_faults o p ≡ None → (o ≡ None) × (p ≡ None)
 no_first None p e = (refl, e)
 no_first (Some f) p e = absurd cc
-
-passed : (b : Bool) (o : Option PlanFault) (f : PlanFault) → cond b o (Some f) ≡ None → (b ≡ true) × (o ≡ None)
-passed true o f e = (refl, e)
-passed false o f e = absurd cc
 
 pub tests_passed : (parts : PlanParts) → IsPlan parts → Tests parts
 tests_passed parts e =
@@ -92,10 +89,6 @@ module _ {X : Type 0} (p : X → Bool) where
   pub found_any : (xs : List X) → is_some (find p xs) ≡ list_any p xs
   found_any [] = refl
   found_any (x ∷ xs) = found_by (p x) x (find p xs) ∙ ap (λ b. p x || b) (found_any xs)
-
-pub none_is : {X : Type 0} (o : Option X) → is_none o ≡ true → o ≡ None
-none_is None e = refl
-none_is (Some x) e = absurd cc
 
 differs : (a b : List ℕ) → bytes_eq a b ≡ false → b ≢ a
 differs a b e same = let yes = (bytes_eq-Decides a b).1 (sym same) in absurd cc

@@ -5,7 +5,8 @@ use Rattle.std.specs.List.{flat_map}
 use Rattle.ak_kit.specs.FirstInput.{Script, name_of, names_differ, IsScript, line, row_lines, hey_line, spelling, IsFirstInput}
 use Rattle.ak_base.specs.Option.{◌>>=◌, where_true}
 use Rattle.ak_kit.specs.Reading.{after, App, app_at, looper_at, rows_at, asked_at, launch_at, statements_at, opening_at, script_from, script_of}
-use Rattle.ak_kit.proofs.GrammarFields.{bind_some, test_some, some_is, after_takes, after_again}
+use Rattle.ak_base.proofs.Options.{bind_some, cond_some, some_is}
+use Rattle.ak_kit.proofs.GrammarFields.{after_takes, after_again}
 use Rattle.ak_kit.proofs.GrammarLines.{app_line, IsApp, app_takes, app_again, looper_line, IsLooper, looper_takes, looper_again, rows_take, rows_again, asked_take, asked_again}
 
 -- ---- the lines before the properties
@@ -77,7 +78,7 @@ script_takes bytes s e =
     let c = bind_some (statements_at a.0.0.0.path b.0.1) (λ asked. script_end a.0.0 b.0.0 asked) s b.2 in
     let d = bind_some (launch_at a.0.0.0.path b.0.1) (λ lines. asked_at (name_of a.0.0.0.path) 7999 lines) c.0 c.1 in
     let made : Script = script_from a.0.0.0 a.0.0.1 b.0.0 c.0 in
-    let t = test_some (names_differ b.0.0) made s c.2 in
+    let t = cond_some (names_differ b.0.0) made s c.2 in
     let opening = opening_takes bytes a.0 a.1 in
     let rows = rows_take 64 a.0.1 b.0 b.1 in
     let asked = asked_take (name_of a.0.0.0.path) 7999 d.0 c.0 d.2 in

@@ -5,41 +5,26 @@ use Rattle.std.specs.Int.{w32}
 use Rattle.std.specs.List.{list_all}
 use Rattle.std.specs.Fmt.{decimal, signed_decimal}
 use Rattle.std.specs.Str.Parse.{AllDigits}
-use Rattle.std.proofs.lemmas.Bool.{ne_eqb, or_from}
+use Rattle.std.proofs.lemmas.Bool.{ne_eqb, or_from, and_parts}
 use Rattle.std.proofs.lemmas.Bool.Decides.{nat_tests}
 use Rattle.std.proofs.lemmas.List.{take_at, drop_at, take-append-drop}
 use Rattle.std.proofs.lemmas.Str.Parse.{digit_from_value}
+use Rattle.ak_base.proofs.Options.{bind_some, cond_some, some_is}
 use Rattle.ak_base.specs.Word.{is_word_byte, is_word}
 use Rattle.ak_base.proofs.Digits.{short_from_below, IsForm-decimal}
 use Rattle.ak_kit.specs.FirstInput.{begins_with}
 use Rattle.ak_base.specs.Option.{◌>>=◌, where_true}
 use Rattle.ak_kit.specs.Reading.{after, is_gap, field_len, field_at, is_int32, int32_of, capacity_of}
 use Rattle.ak_kit.proofs.Fronts.{begins, begins_again, not_begins}
-use Rattle.ak_kit.proofs.Words.{both_true, word_byte, word_parts}
+use Rattle.ak_kit.proofs.Words.{word_byte, word_parts}
 use Rattle.ak_kit.proofs.Numbers.{int32_takes, int32_found}
-
--- the value of a step that gave one
-pub bind_some : {A B : Type 0} (o : Option A) (f : A → Option B) (y : B) → (o >>= f) ≡ Some y → (x : A) × (o ≡ Some x) × (f x ≡ Some y)
-bind_some (Some x) f y e = (x, refl, e)
-bind_some None f y e = absurd cc
-
--- a test that passed
-pub test_some : {A : Type 0} (test : Bool) (x y : A) → where_true test x ≡ Some y → (test ≡ true) × (x ≡ y)
-test_some true x y e = (refl, cc)
-test_some false x y e = absurd cc
-
-abbrev done : {A : Type 0} → A → Option A
-done x = Some x
-
-pub some_is : {A : Type 0} (x y : A) → done x ≡ done y → x ≡ y
-some_is x y e = cc
 
 -- ---- a front
 
 pub after_takes : (front bytes rest : List ℕ) → after front bytes ≡ Some rest → bytes ≡ front ++ rest
 unfolding after
 after_takes front bytes rest e =
-    let t = test_some (begins_with front bytes) (drop (length front) bytes) rest e in
+    let t = cond_some (begins_with front bytes) (drop (length front) bytes) rest e in
     begins front bytes t.0 ∙ ap (λ (r : List ℕ). front ++ r) t.1
 
 pub after_again : (front rest : List ℕ) → after front (front ++ rest) ≡ Some rest
@@ -62,7 +47,7 @@ not_gap b le = or_from _ _ (ne_eqb b 32 (λ e. omega arith)) (ne_eqb b 10 (λ e.
 pub no_gap_word_bytes : (bytes : List ℕ) → list_all is_word_byte bytes ≡ true → NoGap bytes
 no_gap_word_bytes [] h = tt
 no_gap_word_bytes (b ∷ bytes) h =
-    let parts = both_true (is_word_byte b) (list_all is_word_byte bytes) h in
+    let parts = and_parts (is_word_byte b) (list_all is_word_byte bytes) h in
     (not_gap b (omega (arith, word_byte b parts.0)), no_gap_word_bytes bytes parts.1)
 
 pub no_gap_word : (word : List ℕ) → is_word word ≡ true → NoGap word
@@ -100,8 +85,8 @@ short_fits (pos n) fits = short_from_below n (omega (arith, fits))
 short_fits (negsuc n) fits = short_from_below (suc n) (omega (arith, fits))
 
 pub is_int32_fits : (z : ℤ) → is_int32 z ≡ true → FitsSigned w32 z
-is_int32_fits (pos n) h = let b = (both_true (int_le (negsuc 2147483647) (pos n)) (int_le (pos n) (pos 2147483647)) h).1 in grind (arith, nat_tests)
-is_int32_fits (negsuc n) h = let b = (both_true (int_le (negsuc 2147483647) (negsuc n)) (int_le (negsuc n) (pos 2147483647)) h).0 in grind (arith, nat_tests)
+is_int32_fits (pos n) h = let b = (and_parts (int_le (negsuc 2147483647) (pos n)) (int_le (pos n) (pos 2147483647)) h).1 in grind (arith, nat_tests)
+is_int32_fits (negsuc n) h = let b = (and_parts (int_le (negsuc 2147483647) (negsuc n)) (int_le (negsuc n) (pos 2147483647)) h).0 in grind (arith, nat_tests)
 
 fits_is_int32 : (z : ℤ) → FitsSigned w32 z → is_int32 z ≡ true
 fits_is_int32 (pos n) fits = grind (arith, nat_tests)
@@ -119,11 +104,11 @@ pub capacity_takes : (text : List ℕ) (n : ℕ) → capacity_of text ≡ Some n
 unfolding capacity_of
 capacity_takes text n e =
     let a = bind_some (int32_of text) (λ z. where_true (int_le (pos 2) z && int_le z (pos 1000)) (unsigned_abs z)) n e in
-    let t = test_some (int_le (pos 2) a.0 && int_le a.0 (pos 1000)) (unsigned_abs a.0) n a.2 in
+    let t = cond_some (int_le (pos 2) a.0 && int_le a.0 (pos 1000)) (unsigned_abs a.0) n a.2 in
     by_sign a.0 (int32_takes text a.0 a.1).0 t.0 t.1 where
       by_sign : (z : ℤ) → text ≡ signed_decimal z → (int_le (pos 2) z && int_le z (pos 1000)) ≡ true → unsigned_abs z ≡ n → (text ≡ decimal n) × (2 ≤ n) × (n ≤ 1000)
       by_sign (pos m) is within same =
-          let parts = both_true (int_le (pos 2) (pos m)) (int_le (pos m) (pos 1000)) within in
+          let parts = and_parts (int_le (pos 2) (pos m)) (int_le (pos m) (pos 1000)) within in
           (is ∙ ap decimal same, grind (arith, nat_tests), grind (arith, nat_tests))
       by_sign (negsuc m) is within same = absurd cc
 

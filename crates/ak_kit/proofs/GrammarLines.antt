@@ -5,15 +5,15 @@ use Rattle.std.specs.List.{list_all, flat_map}
 use Rattle.std.specs.Option.{option_map_or}
 use Rattle.std.specs.Str.{bytes_eq}
 use Rattle.std.specs.Fmt.{decimal, signed_decimal}
-use Rattle.std.proofs.lemmas.Bool.{or_cases}
+use Rattle.std.proofs.lemmas.Bool.{or_cases, and_parts}
 use Rattle.std.proofs.lemmas.Slice.Eq.{bytes_eq-Decides}
 use Rattle.ak_base.specs.Word.{is_word_byte, is_word}
 use Rattle.ak_kit.specs.FirstInput.{begins_with, is_path, is_signature, is_mode, is_askable, IsRow, AllRows, line, row_lines, hey_line}
 use Rattle.ak_base.specs.Option.{◌>>=◌, where_true}
 use Rattle.ak_kit.specs.Reading.{after, field_at, int32_of, capacity_of, App, app_at, looper_at, row_at, rows_at, hey_at, asked_at}
-use Rattle.ak_kit.proofs.Words.{both_true}
 use Rattle.ak_kit.proofs.Numbers.{int32_takes}
-use Rattle.ak_kit.proofs.GrammarFields.{bind_some, test_some, some_is, after_takes, after_again, NoGap, no_gap_word_bytes, no_gap_word, field_takes, field_again, is_int32_fits, int32_again, no_gap_int32, capacity_takes, capacity_again, no_gap_capacity}
+use Rattle.ak_base.proofs.Options.{bind_some, cond_some, some_is}
+use Rattle.ak_kit.proofs.GrammarFields.{after_takes, after_again, NoGap, no_gap_word_bytes, no_gap_word, field_takes, field_again, is_int32_fits, int32_again, no_gap_int32, capacity_takes, capacity_again, no_gap_capacity}
 
 -- ---- the application's line
 
@@ -39,9 +39,9 @@ app_takes bytes x e =
     let c = bind_some (field_at 32 b.0.1) (λ signature. field_at 10 signature.1 >>= λ mode. app_end b.0.0 signature.0 mode) x b.2 in
     let d = bind_some (field_at 10 c.0.1) (λ mode. app_end b.0.0 c.0.0 mode) x c.2 in
     let app : App = record { path = b.0.0; signature = c.0.0; mode = d.0.0 } in
-    let t = test_some (is_path b.0.0 && is_signature c.0.0 && is_mode d.0.0) (app, d.0.1) x d.2 in
-    let names = both_true (is_path b.0.0 && is_signature c.0.0) (is_mode d.0.0) t.0 in
-    let two = both_true (is_path b.0.0) (is_signature c.0.0) names.0 in
+    let t = cond_some (is_path b.0.0 && is_signature c.0.0 && is_mode d.0.0) (app, d.0.1) x d.2 in
+    let names = and_parts (is_path b.0.0 && is_signature c.0.0) (is_mode d.0.0) t.0 in
+    let two = and_parts (is_path b.0.0) (is_signature c.0.0) names.0 in
     let last : c.0.1 ≡ d.0.0 ++ 10 ∷ d.0.1 = field_takes 10 c.0.1 d.0 d.1 in
     let second : b.0.1 ≡ c.0.0 ++ 32 ∷ (d.0.0 ++ 10 ∷ d.0.1) = field_takes 32 b.0.1 c.0 c.1 ∙ ap (λ (r : List ℕ). c.0.0 ++ 32 ∷ r) last in
     let first : a.0 ≡ b.0.0 ++ 32 ∷ (c.0.0 ++ 32 ∷ (d.0.0 ++ 10 ∷ d.0.1)) = field_takes 32 a.0 b.0 b.1 ∙ ap (λ (r : List ℕ). b.0.0 ++ 32 ∷ r) second in
@@ -60,10 +60,10 @@ no_gap_mode mode h =
 pub app_again : (app : App) (rest : List ℕ) → IsApp app → app_at (app_line app ++ rest) ≡ Some (app, rest)
 unfolding app_at
 app_again app rest is =
-    let path = both_true (is_word app.path && begins_with (codes "/") app.path) _ is.path in
-    let path_is : is_word app.path ≡ true = (both_true (is_word app.path) (begins_with (codes "/") app.path) path.0).0 in
-    let signature = both_true (is_word app.signature && begins_with (codes "application/") app.signature) _ is.signature in
-    let signature_is : is_word app.signature ≡ true = (both_true (is_word app.signature) (begins_with (codes "application/") app.signature) signature.0).0 in
+    let path = and_parts (is_word app.path && begins_with (codes "/") app.path) _ is.path in
+    let path_is : is_word app.path ≡ true = (and_parts (is_word app.path) (begins_with (codes "/") app.path) path.0).0 in
+    let signature = and_parts (is_word app.signature && begins_with (codes "application/") app.signature) _ is.signature in
+    let signature_is : is_word app.signature ≡ true = (and_parts (is_word app.signature) (begins_with (codes "application/") app.signature) signature.0).0 in
     let behind : List ℕ = app.signature ++ 32 ∷ (app.mode ++ 10 ∷ rest) in
     ap app_at (app_grouped app rest)
     ∙ rw (after_again (codes "app ") (app.path ++ 32 ∷ behind), field_again 32 app.path behind refl (no_gap_word app.path path_is), field_again 32 app.signature (app.mode ++ 10 ∷ rest) refl (no_gap_word app.signature signature_is), field_again 10 app.mode rest refl (no_gap_mode app.mode is.mode), is.path, is.signature, is.mode) refl
@@ -92,7 +92,7 @@ looper_takes bytes x e =
     let d = bind_some (field_at 10 c.0) (λ number. capacity_of number.0 >>= λ capacity. looper_end b.0.0 number capacity) x c.2 in
     let f = bind_some (capacity_of d.0.0) (λ capacity. looper_end b.0.0 d.0 capacity) x d.2 in
     let looper : List ℕ × ℕ = (b.0.0, f.0) in
-    let t = test_some (is_word b.0.0) (looper, d.0.1) x f.2 in
+    let t = cond_some (is_word b.0.0) (looper, d.0.1) x f.2 in
     let capacity = capacity_takes d.0.0 f.0 f.1 in
     let last : c.0 ≡ decimal f.0 ++ 10 ∷ d.0.1 = field_takes 10 c.0 d.0 d.1 ∙ ap (λ (r : List ℕ). r ++ 10 ∷ d.0.1) capacity.0 in
     let second : b.0.1 ≡ codes "capacity " ++ (decimal f.0 ++ 10 ∷ d.0.1) = after_takes (codes "capacity ") b.0.1 c.0 c.1 ∙ ap (λ (r : List ℕ). codes "capacity " ++ r) last in
@@ -127,7 +127,7 @@ row_takes bytes x e =
     let c = bind_some (field_at 10 b.0) (λ number. int32_of number.0 >>= λ value. row_end a.0.0 number value) x b.2 in
     let d = bind_some (int32_of c.0.0) (λ value. row_end a.0.0 c.0 value) x c.2 in
     let row : List ℕ × ℤ = (a.0.0, d.0) in
-    let t = test_some (is_word a.0.0) (row, c.0.1) x d.2 in
+    let t = cond_some (is_word a.0.0) (row, c.0.1) x d.2 in
     let value = int32_takes c.0.0 d.0 d.1 in
     let last : b.0 ≡ signed_decimal d.0 ++ 10 ∷ c.0.1 = field_takes 10 b.0 c.0 c.1 ∙ ap (λ (r : List ℕ). r ++ 10 ∷ c.0.1) value.0 in
     let second : a.0.1 ≡ long ++ (signed_decimal d.0 ++ 10 ∷ c.0.1) = after_takes long a.0.1 b.0 b.1 ∙ ap (λ (r : List ℕ). long ++ r) last in
@@ -190,7 +190,7 @@ hey_takes name bytes x e =
     let b = bind_some (after name a.0) (λ verb. after (codes " get ") verb >>= λ property. field_at 10 property >>= λ word. where_true (is_askable word.0) word) x a.2 in
     let c = bind_some (after (codes " get ") b.0) (λ property. field_at 10 property >>= λ word. where_true (is_askable word.0) word) x b.2 in
     let d = bind_some (field_at 10 c.0) (λ word. where_true (is_askable word.0) word) x c.2 in
-    let t = test_some (is_askable d.0.0) d.0 x d.2 in
+    let t = cond_some (is_askable d.0.0) d.0 x d.2 in
     let second : b.0 ≡ codes " get " ++ (d.0.0 ++ 10 ∷ d.0.1) = after_takes (codes " get ") b.0 c.0 c.1 ∙ ap (λ (r : List ℕ). codes " get " ++ r) (field_takes 10 c.0 d.0 d.1) in
     let first : a.0 ≡ name ++ (codes " get " ++ (d.0.0 ++ 10 ∷ d.0.1)) = after_takes name a.0 b.0 b.1 ∙ ap (λ (r : List ℕ). name ++ r) second in
     let whole : bytes ≡ hey_line name d.0.0 ++ d.0.1 = after_takes (codes "hey ") bytes a.0 a.1 ∙ ap (λ (r : List ℕ). codes "hey " ++ r) first ∙ sym (hey_grouped name d.0.0 d.0.1) in
@@ -199,7 +199,7 @@ hey_takes name bytes x e =
 hey_again : (name property rest : List ℕ) → is_askable property ≡ true → hey_at name (hey_line name property ++ rest) ≡ Some (property, rest)
 unfolding hey_at
 hey_again name property rest is =
-    let word : is_word property ≡ true = (both_true (is_word property) _ is).0 in
+    let word : is_word property ≡ true = (and_parts (is_word property) _ is).0 in
     let behind : List ℕ = property ++ 10 ∷ rest in
     ap (hey_at name) (hey_grouped name property rest)
     ∙ rw (after_again (codes "hey ") (name ++ (codes " get " ++ behind)), after_again name (codes " get " ++ behind), after_again (codes " get ") behind, field_again 10 property rest refl (no_gap_word property word), is) refl
@@ -230,5 +230,5 @@ asked_again name zero [] few all = refl
 asked_again name (suc n) [] few all = refl
 asked_again name zero (property ∷ asked) few all = absurd (omega arith)
 asked_again name (suc n) (property ∷ asked) few all =
-    let parts = both_true (is_askable property) (list_all is_askable asked) all in
+    let parts = and_parts (is_askable property) (list_all is_askable asked) all in
     asked_step name n 104 _ property (flat_map (hey_line name) asked) asked (hey_again name property (flat_map (hey_line name) asked) parts.0) (asked_again name n asked (omega arith) parts.1)

@@ -20,10 +20,11 @@ use Rattle.ak_kit.specs.FirstInput.{is_askable}
 use Rattle.ak_kit.specs.Laws.{ItemsSay}
 use Rattle.ak_kit.specs.Messages.{get_of, ready_to_run, specifier_of}
 use Rattle.ak_kit.specs.Run.{item_of}
-use Rattle.ak_kit.proofs.Words.{both_true, word_ascii, word_has_no_zero, word_parts}
+use Rattle.std.proofs.lemmas.Bool.{and_parts}
+use Rattle.ak_kit.proofs.Words.{word_ascii, word_has_no_zero, word_parts}
 
 pub askable_word : (word : List ℕ) → is_askable word ≡ true → is_word word ≡ true
-askable_word word h = (both_true (is_word word) _ h).0
+askable_word word h = (and_parts (is_word word) _ h).0
 
 text_is : (word : List ℕ) → is_word word ≡ true → IsText word
 text_is word h = ((omega (arith, (word_parts word h).0), word_has_no_zero word h), IsUtf8-from_ascii word (word_ascii word h))

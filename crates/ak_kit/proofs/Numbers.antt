@@ -11,7 +11,7 @@ use Rattle.ak_base.proofs.Digits.{below_from_short, short_from_below, decimal-ne
 use Rattle.ak_base.specs.Option.{where_true}
 use Rattle.ak_kit.specs.Reading.{int_value, is_int32, int32_of}
 use Rattle.ak_kit.proofs.Fronts.{not_begins}
-use Rattle.ak_kit.proofs.Words.{both_true}
+use Rattle.std.proofs.lemmas.Bool.{and_parts}
 
 digits_value-decimal : (n : ℕ) → length (decimal n) ≤ 20 → digits_value 10 (decimal n) ≡ n
 digits_value-decimal n short = let below = below_from_short n short in (decimal_is_IsNumeral_wide n (omega arith)).1
@@ -32,8 +32,8 @@ int32_found text z is =
     rw (int_value-text text z is, same) refl
 
 short_int32 : (z : ℤ) → is_int32 z ≡ true → length (decimal (unsigned_abs z)) ≤ 20
-short_int32 (pos n) h = short_from_below n (let b = (both_true (int_le (negsuc 2147483647) (pos n)) (int_le (pos n) (pos 2147483647)) h).1 in grind (arith, rules))
-short_int32 (negsuc n) h = short_from_below (suc n) (let b = (both_true (int_le (negsuc 2147483647) (negsuc n)) (int_le (negsuc n) (pos 2147483647)) h).0 in grind (arith, rules))
+short_int32 (pos n) h = short_from_below n (let b = (and_parts (int_le (negsuc 2147483647) (pos n)) (int_le (pos n) (pos 2147483647)) h).1 in grind (arith, rules))
+short_int32 (negsuc n) h = short_from_below (suc n) (let b = (and_parts (int_le (negsuc 2147483647) (negsuc n)) (int_le (negsuc n) (pos 2147483647)) h).0 in grind (arith, rules))
 
 -- a text that no number has
 pub int32_none : (text : List ℕ) → ((z : ℤ) → IsIntText text z → ⊥) → int32_of text ≡ None

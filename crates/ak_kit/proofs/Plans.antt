@@ -3,7 +3,7 @@ use Rattle.std.proofs.Common.{◌≡◌, ℕ, zero, suc, ℤ, ◌<◌, ◌≤◌
 use Rattle.std.specs.Prelude.{IfNone, IsOk, nat_le}
 use Rattle.std.specs.List.{list_any}
 use Rattle.std.specs.Str.{bytes_eq}
-use Rattle.std.proofs.lemmas.Bool.{not-true}
+use Rattle.std.proofs.lemmas.Bool.{not-true, and_parts}
 use Rattle.std.proofs.lemmas.Bool.Decides.{nat_tests}
 use Rattle.std.proofs.lemmas.List.{length-map}
 use Rattle.std.proofs.lemmas.Slice.Eq.{bytes_eq-Decides}
@@ -18,7 +18,6 @@ use Rattle.ak_desk.specs.Machine.{dispatches}
 use Rattle.ak_kit.specs.Dispatched.{IsResting}
 use Rattle.ak_kit.specs.Opening.{elements_of, plan_of, property_named, table_of}
 use Rattle.ak_kit.specs.Rows.{IsRows, names_differ}
-use Rattle.ak_kit.proofs.Words.{both_true}
 
 same_bytes : (name : List ℕ) → bytes_eq name name ≡ true
 same_bytes name = (bytes_eq-Decides name name).1 refl
@@ -33,7 +32,7 @@ named_so (row ∷ rows) name = ap (λ (b : Bool). bytes_eq row.0 name || b) (nam
 table_differs : (rows : List (List ℕ × ℤ)) → names_differ rows ≡ true → table_names_differ (table_of rows) ≡ true
 table_differs [] h = refl
 table_differs (row ∷ rows) h =
-    let parts = both_true (not (list_any (λ other. bytes_eq other.0 row.0) rows)) (names_differ rows) h in
+    let parts = and_parts (not (list_any (λ other. bytes_eq other.0 row.0) rows)) (names_differ rows) h in
     let none : is_named (table_of rows) row.0 ≡ false = named_so rows row.0 ∙ not-true (list_any (λ other. bytes_eq other.0 row.0) rows) parts.0 in
     rw none (table_differs rows parts.1)
 

@@ -11,7 +11,7 @@ use Rattle.ak_kit.specs.declared.stopped.Stopped.TheVariants as stop
 use Rattle.std.specs.List.{list_all}
 use Rattle.ak_action.specs.declared.state.DeskState.{DeskState}
 use Rattle.ak_kit.specs.FirstInput.{is_askable}
-use Rattle.ak_kit.proofs.Words.{both_true}
+use Rattle.std.proofs.lemmas.Bool.{and_parts}
 use Rattle.ak_kit.specs.Run.{Step, hey_step, hey_steps, lines_of, text_of}
 use Rattle.ak_kit.specs.Steps.{AddsLine, DoesStep, IsFrontOf, MadeBy, Progress, Carries}
 
@@ -95,5 +95,5 @@ is_done s steps asked i made old new le so_far = subst (λ (left : List (List �
 -- each word is one that can be asked for
 pub askable_at : (asked : List (List ℕ)) (i : ℕ) (property : List ℕ) → list_all is_askable asked ≡ true → i < length asked → property ≡ get_or asked i property → is_askable property ≡ true
 askable_at [] i property all lt at = absurd (omega (arith, lt))
-askable_at (word ∷ asked) zero property all lt at = ap is_askable at ∙ (both_true (is_askable word) (list_all is_askable asked) all).0
-askable_at (word ∷ asked) (suc i) property all lt at = askable_at asked i property (both_true (is_askable word) (list_all is_askable asked) all).1 (omega (arith, lt)) at
+askable_at (word ∷ asked) zero property all lt at = ap is_askable at ∙ (and_parts (is_askable word) (list_all is_askable asked) all).0
+askable_at (word ∷ asked) (suc i) property all lt at = askable_at asked i property (and_parts (is_askable word) (list_all is_askable asked) all).1 (omega (arith, lt)) at

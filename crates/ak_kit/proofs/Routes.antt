@@ -3,7 +3,7 @@ use Rattle.std.proofs.Common.{◌≡◌, ◌⊎◌, inl, inr, ℕ, suc, ℤ, ◌
 use Rattle.std.specs.Prelude.{codes, if◌then◌else◌, is_some, nat_lt, option_map, ◌&&◌}
 use Rattle.std.specs.List.{position, position_or_len, slice_set}
 use Rattle.std.specs.Str.{bytes_eq}
-use Rattle.std.proofs.lemmas.Bool.{cases_Bool, not-true}
+use Rattle.std.proofs.lemmas.Bool.{cases_Bool, not-true, and_parts}
 use Rattle.std.proofs.lemmas.Bool.Decides.{nat_tests}
 use Rattle.std.proofs.lemmas.List.{set-get_or}
 use Rattle.std.proofs.lemmas.Option.{get_or_from_slice_get}
@@ -49,7 +49,6 @@ use Rattle.ak_kit.specs.Opening.{OpensAs, elements_of, one_number, plan_of, tabl
 use Rattle.ak_kit.specs.Rows.{value_of_row}
 use Rattle.ak_kit.specs.Run.{came, get_item, ready_item}
 use Rattle.ak_kit.proofs.Items.{get_read, ready_read}
-use Rattle.ak_kit.proofs.Words.{both_true}
 
 -- ---- the place of a property, and its value
 abbrev asks : List ℕ → PropertyRow → Bool
@@ -146,7 +145,7 @@ or_false false b h = (refl, h)
 
 is_plain : (word : List ℕ) → is_askable word ≡ true → IsPlain word
 is_plain word h =
-    let free : is_reserved word ≡ false = not-true (is_reserved word) (both_true _ (not (is_reserved word)) h).1 in
+    let free : is_reserved word ≡ false = not-true (is_reserved word) (and_parts _ (not (is_reserved word)) h).1 in
     let a = or_false _ _ free in
     let b = or_false _ _ a.0 in
     let c = or_false _ _ b.0 in

@@ -3,7 +3,7 @@ use Rattle.std.proofs.Common.{◌≡◌, ℕ, zero, suc, ◌+◌, ◌==◌, List
 use Rattle.std.specs.Prelude.{codes, count_by, option_map, unwrap_or}
 use Rattle.std.specs.List.{flat_map, list_all}
 use Rattle.std.specs.Fmt.{signed_decimal, digits, digits_onto, digit_glyph}
-use Rattle.std.proofs.lemmas.Bool.{ne_eqb}
+use Rattle.std.proofs.lemmas.Bool.{ne_eqb, and_parts}
 use Rattle.std.proofs.lemmas.Bool.Decides.{nat_tests}
 use Rattle.std.proofs.lemmas.List.{append-nil}
 use Rattle.std.proofs.lemmas.List.Elements.{All-nil}
@@ -33,7 +33,6 @@ use Rattle.ak_kit.specs.Rows.{value_of_row}
 use Rattle.ak_kit.specs.Run.{came, get_item, hey_steps, line_of, lines_of, ready_item, reply_of, reply_text_line, steps_of, text_of}
 use Rattle.ak_kit.specs.Steps.{IsFrontOf}
 use Rattle.ak_kit.proofs.Routes.{Came, launch_came, word_came}
-use Rattle.ak_kit.proofs.Words.{both_true}
 
 -- ---- of one message
 pub quiet_from : (s : DeskState) (item : ItemData) (r : EntryRoute) (reply : MessageData) → Came s item r reply → IsQuiet s item
@@ -66,7 +65,7 @@ word_reply rows s slot word (name, capacity, opens) askable = reply_from s (get_
 hey_lines_told : (rows : List (List ℕ × ℤ)) (s : DeskState) (slot : ℕ) (asked : List (List ℕ)) → OpensWith rows s → list_all is_askable asked ≡ true → lines_of (hey_steps s slot asked) ≡ lines_from rows slot asked
 hey_lines_told rows s slot [] opens askable = refl
 hey_lines_told rows s slot (word ∷ asked) opens askable =
-    let parts = both_true (is_askable word) (list_all is_askable asked) askable in
+    let parts = and_parts (is_askable word) (list_all is_askable asked) askable in
     let one = line_from s (slot + 1) (get_item slot word) _ _ (word_came opens.0 opens.1 rows s slot word opens.2 parts.0) in
     ap (λ (line : EntryData). line ∷ lines_of (hey_steps s (slot + 1) asked)) one
     ∙ ap (λ (lines : List EntryData). (record { plain = entry_at (slot + 1) (route_to (value_of_row rows word)); item = Some (get_item slot word) }) ∷ lines) (hey_lines_told rows s (slot + 1) asked opens parts.1)
@@ -122,7 +121,7 @@ hey_replays
 hey_replays rows s slot asked [] opens askable of = (refl, tt)
 hey_replays rows s slot [] (line ∷ front) opens askable (rest, e) = absurd cc
 hey_replays rows s slot (word ∷ asked) (line ∷ front) opens askable (rest, e) =
-    let parts = both_true (is_askable word) (list_all is_askable asked) askable in
+    let parts = and_parts (is_askable word) (list_all is_askable asked) askable in
     let r : EntryRoute = route_to (value_of_row rows word) in
     let told : EntryData = record { plain = entry_at (slot + 1) r; item = Some (get_item slot word) } in
     let head = same_head told line (lines_from rows (slot + 1) asked) (front ++ rest) e in
@@ -151,7 +150,7 @@ printed (Some n) = ap (λ number. codes "reply 'RPLY' result=LONG:" ++ ((number 
 hey_text : (rows : List (List ℕ × ℤ)) (s : DeskState) (slot : ℕ) (asked : List (List ℕ)) → OpensWith rows s → list_all is_askable asked ≡ true → text_of (hey_steps s slot asked) ≡ flat_map (λ word. codes "reply " ++ reply_words (value_of_row rows word) ++ 10 ∷ []) asked
 hey_text rows s slot [] opens askable = refl
 hey_text rows s slot (word ∷ asked) opens askable =
-    let parts = both_true (is_askable word) (list_all is_askable asked) askable in
+    let parts = and_parts (is_askable word) (list_all is_askable asked) askable in
     let one : reply_text_line (reply_of s (get_item slot word)) ≡ codes "reply " ++ reply_words (value_of_row rows word) ++ 10 ∷ [] = ap reply_text_line (word_reply rows s slot word opens parts.0) ∙ printed (value_of_row rows word) in
     ap (λ text. text ++ text_of (hey_steps s (slot + 1) asked)) one ∙ ap (λ text. (codes "reply " ++ reply_words (value_of_row rows word) ++ 10 ∷ []) ++ text) (hey_text rows s (slot + 1) asked opens parts.1)
 

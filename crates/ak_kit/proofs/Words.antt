@@ -4,26 +4,23 @@ use Rattle.std.specs.List.{list_all}
 use Rattle.std.specs.Str.{IsAscii}
 use Rattle.std.proofs.lemmas.Str.{IsUtf8-from_ascii}
 use Rattle.std.proofs.lemmas.Bool.Decides.{nat_tests}
+use Rattle.std.proofs.lemmas.Bool.{and_parts}
 use Rattle.ak_base.specs.Word.{is_word_byte, is_word}
 use Rattle.ak_base.specs.declared.text.TextFault.{TextFault}
 use Rattle.ak_base.specs.declared.text.TextFault.TheVariants as fault
-
-pub both_true : (a b : Bool) → (a && b) ≡ true → (a ≡ true) × (b ≡ true)
-both_true true b h = (refl, h)
-both_true false b h = absurd cc
 
 pub word_byte : (b : ℕ) → is_word_byte b ≡ true → (45 ≤ b) × (b < 128)
 word_byte b h = (grind (arith, nat_tests), grind (arith, nat_tests))
 
 pub word_bytes : (bytes : List ℕ) → list_all is_word_byte bytes ≡ true → (i : ℕ) → (get_or bytes i 0 < 128) × (i < length bytes → 45 ≤ get_or bytes i 0)
 word_bytes [] h i = (omega arith, λ lt. absurd (omega arith))
-word_bytes (b ∷ bytes) h zero = let w = word_byte b (both_true (is_word_byte b) _ h).0 in (w.1, λ lt. w.0)
-word_bytes (b ∷ bytes) h (suc i) = let w = word_bytes bytes (both_true (is_word_byte b) _ h).1 i in (w.0, λ lt. w.1 (omega arith))
+word_bytes (b ∷ bytes) h zero = let w = word_byte b (and_parts (is_word_byte b) _ h).0 in (w.1, λ lt. w.0)
+word_bytes (b ∷ bytes) h (suc i) = let w = word_bytes bytes (and_parts (is_word_byte b) _ h).1 i in (w.0, λ lt. w.1 (omega arith))
 
 pub word_parts : (word : List ℕ) → is_word word ≡ true → (length word ≤ 64) × (list_all is_word_byte word ≡ true)
 word_parts word h =
-    let parts = both_true (ltb 0 (length word) && leb (length word) 64) (list_all is_word_byte word) h in
-    let sizes = both_true (ltb 0 (length word)) (leb (length word) 64) parts.0 in
+    let parts = and_parts (ltb 0 (length word) && leb (length word) 64) (list_all is_word_byte word) h in
+    let sizes = and_parts (ltb 0 (length word)) (leb (length word) 64) parts.0 in
     (grind (arith, nat_tests, sizes.1), parts.1)
 
 pub word_ascii : (word : List ℕ) → is_word word ≡ true → IsAscii word

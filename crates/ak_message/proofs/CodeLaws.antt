@@ -14,7 +14,7 @@ use Rattle.ak_base.specs.Option.{where_true}
 use Rattle.ak_message.specs.Payload.{raw_from}
 use Rattle.ak_message.specs.Reading.{code_from}
 use Rattle.ak_message.proofs.HexLaws.{raws_take, raws_again}
-use Rattle.ak_message.proofs.WordLaws.{cond_some, some_is}
+use Rattle.ak_base.proofs.Options.{cond_some, some_is}
 
 four_small : (bytes : List ℕ) → length bytes ≡ 4 → get_or bytes 0 0 < 256 → get_or bytes 1 0 < 256 → get_or bytes 2 0 < 256 → get_or bytes 3 0 < 256 → All (λ b. b < 256) bytes
 four_small (a ∷ b ∷ c ∷ d ∷ []) size p q r s =

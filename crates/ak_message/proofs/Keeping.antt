@@ -7,6 +7,7 @@ use Rattle.std.proofs.lemmas.List.Sums.{fails_before_first}
 use Rattle.std.proofs.lemmas.Bool.{false≢true}
 use Rattle.std.proofs.lemmas.List.Quantifiers.{all_pairs_push}
 use Rattle.std.proofs.lemmas.Slice.Eq.{bytes_eq-Decides}
+use Rattle.ak_base.proofs.Options.{passed}
 use Rattle.ak_base.specs.Word.{is_word}
 use Rattle.ak_message.specs.declared.kind.Kind.TheVariants as k
 use Rattle.ak_message.specs.declared.fault.AddFault.{AddFault}
@@ -54,10 +55,6 @@ counted-added (f ∷ fs) name other v =
     counted-behind f fs _ other v (is_named name f) (is_named other f) refl (counted-added fs name other v)
 
 -- ---- what the want of a fault says
-pub passed : (b : Bool) (o : Option AddFault) (x : AddFault) → cond b o (Some x) ≡ None → (b ≡ true) × (o ≡ None)
-passed true o x e = (refl, e)
-passed false o x e = absurd cc
-
 pub neither : (a b : Option AddFault) → or_fault a b ≡ None → (a ≡ None) × (b ≡ None)
 neither None b e = (refl, e)
 neither (Some x) b e = absurd cc

@@ -3,6 +3,7 @@ use Rattle.std.proofs.Common.{◌≡◌, ◌≢◌, ℕ, zero, suc, ◌<◌, ◌
 use Rattle.std.specs.List.{cons_option}
 use Rattle.std.proofs.lemmas.List.{length-set}
 use Rattle.std.proofs.lemmas.List.Elements.{All-set, All-append, All-take, All-drop, All-cons, All-head, All-tail}
+use Rattle.ak_base.proofs.Options.{passed}
 use Rattle.ak_message.specs.declared.kind.Kind.TheVariants as k
 use Rattle.ak_message.specs.Kind.{is_same_kind, same_kind-is}
 use Rattle.ak_message.specs.Message.{ValueData, FieldData, MessageData, kind_of, depth_of_value, depth_of_nested_values, depth_of_nested_fields, nested_values, nested_fields}
@@ -120,10 +121,6 @@ depth-set [] zero v = omega arith
 depth-set [] (suc i) v = omega arith
 depth-set (x ∷ vs) zero v = omega arith
 depth-set (x ∷ vs) (suc i) v = omega (arith, depth-set vs i v)
-
-passed : {X : Type 0} (b : Bool) (o : Option X) (x : X) → cond b o (Some x) ≡ None → (b ≡ true) × (o ≡ None)
-passed true o x e = (refl, e)
-passed false o x e = absurd cc
 
 shallow_value : (o : Option FieldData) (index : ℕ) (value : ValueData) → replace_fault_in o index value ≡ None → ltb (depth_of_value value) 16 ≡ true
 shallow_value None index value e = absurd cc

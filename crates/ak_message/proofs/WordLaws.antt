@@ -3,6 +3,8 @@ use Rattle.std.proofs.Common.{◌≡◌, ℕ, ◌+◌, Bool, true, false, cond, 
 use Rattle.std.specs.Prelude.{option_map}
 use Rattle.std.specs.List.{list_all}
 use Rattle.std.proofs.lemmas.List.{append-nil}
+use Rattle.std.proofs.lemmas.Bool.{and_parts}
+use Rattle.ak_base.proofs.Options.{bind_some, done, some_is, cond_some}
 use Rattle.ak_message.specs.declared.line.Word.{Word}
 use Rattle.ak_message.specs.declared.marks.Marks.{Marks}
 use Rattle.ak_message.specs.declared.words.Begun.{Begun}
@@ -11,26 +13,6 @@ use Rattle.ak_base.specs.Option.{◌>>=◌}
 use Rattle.ak_message.specs.Words.{GoesOn, IsWordText, is_end, IsLine, begun_at, grown, opened_at, words_from}
 
 -- ---- steps
-
--- the value of a step that gave one
-pub bind_some : {A B : Type 0} (o : Option A) (f : A → Option B) (y : B) → (o >>= f) ≡ Some y → (x : A) × (o ≡ Some x) × (f x ≡ Some y)
-bind_some (Some x) f y e = (x, refl, e)
-bind_some None f y e = absurd cc
-
-abbrev done : {A : Type 0} → A → Option A
-done x = Some x
-
-pub some_is : {A : Type 0} (x y : A) → done x ≡ done y → x ≡ y
-some_is x y e = cc
-
--- a test that passed
-pub cond_some : {A : Type 0} (test : Bool) (x y : A) → cond test (Some x) None ≡ Some y → (test ≡ true) × (x ≡ y)
-cond_some true x y e = (refl, cc)
-cond_some false x y e = absurd cc
-
-pub both_true : (a b : Bool) → (a && b) ≡ true → (a ≡ true) × (b ≡ true)
-both_true true b h = (refl, h)
-both_true false b h = absurd cc
 
 abbrev word : ℕ → List ℕ → Word
 word column bytes = record { column = column; bytes = bytes }
@@ -100,7 +82,7 @@ Later column bytes = (begun : Option Begun) (words : List Word) → words_from b
 ended_take : (column b : ℕ) (bytes : List ℕ) (w : Begun) (words others : List Word) → Later column bytes → ends_before w.marks b ≡ true
     → (opened_at column b >>= λ begun. words_from begun (column + 1) bytes) ≡ Some others → w.word ∷ others ≡ words → IsRest (Some w) column (b ∷ bytes) words
 ended_take column b bytes w words others later is read all =
-    let parts = both_true (is_outside w.marks) (is_end (b ∷ bytes)) is in
+    let parts = and_parts (is_outside w.marks) (is_end (b ∷ bytes)) is in
     let line = opened_take column b bytes others (is_blank b) refl (λ begun h. later begun others h) read in (
       [],
       b ∷ bytes,
@@ -187,14 +169,14 @@ gap_again : (gap : List ℕ) (column : ℕ) (text : List ℕ) (words : List Word
 unfolding words_from
 gap_again [] column text words blanks later = subst (λ (n : ℕ). words_from None n text ≡ Some words) (add-zero column) later
 gap_again (b ∷ gap) column text words blanks later =
-    let parts = both_true (is_blank b) (list_all is_blank gap) blanks in
+    let parts = and_parts (is_blank b) (list_all is_blank gap) blanks in
     rw parts.0 (gap_again gap (column + 1) text words parts.1 (subst (λ (n : ℕ). words_from None n text ≡ Some words) (omega arith) later))
 
 blanks_again : (text : List ℕ) (column : ℕ) → list_all is_blank text ≡ true → words_from None column text ≡ Some []
 unfolding words_from
 blanks_again [] column blanks = refl
 blanks_again (b ∷ text) column blanks =
-    let parts = both_true (is_blank b) (list_all is_blank text) blanks in
+    let parts = and_parts (is_blank b) (list_all is_blank text) blanks in
     rw parts.0 (blanks_again text (column + 1) parts.1)
 
 pub line_again : (words : List Word) (column : ℕ) (text : List ℕ) → IsLine column text words → words_from None column text ≡ Some words

@@ -12,7 +12,7 @@ use Rattle.std.proofs.lemmas.Slice.Eq.{bytes_eq-Decides}
 use Rattle.ak_base.specs.Word.{is_word_byte, is_word}
 use Rattle.ak_base.specs.Option.{where_true, ◌>>=◌}
 use Rattle.ak_message.specs.Reading.{equals_in, field_split}
-use Rattle.ak_message.proofs.WordLaws.{bind_some, cond_some}
+use Rattle.ak_base.proofs.Options.{bind_some, cond_some}
 use Rattle.ak_action.specs.declared.template.Given.{Given}
 use Rattle.ak_action.specs.declared.template.Given.TheVariants as gets
 use Rattle.ak_action.specs.Values.{ValuesData}

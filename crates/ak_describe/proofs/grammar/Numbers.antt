@@ -9,7 +9,7 @@ use Rattle.ak_base.proofs.Digits.{IsForm-decimal, short_from_below}
 use Rattle.ak_base.specs.Option.{where_true, ◌>>=◌}
 use Rattle.ak_message.specs.Payload.{int_within, uint_within}
 use Rattle.ak_message.proofs.Numbers.{ints_read}
-use Rattle.ak_message.proofs.WordLaws.{bind_some, cond_some, some_is}
+use Rattle.ak_base.proofs.Options.{bind_some, cond_some, some_is}
 use Rattle.ak_describe.specs.Grammar.{WritesNumber}
 use Rattle.ak_describe.specs.Words.{number_within}
 

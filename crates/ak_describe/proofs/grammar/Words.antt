@@ -19,7 +19,7 @@ use Rattle.ak_message.specs.Payload.{raw_from, unquoted}
 use Rattle.ak_message.specs.Reading.{Got, got, over, code_from, text_from, text_of}
 use Rattle.ak_message.proofs.CodeLaws.{code_again}
 use Rattle.ak_message.proofs.HexLaws.{raws_take}
-use Rattle.ak_message.proofs.WordLaws.{bind_some, cond_some, some_is}
+use Rattle.ak_base.proofs.Options.{bind_some, cond_some, some_is}
 use Rattle.ak_describe.specs.Grammar.{IsName, WritesCode, WritesText}
 use Rattle.ak_describe.specs.Made.{quoted_from, text_in}
 use Rattle.ak_describe.specs.Words.{coded, code_of, name_of}
