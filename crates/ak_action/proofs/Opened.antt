@@ -6,7 +6,7 @@ use Rattle.std.proofs.lemmas.List.Elements.{All-weaker}
 use Rattle.ak_base.specs.Word.{is_word}
 use Rattle.ak_handler.specs.Changes.{from_rows, numbered_rows}
 use Rattle.ak_handler.specs.Handlers.{HandlerData, BeginsWithLooper, IsHandlers, IsThere, after_steps, handler_of, next_in}
-use Rattle.ak_handler.proofs.Looking.{position-within}
+use Rattle.ak_base.proofs.Looking.{position-within}
 use Rattle.ak_action.specs.declared.plan.PlanParts.{PlanParts}
 use Rattle.ak_action.specs.declared.plan.PlanRow.{PlanRow}
 use Rattle.ak_action.specs.declared.row.DeskRow.{DeskRow}

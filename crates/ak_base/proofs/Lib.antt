@@ -2,3 +2,5 @@ pub mod Codes
 pub mod Digits
 pub mod Numbers
 pub mod Options
+pub mod Words
+pub mod Looking

@@ -36,7 +36,6 @@ pub mod Searching
 pub mod Seconding
 pub mod Seeing
 pub mod Standing
-pub mod Texts
 pub mod Told
 pub mod Walks
 pub mod Whole

@@ -5,7 +5,6 @@ pub mod Describing
 pub mod Halving
 pub mod Holding
 pub mod Linking
-pub mod Looking
 pub mod Mapped
 pub mod Meeting
 pub mod Named

@@ -16,7 +16,7 @@ use Rattle.ak_kit.specs.FirstInput.{begins_with}
 use Rattle.ak_base.specs.Option.{◌>>=◌, where_true}
 use Rattle.ak_kit.specs.Reading.{after, is_gap, field_len, field_at, is_int32, int32_of, capacity_of}
 use Rattle.ak_kit.proofs.Fronts.{begins, begins_again, not_begins}
-use Rattle.ak_kit.proofs.Words.{word_byte, word_parts}
+use Rattle.ak_base.proofs.Words.{word_byte, word_parts}
 use Rattle.ak_kit.proofs.Numbers.{int32_takes, int32_found}
 
 -- ---- a front

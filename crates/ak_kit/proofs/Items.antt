@@ -21,7 +21,7 @@ use Rattle.ak_kit.specs.Laws.{ItemsSay}
 use Rattle.ak_kit.specs.Messages.{get_of, ready_to_run, specifier_of}
 use Rattle.ak_kit.specs.Run.{item_of}
 use Rattle.std.proofs.lemmas.Bool.{and_parts}
-use Rattle.ak_kit.proofs.Words.{word_ascii, word_has_no_zero, word_parts}
+use Rattle.ak_base.proofs.Words.{word_ascii, word_has_no_zero, word_parts}
 
 pub askable_word : (word : List ℕ) → is_askable word ≡ true → is_word word ≡ true
 askable_word word h = (and_parts (is_word word) _ h).0

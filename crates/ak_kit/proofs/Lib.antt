@@ -17,4 +17,3 @@ pub mod ReadScript
 pub mod Routes
 pub mod RunLaws
 pub mod Sent
-pub mod Words

@@ -4,7 +4,7 @@ use Rattle.std.proofs.lemmas.Bool.{cond_both}
 use Rattle.ak_filter.specs.declared.filter.Filter.{Filter}
 use Rattle.ak_filter.specs.Filter.{admits}
 use Rattle.ak_handler.specs.Handlers.{HandlerData, HandlersData, has_name, token_named, tokens_of}
-use Rattle.ak_handler.proofs.Looking.{find-All}
+use Rattle.ak_base.proofs.Looking.{find-All}
 use Rattle.ak_handler.proofs.Tokens.{contains_token}
 use Rattle.ak_property.specs.HandlerRow.{RowData}
 use Rattle.ak_route.specs.Handlers.{row_of}

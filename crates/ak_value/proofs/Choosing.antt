@@ -1,17 +1,9 @@
 -- A search in the code's elements is the search in what contracts see of them, and no element has a number below zero as its id.
 use Rattle.std.proofs.Common.{◌≡◌, ℕ, ℤ, pos, negsuc, Bool, List, [], ◌∷◌, length, map, None, refl, arith, tests}
 use Rattle.std.specs.List.{position_or_len, position}
-use Rattle.std.proofs.lemmas.List.{length-map}
 use Rattle.ak_value.specs.Elements.{ElementData}
 use Rattle.ak_value.specs.Choice.{has_id, whole_of}
 use Rattle.ak_value.specs.Laws.{NoneBelowZero}
-
-position_or_len-map : {A B : Type 0} (p : B → Bool) (f : A → B) (xs : List A) → position_or_len p (map f xs) ≡ position_or_len (λ x. p (f x)) xs
-position_or_len-map p f [] = refl
-position_or_len-map p f (x ∷ xs) = rw (position_or_len-map p f xs) refl
-
-pub position-map : {A B : Type 0} (p : B → Bool) (f : A → B) (xs : List A) → position p (map f xs) ≡ position (λ x. p (f x)) xs
-position-map p f xs = rw (position_or_len-map p f xs, length-map xs f)
 
 passes_none : (n : ℕ) (xs : List ElementData) → position_or_len (has_id (negsuc n)) xs ≡ length xs
 passes_none n [] = refl

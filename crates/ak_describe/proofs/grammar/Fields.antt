@@ -22,7 +22,7 @@ use Rattle.ak_describe.specs.Grammar.{IsProperty, IsCopied, AreValues, IsCopiedT
 use Rattle.ak_describe.specs.Made.{values_from, one_from}
 use Rattle.ak_describe.specs.Parts.{property_named}
 use Rattle.ak_describe.specs.Words.{name_of}
-use Rattle.ak_describe.proofs.Texts.{word_parts}
+use Rattle.ak_base.proofs.Words.{word_parts}
 use Rattle.ak_describe.proofs.grammar.Values.{values_are_read, one_is_read}
 
 -- ---- the first `=` of a word

@@ -1,6 +1,6 @@
 -- A name is a text, so nothing but memory can be missing.
 use Rattle.std.proofs.Common.{ap, Err}
-use Rattle.ak_describe.proofs.Texts.{only_memory}
+use Rattle.ak_base.proofs.Words.{only_memory}
 use Rattle.ak_describe.proofs.words.text_of.Goals as goal
 use Rattle.ak_describe.proofs.words.text_of.Goals.{in-NoMemory, in_default}
 

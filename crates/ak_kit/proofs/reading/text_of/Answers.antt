@@ -1,5 +1,5 @@
 use Rattle.std.proofs.Common.{ap, Err}
-use Rattle.ak_kit.proofs.Words.{only_memory}
+use Rattle.ak_base.proofs.Words.{only_memory}
 use Rattle.ak_kit.proofs.reading.text_of.Goals as goal
 use Rattle.ak_kit.proofs.reading.text_of.Goals.{in-NoMemory, in_default}
 

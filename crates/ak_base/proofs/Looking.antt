@@ -1,4 +1,4 @@
--- Looking up among the rows is looking up among the handlers.
+-- Looking up in a list: in its images, and what is found.
 use Rattle.std.proofs.Common.{◌≡◌, ◌+◌, Bool, true, false, cond, not, List, [], ◌∷◌, length, map, find, position, option_map, Option, None, Some, IfSome, All, is_some, nat_lt, ℕ, refl, sym, ap, ◌∙◌, ◌<◌, one-add, ltb-true, lt-ltb, arith}
 use Prim.Native.Nat.compare
 use Rattle.std.specs.List.{position_or_len}
