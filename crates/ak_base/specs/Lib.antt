@@ -1,3 +1,4 @@
+pub mod AppName
 pub mod Code
 pub mod Error
 pub mod Limits

@@ -3,6 +3,7 @@
 //! form each, and the readers accept just the forms. Nothing here waits, and nothing is shared.
 #![tactic(auto)]
 
+mod app_name;
 mod app_word;
 mod bytes;
 mod code;
@@ -17,6 +18,7 @@ mod text;
 mod thread;
 mod word;
 
+pub use app_name::{is_path, is_signature, last_part};
 pub use app_word::AppWord;
 pub use bytes::Bytes;
 pub use code::{Code, codes_are_named, one_code_text, printed_codes_are_read};

@@ -14,7 +14,7 @@ use Rattle.ak_describe.specs.Grammar.{SaysApp, SaysLooper, IsCapacity}
 use Rattle.ak_describe.specs.Parts.{RowData, LooperData, AppData, opened}
 use Rattle.ak_describe.specs.Pass.{State, last_item, loopers_in, new_app, new_looper, new_property, new_reaction}
 use Rattle.ak_describe.specs.Says.{Form, says_app, says_looper, says_hook, says_prefer, says_common, says_handler, says_next, says_suite, says_filter, says_property, says_element, says_on, says_action, least_of, IsComplete, MayStand, Says, IsInUse, HasLooper, IsWithin, changed, with_changed, in_app, in_looper, usage_of, element_added, action_added, with_form}
-use Rattle.ak_describe.specs.Words.{is_path, is_signature}
+use Rattle.ak_base.specs.AppName.{is_path, is_signature}
 use Rattle.ak_describe.proofs.Ends.{changed_get, get_push, last_there, last_within, length_changed, one_some, push_cases}
 use Rattle.ak_describe.proofs.Places.{all_there}
 

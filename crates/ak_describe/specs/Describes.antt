@@ -6,7 +6,7 @@ use Rattle.ak_base.specs.declared.ending.RefusalKind.{RefusalKind}
 use Rattle.ak_base.specs.declared.ending.RefusalKind.TheVariants as refusal
 use Rattle.ak_message.specs.declared.line.Line.{Line}
 use Rattle.ak_action.specs.Plan.{place_after}
-use Rattle.ak_roster.specs.Heads.{last_part}
+use Rattle.ak_base.specs.AppName.{last_part}
 use Rattle.ak_describe.specs.declared.described.AppText.{AppText}
 use Rattle.ak_describe.specs.declared.keyword.Keyword.{Keyword}
 use Rattle.ak_describe.specs.declared.named.Named.{Named}

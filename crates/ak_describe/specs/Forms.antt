@@ -17,7 +17,8 @@ use Rattle.ak_describe.specs.declared.form.heads.AppForm.{AppForm}
 use Rattle.ak_describe.specs.declared.form.heads.LooperForm.{LooperForm}
 use Rattle.ak_describe.specs.declared.form.property.PropertyForm.{PropertyForm}
 use Rattle.ak_describe.specs.Made.{quoted_from, value_of_kind}
-use Rattle.ak_describe.specs.Words.{first_of, behind, ends, name_at, code_at, code_of, mode_of, kind_of, number_within, is_path, is_signature, some_behind}
+use Rattle.ak_base.specs.AppName.{is_path, is_signature}
+use Rattle.ak_describe.specs.Words.{first_of, behind, ends, name_at, code_at, code_of, mode_of, kind_of, number_within, some_behind}
 use Rattle.ak_describe.specs.Limits.{usual_capacity, form_limit}
 
 -- ---- heads

@@ -42,7 +42,8 @@ use Rattle.ak_describe.specs.declared.parts.PropertyParts.{PropertyParts}
 use Rattle.ak_describe.specs.Actions.{written}
 use Rattle.ak_describe.specs.Made.{is_short}
 use Rattle.ak_describe.specs.Parts.{property_named}
-use Rattle.ak_describe.specs.Words.{is_path, is_signature, is_app_name}
+use Rattle.ak_base.specs.AppName.{is_path, is_signature}
+use Rattle.ak_describe.specs.Words.{is_app_name}
 use Rattle.ak_describe.specs.Limits.{usual_capacity, form_limit}
 
 -- ---- words

@@ -7,7 +7,7 @@ use Rattle.ak_base.specs.declared.ending.RefusalKind.{RefusalKind}
 use Rattle.ak_base.specs.declared.ending.RefusalKind.TheVariants as refusal
 use Rattle.ak_action.specs.declared.plan.PlanRow.{PlanRow}
 use Rattle.ak_action.specs.Plan.{chains_end}
-use Rattle.ak_roster.specs.Heads.{last_part}
+use Rattle.ak_base.specs.AppName.{last_part}
 use Rattle.ak_describe.specs.declared.named.Named.{Named}
 use Rattle.ak_describe.specs.declared.named.Need.{Need}
 use Rattle.ak_describe.specs.declared.named.Need.TheVariants as needs

@@ -10,7 +10,7 @@ use Rattle.ak_roster.specs.Heads.{IsHeads}
 use Rattle.ak_roster.specs.Limits.{app_limit}
 use Rattle.ak_describe.specs.declared.described.AppText.{AppText}
 use Rattle.ak_describe.specs.Describes.{Describes}
-use Rattle.ak_describe.specs.Words.{is_path, is_signature}
+use Rattle.ak_base.specs.AppName.{is_path, is_signature}
 
 -- the names of an application's loopers, its own first
 abbrev pub looper_names : AppText → List (List ℕ)

@@ -1,8 +1,9 @@
 -- The words of a line, by themselves and in order. A reader answers what it read, and the words behind that; none where the words
 -- are not of its form.
-use Rattle.std.specs.Prelude.{ℕ, Bool, true, false, not, ◌&&◌, ◌==◌, nat_lt, nat_le, if◌then◌else◌, List, [], ◌∷◌, length, map, codes, Option, Some, None, option_map}
-use Rattle.std.specs.List.{starts_with, ends_with, list_any}
+use Rattle.std.specs.Prelude.{ℕ, Bool, true, false, not, ◌&&◌, ◌==◌, nat_le, if◌then◌else◌, List, [], ◌∷◌, length, map, codes, Option, Some, None, option_map}
+use Rattle.std.specs.List.{list_any}
 use Rattle.std.specs.Str.{bytes_eq}
+use Rattle.ak_base.specs.AppName.{is_signature}
 use Rattle.ak_base.specs.Word.{is_word}
 use Rattle.ak_base.specs.declared.code.Code.{Code}
 use Rattle.ak_base.specs.declared.app_word.AppWord.{AppWord}
@@ -21,17 +22,6 @@ abbrev pub texts : List Word → List (List ℕ)
 texts words = map (λ (w : Word). w.bytes) words
 
 -- ---- a word
-abbrev pub begins_with : List ℕ → List ℕ → Bool
-begins_with front bytes = starts_with ◌==◌ bytes front
-
--- a path begins with `/` and doesn't end with it
-abbrev pub is_path : List ℕ → Bool
-is_path bytes = is_word bytes && begins_with (codes "/") bytes && not (ends_with ◌==◌ bytes (codes "/"))
-
--- a signature begins with `application/` and goes on
-abbrev pub is_signature : List ℕ → Bool
-is_signature bytes = is_word bytes && begins_with (codes "application/") bytes && nat_lt 12 (length bytes)
-
 -- an application's name has no `/`
 abbrev pub is_app_name : List ℕ → Bool
 is_app_name bytes = is_word bytes && not (list_any (λ b. b == 47) bytes)

@@ -1,7 +1,6 @@
 //! The second pass: the names that lines give, which may be those of later lines.
 
 ghost use Rattle.std.specs.Prelude.{◌≡◌, Some, option_map};
-ghost use Rattle.ak_roster.specs.Heads.{last_part};
 ghost use Rattle.ak_describe.specs.Answers.{refused};
 ghost use Rattle.ak_describe.specs.Led as reads;
 ghost use Rattle.ak_describe.specs.Second.{unknown, order_fault, fits, first_fit};
@@ -10,7 +9,7 @@ ghost use Rattle.ak_describe.specs.Seen.{app_data, apps_data, looper_data};
 use crate::fault::DescribeFault;
 use crate::named::{Named, Need};
 use crate::parts::{AppParts, LooperParts};
-use ak_base::{AppWord, RefusalKind};
+use ak_base::{AppWord, RefusalKind, last_part};
 use ak_handler::HANDLER_LIMIT;
 
 /// The first fault in the order of the lines.
@@ -113,21 +112,6 @@ fn fits(app: &AppParts, word: &AppWord) -> bool
         AppWord::Name(name) => last_part(app.path.as_bytes()) == name.as_bytes(),
         AppWord::Team(_) => false,
     }
-}
-
-// What stands behind the last slash of a path.
-fn last_part(path: &[u8]) -> &[u8]
-    ensures { result.now ≡ last_part path.now }
-{
-    let mut part = path;
-    let mut rest = path;
-    while let Some((byte, after)) = rest.split_first() {
-        if *byte == b'/' {
-            part = after;
-        }
-        rest = after;
-    }
-    part
 }
 
 // ---- chains

@@ -10,27 +10,12 @@ ghost use Rattle.ak_describe.specs.Words as reads;
 ghost use Rattle.ak_describe.specs.Words.{texts};
 
 use crate::fault::FormFault;
-use ak_base::{AppWord, Code, NoMemory, Text, TextFault, is_word, read_int};
+use ak_base::{AppWord, Code, NoMemory, Text, TextFault, is_signature, is_word, read_int};
 use ak_message::{Kind, Word};
 use ak_roster::Mode;
 use std::alloc::Global;
 
-// What a signature begins with.
-const SIGNATURE_FRONT: &[u8; 12] = b"application/";
-
 // ---- a word
-pub(crate) fn is_path(word: &[u8]) -> bool
-    ensures { result ≡ reads.is_path word.now }
-{
-    is_word(word) && word.starts_with(b"/") && !word.ends_with(b"/")
-}
-
-pub(crate) fn is_signature(word: &[u8]) -> bool
-    ensures { result ≡ reads.is_signature word.now }
-{
-    is_word(word) && word.starts_with(SIGNATURE_FRONT) && word.len() > SIGNATURE_FRONT.len()
-}
-
 // Of a path that is its last part.
 fn is_app_name(word: &[u8]) -> bool
     ensures { result ≡ reads.is_app_name word.now }

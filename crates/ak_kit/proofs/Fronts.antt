@@ -2,7 +2,7 @@
 use Rattle.std.proofs.Common.{◌≡◌, ℕ, Bool, true, false, List, ◌++◌, length, drop, refl}
 use Rattle.std.proofs.lemmas.Slice.Eq.{starts_is}
 use Rattle.std.proofs.lemmas.Bool.Decides.{Decides-eqb}
-use Rattle.ak_kit.specs.FirstInput.{begins_with}
+use Rattle.ak_base.specs.AppName.{begins_with}
 
 pub begins : (front bytes : List ℕ) → begins_with front bytes ≡ true → bytes ≡ front ++ drop (length front) bytes
 begins front bytes h = (starts_is Decides-eqb bytes front (begins_with front bytes) refl).0 h

@@ -2,7 +2,8 @@
 use Rattle.std.proofs.Common.{◌≡◌, ℕ, List, [], ◌∷◌, ◌++◌, ℤ, Option, Some, None, refl, sym, ap, subst, ◌∙◌, append_assoc}
 use Rattle.std.specs.Prelude.{codes}
 use Rattle.std.specs.List.{flat_map}
-use Rattle.ak_kit.specs.FirstInput.{Script, name_of, names_differ, IsScript, line, row_lines, hey_line, spelling, IsFirstInput}
+use Rattle.ak_base.specs.AppName.{last_part}
+use Rattle.ak_kit.specs.FirstInput.{Script, names_differ, IsScript, line, row_lines, hey_line, spelling, IsFirstInput}
 use Rattle.ak_base.specs.Option.{◌>>=◌, where_true}
 use Rattle.ak_kit.specs.Reading.{after, App, app_at, looper_at, rows_at, asked_at, launch_at, statements_at, opening_at, script_from, script_of}
 use Rattle.ak_base.proofs.Options.{bind_some, cond_some, some_is}
@@ -57,7 +58,7 @@ launch_again path rest =
     ∙ rw (after_again front (path ++ ((10 ∷ []) ++ rest)), after_again path ((10 ∷ []) ++ rest), after_again (10 ∷ []) rest) refl
 
 abbrev statement_lines : List ℕ → List (List ℕ) → List ℕ
-statement_lines path asked = launch_lines path (flat_map (hey_line (name_of path)) asked)
+statement_lines path asked = launch_lines path (flat_map (hey_line (last_part path)) asked)
 
 -- no property's line begins so
 no_row : (path : List ℕ) (asked : List (List ℕ)) → after (codes "property ") (statement_lines path asked) ≡ None
@@ -76,12 +77,12 @@ script_takes bytes s e =
     let a = bind_some (opening_at bytes) (λ opening. rows_at 64 opening.1 >>= λ rows. statements_at opening.0.0.path rows.1 >>= λ asked. script_end opening.0 rows.0 asked) s e in
     let b = bind_some (rows_at 64 a.0.1) (λ rows. statements_at a.0.0.0.path rows.1 >>= λ asked. script_end a.0.0 rows.0 asked) s a.2 in
     let c = bind_some (statements_at a.0.0.0.path b.0.1) (λ asked. script_end a.0.0 b.0.0 asked) s b.2 in
-    let d = bind_some (launch_at a.0.0.0.path b.0.1) (λ lines. asked_at (name_of a.0.0.0.path) 7999 lines) c.0 c.1 in
+    let d = bind_some (launch_at a.0.0.0.path b.0.1) (λ lines. asked_at (last_part a.0.0.0.path) 7999 lines) c.0 c.1 in
     let made : Script = script_from a.0.0.0 a.0.0.1 b.0.0 c.0 in
     let t = cond_some (names_differ b.0.0) made s c.2 in
     let opening = opening_takes bytes a.0 a.1 in
     let rows = rows_take 64 a.0.1 b.0 b.1 in
-    let asked = asked_take (name_of a.0.0.0.path) 7999 d.0 c.0 d.2 in
+    let asked = asked_take (last_part a.0.0.0.path) 7999 d.0 c.0 d.2 in
     let end : b.0.1 ≡ statement_lines a.0.0.0.path c.0 = launch_takes a.0.0.0.path b.0.1 d.0 d.1 ∙ ap (launch_lines a.0.0.0.path) asked.0 in
     let behind : a.0.1 ≡ flat_map row_lines b.0.0 ++ statement_lines a.0.0.0.path c.0 = rows.0 ∙ ap (λ (r : List ℕ). flat_map row_lines b.0.0 ++ r) end in
     let whole : bytes ≡ spelling made = opening.0 ∙ ap (opening_lines a.0.0) behind in
@@ -108,7 +109,7 @@ script_again s is =
     let is_app : IsApp app = record { path = is.path; signature = is.signature; mode = is.mode } in
     let is_looper : IsLooper looper = record { name = is.looper; capacity = is.capacity } in
     let end : List ℕ = statement_lines s.path s.asked in
-    rw (opening_again app looper (flat_map row_lines s.rows ++ end) is_app is_looper, rows_again 64 s.rows end is.few_rows is.rows (no_row s.path s.asked), launch_again s.path (flat_map (hey_line (name_of s.path)) s.asked), asked_again (name_of s.path) 7999 s.asked is.few_asked is.asked, is.differ) refl
+    rw (opening_again app looper (flat_map row_lines s.rows ++ end) is_app is_looper, rows_again 64 s.rows end is.few_rows is.rows (no_row s.path s.asked), launch_again s.path (flat_map (hey_line (last_part s.path)) s.asked), asked_again (last_part s.path) 7999 s.asked is.few_asked is.asked, is.differ) refl
 
 -- so an input is the text of one script
 pub one_script : (input : List ℕ) (s t : Script) → IsFirstInput input s → IsFirstInput input t → s ≡ t

@@ -12,7 +12,7 @@ use Rattle.std.proofs.lemmas.Str.Parse.{digit_from_value}
 use Rattle.ak_base.proofs.Options.{bind_some, cond_some, some_is}
 use Rattle.ak_base.specs.Word.{is_word_byte, is_word}
 use Rattle.ak_base.proofs.Digits.{short_from_below, IsForm-decimal}
-use Rattle.ak_kit.specs.FirstInput.{begins_with}
+use Rattle.ak_base.specs.AppName.{begins_with}
 use Rattle.ak_base.specs.Option.{◌>>=◌, where_true}
 use Rattle.ak_kit.specs.Reading.{after, is_gap, field_len, field_at, is_int32, int32_of, capacity_of}
 use Rattle.ak_kit.proofs.Fronts.{begins, begins_again, not_begins}

@@ -8,7 +8,8 @@ use Rattle.std.specs.Fmt.{decimal, signed_decimal}
 use Rattle.std.proofs.lemmas.Bool.{or_cases, and_parts}
 use Rattle.std.proofs.lemmas.Slice.Eq.{bytes_eq-Decides}
 use Rattle.ak_base.specs.Word.{is_word_byte, is_word}
-use Rattle.ak_kit.specs.FirstInput.{begins_with, is_path, is_signature, is_mode, is_askable, IsRow, AllRows, line, row_lines, hey_line}
+use Rattle.ak_base.specs.AppName.{begins_with, is_path, is_signature}
+use Rattle.ak_kit.specs.FirstInput.{is_mode, is_askable, IsRow, AllRows, line, row_lines, hey_line}
 use Rattle.ak_base.specs.Option.{◌>>=◌, where_true}
 use Rattle.ak_kit.specs.Reading.{after, field_at, int32_of, capacity_of, App, app_at, looper_at, row_at, rows_at, hey_at, asked_at}
 use Rattle.ak_kit.proofs.Numbers.{int32_takes}

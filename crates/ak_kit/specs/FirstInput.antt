@@ -1,9 +1,10 @@
 -- The inputs that are run: one application with one looper, its properties, its launch, and lines that get one property each.
-use Rattle.std.specs.Prelude.{◌≡◌, ℕ, ◌≤◌, ◌++◌, Bool, true, not, ◌&&◌, ◌||◌, ◌==◌, nat_lt, List, [], ◌∷◌, length, codes, ℤ, FitsSigned}
-use Rattle.std.specs.List.{list_all, flat_map, starts_with, ends_with, after_last}
+use Rattle.std.specs.Prelude.{◌≡◌, ℕ, ◌≤◌, ◌++◌, Bool, true, not, ◌&&◌, ◌||◌, List, [], ◌∷◌, length, codes, ℤ, FitsSigned}
+use Rattle.std.specs.List.{list_all, flat_map}
 use Rattle.std.specs.Int.{w32}
 use Rattle.std.specs.Str.{bytes_eq}
 use Rattle.std.specs.Fmt.{decimal, signed_decimal}
+use Rattle.ak_base.specs.AppName.{is_path, is_signature, last_part}
 use Rattle.ak_base.specs.Word.{is_word}
 use Rattle.ak_base.specs.Limits.{capacity_limit}
 use Rattle.ak_message.specs.Limits.{input_limit}
@@ -25,23 +26,8 @@ pub record Script : Type 0 where
 
 -- ---- the forms of names
 
-abbrev pub begins_with : List ℕ → List ℕ → Bool
-begins_with front bytes = starts_with ◌==◌ bytes front
-
--- a path begins with `/` and doesn't end with it
-abbrev pub is_path : List ℕ → Bool
-is_path bytes = is_word bytes && begins_with (codes "/") bytes && not (ends_with ◌==◌ bytes (codes "/"))
-
--- a signature begins with `application/` and goes on
-abbrev pub is_signature : List ℕ → Bool
-is_signature bytes = is_word bytes && begins_with (codes "application/") bytes && nat_lt 12 (length bytes)
-
 abbrev pub is_mode : List ℕ → Bool
 is_mode bytes = bytes_eq bytes (codes "single") || bytes_eq bytes (codes "multiple") || bytes_eq bytes (codes "exclusive")
-
--- an application's name: the last part of its path
-abbrev pub name_of : List ℕ → List ℕ
-name_of path = after_last (λ b. b == 47) path
 
 -- the words of the hey language, and the properties that every handler has
 abbrev pub is_reserved : List ℕ → Bool
@@ -100,7 +86,7 @@ spelling s =
     ++ (flat_map row_lines s.rows
     ++ (line (codes "script" ∷ [])
     ++ (line (codes "launch" ∷ s.path ∷ [])
-    ++ flat_map (hey_line (name_of s.path)) s.asked)))))
+    ++ flat_map (hey_line (last_part s.path)) s.asked)))))
 
 -- the input is the text of this script
 pub record IsFirstInput (input : List ℕ) (s : Script) : Type 0 where

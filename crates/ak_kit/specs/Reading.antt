@@ -9,7 +9,8 @@ use Rattle.ak_base.specs.Word.{is_word}
 use Rattle.ak_base.specs.Option.{◌>>=◌, where_true}
 use Rattle.ak_base.specs.Limits.{capacity_limit}
 use Rattle.ak_property.specs.Limits.{row_limit}
-use Rattle.ak_kit.specs.FirstInput.{Script, begins_with, is_path, is_signature, is_mode, name_of, is_askable, names_differ}
+use Rattle.ak_base.specs.AppName.{begins_with, is_path, is_signature, last_part}
+use Rattle.ak_kit.specs.FirstInput.{Script, is_mode, is_askable, names_differ}
 use Rattle.ak_kit.specs.Limits.{hey_limit}
 
 -- the bytes after this front
@@ -114,7 +115,7 @@ launch_at path bytes = do
 unfoldable pub statements_at : List ℕ → List ℕ → Option (List (List ℕ))
 statements_at path bytes = do
   lines ← launch_at path bytes
-  asked_at (name_of path) hey_limit lines
+  asked_at (last_part path) hey_limit lines
 
 -- the lines before the properties
 unfoldable pub opening_at : List ℕ → Option ((App × (List ℕ × ℕ)) × List ℕ)

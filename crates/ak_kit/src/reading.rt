@@ -2,11 +2,11 @@
 
 ghost use Rattle.std.specs.Prelude.{◌≡◌, ◌==◌, ℕ, List, length, take, drop, not, Option, IfOk, IfSome, IsErrOf, OnErr, None, ◌≤◌, true};
 ghost use Rattle.std.specs.Option.{option_map};
-ghost use Rattle.std.specs.List.{suffix_len, list_any};
+ghost use Rattle.std.specs.List.{list_any};
 ghost use Rattle.std.specs.Str.{bytes_eq};
 ghost use Rattle.ak_base.specs.Word as word;
 ghost use Rattle.ak_property.specs.Limits.{row_limit};
-ghost use Rattle.ak_kit.specs.FirstInput.{AreParts, IsTextOf, IsNoScript, name_of, is_path, is_signature, is_mode, is_reserved, is_askable, names_differ};
+ghost use Rattle.ak_kit.specs.FirstInput.{AreParts, IsTextOf, IsNoScript, is_mode, is_reserved, is_askable, names_differ};
 ghost use Rattle.ak_kit.specs.Reading as reads;
 ghost use Rattle.ak_base.specs.Option.{where_true};
 ghost use Rattle.ak_kit.specs.Seen.{Gives, opening_seen, opening_told, pair_of, parts_of, seen, seen_script};
@@ -14,7 +14,7 @@ ghost use Rattle.ak_kit.specs.Limits.{hey_limit};
 
 use crate::fault::ScriptFault;
 use crate::script::FirstScript;
-use ak_base::{CAPACITY_LIMIT, Text, TextFault, is_word, read_int};
+use ak_base::{CAPACITY_LIMIT, Text, TextFault, is_path, is_signature, is_word, last_part, read_int};
 use ak_property::ROW_LIMIT;
 use std::alloc::Global;
 
@@ -63,18 +63,6 @@ fn is_mode(bytes: &[u8]) -> bool
         || bytes == b"exclusive".as_slice()
 }
 
-fn is_path(bytes: &[u8]) -> bool
-    ensures { result ≡ is_path bytes.now }
-{
-    is_word(bytes) && bytes.starts_with(b"/") && !bytes.ends_with(b"/")
-}
-
-fn is_signature(bytes: &[u8]) -> bool
-    ensures { result ≡ is_signature bytes.now }
-{
-    is_word(bytes) && bytes.starts_with(b"application/") && bytes.len() > 12
-}
-
 fn is_reserved(bytes: &[u8]) -> bool
     ensures { result ≡ is_reserved bytes.now }
 {
@@ -91,20 +79,6 @@ fn is_askable(bytes: &[u8]) -> bool
     ensures { result ≡ is_askable bytes.now }
 {
     is_word(bytes) && !is_reserved(bytes)
-}
-
-fn name_len(path: &[u8]) -> usize
-    ensures len { result ≡ suffix_len (λ b. not (b == 47)) path.now }
-    ensures within { result ≤ length path.now }
-{
-    path.iter().rev().take_while(|b| **b != b'/').count()
-}
-
-/// An application's name: the last part of its path.
-fn name_of(path: &[u8]) -> &[u8]
-    ensures { result.now ≡ name_of path.now }
-{
-    &path[path.len() - name_len(path)..]
 }
 
 #[tactic(auto, unfolding(crate::specs::Reading::app_at))]
@@ -266,7 +240,7 @@ fn statements(alloc: Global, path: &[u8], bytes: &[u8]) -> Result<Vec<Text>, Scr
     let Some(lines) = launch(path, bytes) else {
         return Err(ScriptFault::NotYet);
     };
-    asked(alloc, name_of(path), lines)
+    asked(alloc, last_part(path), lines)
 }
 
 fn launch<'a>(path: &[u8], bytes: &'a [u8]) -> Option<&'a [u8]>

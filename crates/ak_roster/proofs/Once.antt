@@ -11,7 +11,7 @@ use Rattle.ak_roster.specs.declared.entry.RosterEvent.{RosterEvent}
 use Rattle.ak_roster.specs.declared.entry.RosterEvent.TheVariants as event
 use Rattle.ak_roster.specs.declared.entry.LaunchOutcome.{LaunchOutcome}
 use Rattle.ak_roster.specs.declared.entry.LaunchOutcome.TheVariants as launch
-use Rattle.ak_roster.specs.Heads.{is_slash, last_part}
+use Rattle.ak_base.specs.AppName.{is_slash, last_part}
 use Rattle.ak_roster.specs.Machine.{HasNoDoor, LooperData, RosterState, IsLegal, after, given_to, loopers_at, loopers_of, with_given}
 use Rattle.ak_roster.specs.Laws.{DoorsAreGivenOnce, IsLastPart, LastPartIsSo}
 use Rattle.ak_roster.proofs.Carried.{carried}

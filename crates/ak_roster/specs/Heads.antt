@@ -1,7 +1,8 @@
 -- Which applications a word names, and which of them keep another one from starting.
-use Rattle.std.specs.Prelude.{ℕ, ◌≤◌, Bool, false, ◌==◌, ◌||◌, List, [], ◌∷◌, length, All, find, Option, None, Some, slice_get, if◌then◌else◌}
-use Rattle.std.specs.List.{list_any, position}
+use Rattle.std.specs.Prelude.{ℕ, ◌≤◌, Bool, false, ◌==◌, ◌||◌, List, length, All, find, Option, None, Some, slice_get}
+use Rattle.std.specs.List.{position}
 use Rattle.std.specs.Str.{bytes_eq}
+use Rattle.ak_base.specs.AppName.{last_part}
 use Rattle.ak_base.specs.declared.app_word.AppWord.{AppWord}
 use Rattle.ak_base.specs.declared.app_word.AppWord.TheVariants as word
 use Rattle.ak_base.specs.Limits.{app_looper_limit}
@@ -15,15 +16,6 @@ use Rattle.ak_roster.specs.Limits.{app_limit}
 pub record IsHeads (heads : List AppHead) : Type 0 where
   pub limit : length heads ≤ app_limit
   pub loopers : All (λ head. (1 ≤ head.loopers) × (head.loopers ≤ app_looper_limit)) heads
-
-abbrev pub is_slash : ℕ → Bool
-is_slash byte = byte == 47
-
--- what stands after the last slash of a path, or all of it where it has none
-abbrev pub last_part : List ℕ → List ℕ
-last_part [] = []
-last_part (byte ∷ rest) =
-    if list_any is_slash rest then last_part rest else if is_slash byte then rest else byte ∷ rest
 
 -- a description fits a path or a signature that is equal, and a name that is the last part of its path; it has no team's number
 abbrev pub head_fits : AppWord → AppHead → Bool

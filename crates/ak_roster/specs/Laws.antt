@@ -15,7 +15,8 @@ use Rattle.ak_roster.specs.declared.entry.RosterEvent.TheVariants as event
 use Rattle.ak_roster.specs.declared.entry.LaunchOutcome.{LaunchOutcome}
 use Rattle.ak_roster.specs.declared.entry.LaunchOutcome.TheVariants as launch
 use Rattle.ak_roster.specs.declared.entry.FindOutcome.{FindOutcome}
-use Rattle.ak_roster.specs.Heads.{last_part, team_fits, team_for}
+use Rattle.ak_base.specs.AppName.{last_part}
+use Rattle.ak_roster.specs.Heads.{team_fits, team_for}
 use Rattle.ak_roster.specs.Machine.{IsHistory, LooperData, RosterState, holders, loopers_at, runs_team, state_of}
 use Rattle.ak_roster.specs.Roster.{IsStranger, plain_entries}
 use Rattle.ak_turn.specs.Entries.{made_by}

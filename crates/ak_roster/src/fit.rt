@@ -1,25 +1,10 @@
 //! Which descriptions and teams a word names.
 ghost use Rattle.std.specs.Prelude.{◌≡◌, slice_get};
-ghost use Rattle.ak_roster.specs.Heads.{is_slash, last_part, head_fits, is_number, team_fits, first_fit, team_for, excludes, excluder, passes};
+ghost use Rattle.ak_roster.specs.Heads.{head_fits, is_number, team_fits, first_fit, team_for, excludes, excluder, passes};
 
 use crate::head::{AppHead, Mode};
 use crate::team::Running;
-use ak_base::AppWord;
-
-// What stands after the last slash of a path, or all of it where it has none.
-fn last_part(path: &[u8]) -> &[u8]
-    ensures { result.now ≡ last_part path.now }
-{
-    let mut part = path;
-    let mut rest = path;
-    while let Some((byte, after)) = rest.split_first() {
-        if *byte == b'/' {
-            part = after;
-        }
-        rest = after;
-    }
-    part
-}
+use ak_base::{AppWord, last_part};
 
 // Whether the description fits: by an equal path or signature, or by the last part of its path.
 fn head_fits(head: &AppHead, word: &AppWord) -> bool

@@ -14,7 +14,8 @@ use Rattle.ak_describe.specs.declared.form.heads.AppForm.{AppForm}
 use Rattle.ak_describe.specs.declared.form.heads.LooperForm.{LooperForm}
 use Rattle.ak_describe.specs.Forms.{app_form, capacity_at, capacity_behind, capacity_from, looper_form}
 use Rattle.ak_describe.specs.Grammar.{WritesNumber, mode_word, SaysApp, IsCapacity, SaysLooper, SaysName, SaysCode}
-use Rattle.ak_describe.specs.Words.{is_path, is_signature, mode_of, name_of, code_of, behind, name_at, code_at, only_name, only_code}
+use Rattle.ak_base.specs.AppName.{is_path, is_signature}
+use Rattle.ak_describe.specs.Words.{mode_of, name_of, code_of, behind, name_at, code_at, only_name, only_code}
 use Rattle.ak_describe.proofs.grammar.Choices.{chosen}
 use Rattle.ak_describe.proofs.grammar.Numbers.{number_takes, number_again}
 use Rattle.ak_describe.proofs.grammar.Parts.{behind_takes, word_at, name_at-takes, name_at-again, only_takes, only_again}

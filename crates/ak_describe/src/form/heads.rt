@@ -6,11 +6,9 @@ ghost use Rattle.ak_describe.specs.Forms as reads;
 ghost use Rattle.ak_describe.specs.Words.{texts};
 
 use crate::fault::FormFault;
-use crate::words::{
-    behind, ends, first_of, is_path, is_signature, mode_of, name_at, number_within, text_of,
-};
+use crate::words::{behind, ends, first_of, mode_of, name_at, number_within, text_of};
 use ak_action::CAPACITY_LIMIT;
-use ak_base::Text;
+use ak_base::{Text, is_path, is_signature};
 use ak_message::Word;
 use ak_roster::Mode;
 use std::alloc::Global;

@@ -2,8 +2,8 @@
 use Rattle.std.proofs.Common.{◌≡◌, ℕ, Bool, true, false, List, [], ◌∷◌, refl}
 use Rattle.std.specs.Prelude.{if◌then◌else◌, ◌||◌}
 use Rattle.std.specs.List.{list_any}
-use Rattle.ak_roster.specs.Heads.{is_slash, last_part}
-use Rattle.ak_roster.proofs.fit.last_part.Goals as goal
+use Rattle.ak_base.specs.AppName.{is_slash, last_part}
+use Rattle.ak_base.proofs.app_name.last_part.Goals as goal
 
 by_cases : (first others : Bool) (p q r : List ℕ)
     → (if first || others then (if others then p else if first then q else r) else r) ≡ (if others then p else if first then q else r)

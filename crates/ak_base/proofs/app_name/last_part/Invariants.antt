@@ -2,8 +2,8 @@
 use Rattle.std.proofs.Common.{◌≡◌, length}
 use Rattle.std.specs.Prelude.{if◌then◌else◌}
 use Rattle.std.specs.List.{list_any}
-use Rattle.ak_roster.specs.Heads.{is_slash, last_part}
-use Rattle.ak_describe.proofs.second.last_part.Given as goal
+use Rattle.ak_base.specs.AppName.{is_slash, last_part}
+use Rattle.ak_base.proofs.app_name.last_part.Given as goal
 
 abbrev pub invariant-loop-byte : goal.invariant-loop-byte
 invariant-loop-byte l = (if list_any is_slash l.rest then last_part l.rest else l.part) ≡ last_part l.path
