@@ -1,5 +1,5 @@
 -- What words are made of: each is a text.
-use Rattle.std.proofs.Common.{ltb, leb, ◌≡◌, ℕ, ◌<◌, ◌≤◌, Bool, true, false, ◌&&◌, List, [], ◌∷◌, length, get_or, Contains, IsUtf8, arith, refl, zero, suc}
+use Rattle.std.proofs.Common.{ltb, leb, ◌≡◌, ℕ, ◌<◌, ◌≤◌, true, ◌&&◌, List, [], ◌∷◌, length, get_or, Contains, IsUtf8, arith, refl, zero, suc}
 use Rattle.std.specs.List.{list_all}
 use Rattle.std.specs.Str.{IsAscii}
 use Rattle.std.proofs.lemmas.Str.{IsUtf8-from_ascii}

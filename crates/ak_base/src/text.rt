@@ -1,6 +1,7 @@
-ghost use Rattle.std.specs.Prelude.{◌≡◌, ◌<◌, ◌≤◌, ◌↔◌, length, Contains, IsUtf8, IfOk, IsErrOf};
+ghost use Rattle.std.specs.Prelude.{◌≡◌, ◌<◌, ◌≤◌, ◌↔◌, true, [], length, Contains, IsUtf8, IfOk, IsErrOf};
 ghost use Rattle.ak_base.specs.declared.text.TheConstants.{TEXT_LIMIT};
 ghost use Rattle.ak_base.specs.Limits.{text_limit};
+ghost use Rattle.ak_base.specs.Word.{is_word};
 
 use crate::no_memory::NoMemory;
 use std::alloc::{AllocError, Global};
@@ -75,6 +76,30 @@ impl Text {
         Ok(Text {
             text: String::from_str(alloc, text)?,
         })
+    }
+
+    /// The text of no bytes. `NoMemory` where memory ran out.
+    pub fn empty(alloc: Global) -> Result<Text, NoMemory>
+        ensures { IfOk result (λ t. t ≡ []) }
+    {
+        match Text::from_bytes(alloc, b"") {
+            Ok(text) => Ok(text),
+            Err(_) => Err(NoMemory),
+        }
+    }
+
+    /// The text of a word. Each word is a text, so only memory can be missing. The bytes are copied.
+    pub fn from_word(alloc: Global, word: &[u8]) -> Result<Text, NoMemory>
+        requires { is_word word.now ≡ true }
+        ensures { IfOk result (λ t. t ≡ word.now) }
+    {
+        match Text::from_bytes(alloc, word) {
+            Ok(text) => Ok(text),
+            Err(fault) => {
+                prove!(matches!(fault, TextFault::NoMemory));
+                Err(NoMemory)
+            }
+        }
     }
 
     /// An equal text. `NoMemory` where memory ran out.

@@ -1,6 +1,6 @@
 //! Reads words of a line by themselves. A reader of several answers what it read and the words behind it.
 
-ghost use Rattle.std.specs.Prelude.{◌≡◌, ◌&&◌, true, [], pos, int_le, unsigned_abs, IfOk, option_map};
+ghost use Rattle.std.specs.Prelude.{◌≡◌, ◌&&◌, pos, int_le, unsigned_abs, option_map};
 ghost use Rattle.ak_base.specs.Word.{is_word};
 ghost use Rattle.ak_base.specs.Option.{where_true};
 ghost use Rattle.ak_message.specs.Payload.{uint_within};
@@ -10,7 +10,7 @@ ghost use Rattle.ak_describe.specs.Words as reads;
 ghost use Rattle.ak_describe.specs.Words.{texts};
 
 use crate::fault::FormFault;
-use ak_base::{AppWord, Code, NoMemory, Text, TextFault, is_signature, is_word, read_int};
+use ak_base::{AppWord, Code, Text, is_signature, is_word, read_int};
 use ak_message::{Kind, Word};
 use ak_roster::Mode;
 use std::alloc::Global;
@@ -98,38 +98,14 @@ fn whole_up_to(number: i128, most: u32) -> Option<u32>
     }
 }
 
-/// The text of no bytes.
-pub(crate) fn empty_text(alloc: Global) -> Result<Text, NoMemory>
-    ensures { IfOk result (λ t. t ≡ []) }
-{
-    match Text::from_bytes(alloc, b"") {
-        Ok(text) => Ok(text),
-        Err(_) => Err(NoMemory),
-    }
-}
-
 /// The text of a name.
 pub(crate) fn name_of(alloc: Global, word: &[u8]) -> Result<Text, FormFault>
     ensures { Gives (λ t. t) result (reads.name_of word.now) }
 {
     if is_word(word) {
-        Ok(text_of(alloc, word)?)
+        Ok(Text::from_word(alloc, word)?)
     } else {
         Err(FormFault::BadValue)
-    }
-}
-
-/// The text of bytes that are a name, so that nothing but memory can be missing.
-pub(crate) fn text_of(alloc: Global, name: &[u8]) -> Result<Text, NoMemory>
-    requires { is_word name.now ≡ true }
-    ensures { IfOk result (λ t. t ≡ name.now) }
-{
-    match Text::from_bytes(alloc, name) {
-        Ok(text) => Ok(text),
-        Err(fault) => {
-            prove!(matches!(fault, TextFault::NoMemory));
-            Err(NoMemory)
-        }
     }
 }
 
@@ -151,10 +127,10 @@ pub(crate) fn app_word_of(alloc: Global, word: &[u8]) -> Result<AppWord, FormFau
         return Ok(AppWord::Team(team));
     }
     if is_signature(word) {
-        return Ok(AppWord::Signature(text_of(alloc, word)?));
+        return Ok(AppWord::Signature(Text::from_word(alloc, word)?));
     }
     if is_app_name(word) {
-        return Ok(AppWord::Name(text_of(alloc, word)?));
+        return Ok(AppWord::Name(Text::from_word(alloc, word)?));
     }
     Err(FormFault::BadValue)
 }

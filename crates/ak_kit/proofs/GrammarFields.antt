@@ -1,5 +1,5 @@
 -- A field that is read is the field that was written, and what was written is read again.
-use Rattle.std.proofs.Common.{◌≡◌, ℕ, suc, ◌≤◌, Bool, true, false, ◌&&◌, List, [], ◌∷◌, ◌++◌, length, take, drop, ℤ, pos, negsuc, Option, Some, None, refl, sym, ap, ◌∙◌, arith}
+use Rattle.std.proofs.Common.{◌≡◌, ℕ, suc, ◌≤◌, true, false, ◌&&◌, List, [], ◌∷◌, ◌++◌, length, take, drop, ℤ, pos, negsuc, Some, None, refl, sym, ap, ◌∙◌, arith}
 use Rattle.std.specs.Prelude.{FitsSigned, int_le, unsigned_abs}
 use Rattle.std.specs.Int.{w32}
 use Rattle.std.specs.List.{list_all}
@@ -13,7 +13,7 @@ use Rattle.ak_base.proofs.Options.{bind_some, cond_some, some_is}
 use Rattle.ak_base.specs.Word.{is_word_byte, is_word}
 use Rattle.ak_base.proofs.Digits.{short_from_below, IsForm-decimal}
 use Rattle.ak_base.specs.AppName.{begins_with}
-use Rattle.ak_base.specs.Option.{◌>>=◌, where_true}
+use Rattle.ak_base.specs.Option.{where_true}
 use Rattle.ak_kit.specs.Reading.{after, is_gap, field_len, field_at, is_int32, int32_of, capacity_of}
 use Rattle.ak_kit.proofs.Fronts.{begins, begins_again, not_begins}
 use Rattle.ak_base.proofs.Words.{word_byte, word_parts}

@@ -17,15 +17,6 @@ use ak_property::{PropertyRow, PropertyTable, RowFault};
 use ak_value::Elements;
 use std::alloc::Global;
 
-fn empty_text(alloc: Global) -> Result<Text, NoMemory>
-    ensures { IfOk result (λ t. t ≡ []) }
-{
-    match Text::from_bytes(alloc, b"") {
-        Ok(text) => Ok(text),
-        Err(_) => Err(NoMemory),
-    }
-}
-
 // A property of numbers of 32 bits that takes every command and every form.
 fn property(alloc: Global, name: &Text) -> Result<PropertyRow, NoMemory>
     ensures { IfOk result (λ row. row ≡ property_named name.now) }
@@ -35,7 +26,7 @@ fn property(alloc: Global, name: &Text) -> Result<PropertyRow, NoMemory>
         kind: Kind::Int32,
         commands: Items::from_vec(Vec::new(alloc)),
         forms: Items::from_vec(Vec::new(alloc)),
-        usage: empty_text(alloc)?,
+        usage: Text::empty(alloc)?,
     })
 }
 
@@ -69,7 +60,7 @@ fn number(alloc: Global, value: i32) -> Result<Elements, NoMemory>
     ensures { IfOk result (λ e. e ≡ one_number value) }
 {
     let mut list = Vec::with_capacity(alloc, 1)?;
-    list.push((empty_text(alloc)?, Value::Int32(value)))?;
+    list.push((Text::empty(alloc)?, Value::Int32(value)))?;
     Elements::new(alloc, Kind::Int32, list)
 }
 

@@ -1,6 +1,6 @@
 //! Reads an input from its front. Each reader answers what it read and the bytes after it, or nothing.
 
-ghost use Rattle.std.specs.Prelude.{◌≡◌, ◌==◌, ℕ, List, length, take, drop, not, Option, IfOk, IfSome, IsErrOf, OnErr, None, ◌≤◌, true};
+ghost use Rattle.std.specs.Prelude.{◌≡◌, ◌==◌, ℕ, List, length, take, drop, Option, IfOk, IfSome, IsErrOf, None, ◌≤◌, true};
 ghost use Rattle.std.specs.Option.{option_map};
 ghost use Rattle.std.specs.List.{list_any};
 ghost use Rattle.std.specs.Str.{bytes_eq};
@@ -14,7 +14,7 @@ ghost use Rattle.ak_kit.specs.Limits.{hey_limit};
 
 use crate::fault::ScriptFault;
 use crate::script::FirstScript;
-use ak_base::{CAPACITY_LIMIT, Text, TextFault, is_path, is_signature, is_word, last_part, read_int};
+use ak_base::{CAPACITY_LIMIT, Text, is_path, is_signature, is_word, last_part, read_int};
 use ak_property::ROW_LIMIT;
 use std::alloc::Global;
 
@@ -141,22 +141,6 @@ fn looper(bytes: &[u8]) -> Option<((&[u8], u32), &[u8])>
     }
 }
 
-/// The text of a name.
-fn text_of(alloc: Global, name: &[u8]) -> Result<Text, ScriptFault>
-    requires { word.is_word name.now ≡ true }
-    ensures text { IfOk result (λ t. t ≡ name.now) }
-    ensures only { OnErr result (result ≡ Err ScriptFault.NoMemory) }
-{
-    match Text::from_bytes(alloc, name) {
-        Ok(text) => Ok(text),
-        Err(fault) => {
-            // A name is a text, so nothing but memory can be missing.
-            prove!(matches!(fault, TextFault::NoMemory));
-            Err(ScriptFault::NoMemory)
-        }
-    }
-}
-
 #[tactic(auto, unfolding(crate::specs::Reading::row_at))]
 fn row_words(bytes: &[u8]) -> Option<(&[u8], i32, &[u8])>
     ensures row { option_map (λ x. ((x.0.now, x.1), x.2.now)) result ≡ reads.row_at bytes.now }
@@ -178,7 +162,7 @@ fn row(alloc: Global, bytes: &[u8]) -> Result<((Text, i32), &[u8]), ScriptFault>
     let Some((name, value, rest)) = row_words(bytes) else {
         return Err(ScriptFault::NotYet);
     };
-    Ok(((text_of(alloc, name)?, value), rest))
+    Ok(((Text::from_word(alloc, name)?, value), rest))
 }
 
 fn rows(alloc: Global, bytes: &[u8]) -> Result<(Vec<(Text, i32)>, &[u8]), ScriptFault>
@@ -223,7 +207,7 @@ fn asked(alloc: Global, name: &[u8], bytes: &[u8]) -> Result<Vec<Text>, ScriptFa
         let Some((property, behind)) = hey(name, rest) else {
             return Err(ScriptFault::NotYet);
         };
-        asked.push(text_of(alloc, property)?)?;
+        asked.push(Text::from_word(alloc, property)?)?;
         rest = behind;
     }
     if rest.is_empty() {
@@ -288,7 +272,7 @@ fn script(alloc: Global, input: &[u8]) -> Result<FirstScript, ScriptFault>
         return Err(ScriptFault::NotYet);
     }
     Ok(FirstScript {
-        looper: text_of(alloc, name)?,
+        looper: Text::from_word(alloc, name)?,
         capacity,
         rows,
         asked,

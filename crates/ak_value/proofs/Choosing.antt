@@ -1,5 +1,5 @@
 -- A search in the code's elements is the search in what contracts see of them, and no element has a number below zero as its id.
-use Rattle.std.proofs.Common.{◌≡◌, ℕ, ℤ, pos, negsuc, Bool, List, [], ◌∷◌, length, map, None, refl, arith, tests}
+use Rattle.std.proofs.Common.{◌≡◌, ℕ, ℤ, pos, negsuc, List, [], ◌∷◌, length, None, refl, arith, tests}
 use Rattle.std.specs.List.{position_or_len, position}
 use Rattle.ak_value.specs.Elements.{ElementData}
 use Rattle.ak_value.specs.Choice.{has_id, whole_of}

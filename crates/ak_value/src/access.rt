@@ -195,16 +195,7 @@ fn name_of(alloc: Global, at: AtRef<'_>, m: &Message) -> Result<Text, NoMemory>
     }
     match m.find(b"name", Kind::Text, 0) {
         Ok(Value::Text(name)) => name.try_clone(),
-        _ => empty_text(alloc),
-    }
-}
-
-fn empty_text(alloc: Global) -> Result<Text, NoMemory>
-    ensures { IfOk result (λ t. t ≡ []) }
-{
-    match Text::from_bytes(alloc, b"") {
-        Ok(text) => Ok(text),
-        Err(_) => Err(NoMemory),
+        _ => Text::empty(alloc),
     }
 }
 

@@ -6,7 +6,7 @@ ghost use Rattle.ak_describe.specs.Forms as reads;
 ghost use Rattle.ak_describe.specs.Words.{texts};
 
 use crate::fault::FormFault;
-use crate::words::{behind, ends, first_of, mode_of, name_at, number_within, text_of};
+use crate::words::{behind, ends, first_of, mode_of, name_at, number_within};
 use ak_action::CAPACITY_LIMIT;
 use ak_base::{Text, is_path, is_signature};
 use ak_message::Word;
@@ -41,8 +41,8 @@ pub(crate) fn app_form(alloc: Global, words: &[Word]) -> Result<AppForm, FormFau
         return Err(FormFault::BadValue);
     }
     Ok(AppForm {
-        path: text_of(alloc, path)?,
-        signature: text_of(alloc, signature)?,
+        path: Text::from_word(alloc, path)?,
+        signature: Text::from_word(alloc, signature)?,
         mode,
     })
 }

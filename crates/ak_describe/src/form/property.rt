@@ -9,7 +9,7 @@ ghost use Rattle.ak_describe.specs.Words.{texts, code_of, many};
 
 use crate::fault::FormFault;
 use crate::form::values::{quoted_from, value_of_kind};
-use crate::words::{behind, code_of, empty_text, ends, first_of, kind_of, name_at, number_within};
+use crate::words::{behind, code_of, ends, first_of, kind_of, name_at, number_within};
 use ak_base::{Code, Items, Text};
 use ak_message::{Kind, Value, Word};
 use std::alloc::Global;
@@ -136,7 +136,7 @@ fn text_behind<'a>(
     ensures { Gives read_and_rest result (reads.text_behind (texts words.now) key.now) }
 {
     let Some(rest) = behind(words, key) else {
-        return Ok((Some(empty_text(alloc)?), words));
+        return Ok((Some(Text::empty(alloc)?), words));
     };
     let (word, rest) = first_of(rest)?;
     let text = quoted_from(alloc, word)?;

@@ -17,7 +17,7 @@ returns-in_default c =
 pub loop-preserved : goal.loop-preserved
 loop-preserved c =
     let some : 0 < length c.loop.rest.now = grind (arith, nat_tests) in
-    rw (c.in_ok-push.ensures.items, c.in_ok-text_of.ensures.text) (asked_go_on c.args.name.now c.loop.asked.items 7999 c.loop.counter c.loop.rest.now c.in-Some.property.now c.in-Some.behind.now (asked_at c.args.name.now 7999 c.args.bytes.now) c.loop-test.true some (sym c.in-Some.ensures.hey) c.loop.invariant)
+    rw (c.in_ok-push.ensures.items, c.in_ok-from_word.ensures) (asked_go_on c.args.name.now c.loop.asked.items 7999 c.loop.counter c.loop.rest.now c.in-Some.property.now c.in-Some.behind.now (asked_at c.args.name.now 7999 c.args.bytes.now) c.loop-test.true some (sym c.in-Some.ensures.hey) c.loop.invariant)
 
 pub returns-then-is_empty-2 : goal.returns-then-is_empty-2
 returns-then-is_empty-2 c =
