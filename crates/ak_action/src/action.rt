@@ -334,7 +334,8 @@ fn copied_reactions(alloc: Global, reactions: &[Reaction]) -> Result<Vec<Reactio
     Ok(copies)
 }
 
-fn copied_name(name: &Option<Text>) -> Result<Option<Text>, NoMemory>
+/// An equal name, where there is one. `NoMemory` where memory ran out.
+pub(crate) fn copied_name(name: &Option<Text>) -> Result<Option<Text>, NoMemory>
     ensures { IfOk result (λ t. t ≡ name.now) }
 {
     match name {

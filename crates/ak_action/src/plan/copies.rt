@@ -1,6 +1,7 @@
 ghost use Rattle.std.specs.Prelude.{◌≡◌, IfOk};
 
 use super::{PlanParts, PlanRow};
+use crate::action::copied_name;
 use ak_base::{Items, NoMemory, Text};
 use std::alloc::Global;
 
@@ -34,15 +35,6 @@ impl PlanRow {
             filters: self.filters.try_clone()?,
             reactions: self.reactions.try_clone()?,
         })
-    }
-}
-
-fn copied_name(name: &Option<Text>) -> Result<Option<Text>, NoMemory>
-    ensures { IfOk result (λ n. n ≡ name.now) }
-{
-    match name {
-        Some(name) => Ok(Some(name.try_clone()?)),
-        None => Ok(None),
     }
 }
 
