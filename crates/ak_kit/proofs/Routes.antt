@@ -146,10 +146,10 @@ or_false false b h = (refl, h)
 is_plain : (word : List ℕ) → is_askable word ≡ true → IsPlain word
 is_plain word h =
     let free : is_reserved word ≡ false = not-true (is_reserved word) (and_parts _ (not (is_reserved word)) h).1 in
-    let a = or_false _ _ free in
-    let b = or_false _ _ a.0 in
-    let c = or_false _ _ b.0 in
-    record { suites = c.1; messenger = b.1; name = a.1 }
+    let built_in = or_false _ _ free in
+    let a = or_false _ _ built_in.1 in
+    let b = or_false _ _ a.1 in
+    record { suites = a.0; messenger = b.0; name = b.1 }
 
 -- it asks for no handler and no looper, whatever its property
 same_step : (a b : Bool) → (if a then lost else if b then lost else lost) ≡ lost

@@ -9,6 +9,7 @@ use Rattle.ak_base.specs.Word.{is_word}
 use Rattle.ak_base.specs.Limits.{capacity_limit}
 use Rattle.ak_message.specs.Limits.{input_limit}
 use Rattle.ak_property.specs.Limits.{row_limit}
+use Rattle.ak_route.specs.Matching.{is_built_in_name}
 use Rattle.ak_kit.specs.Limits.{hey_limit}
 pub use Rattle.ak_kit.specs.Rows.{names_differ}
 
@@ -33,9 +34,7 @@ is_mode bytes = bytes_eq bytes (codes "single") || bytes_eq bytes (codes "multip
 abbrev pub is_reserved : List ℕ → Bool
 is_reserved bytes =
     bytes_eq bytes (codes "of") || bytes_eq bytes (codes "to") || bytes_eq bytes (codes "with") || bytes_eq bytes (codes "and")
-    || bytes_eq bytes (codes "Suites")
-    || bytes_eq bytes (codes "Messenger")
-    || bytes_eq bytes (codes "InternalName")
+    || is_built_in_name bytes
 
 -- a property that a hey line can get
 abbrev pub is_askable : List ℕ → Bool

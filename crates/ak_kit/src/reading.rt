@@ -16,6 +16,7 @@ use crate::fault::ScriptFault;
 use crate::script::FirstScript;
 use ak_base::{CAPACITY_LIMIT, Text, is_path, is_signature, is_word, last_part, read_int};
 use ak_property::ROW_LIMIT;
+use ak_route::is_built_in_name;
 use std::alloc::Global;
 
 // The most properties that an input may have, and the most hey lines.
@@ -70,9 +71,7 @@ fn is_reserved(bytes: &[u8]) -> bool
         || bytes == b"to".as_slice()
         || bytes == b"with".as_slice()
         || bytes == b"and".as_slice()
-        || bytes == b"Suites".as_slice()
-        || bytes == b"Messenger".as_slice()
-        || bytes == b"InternalName".as_slice()
+        || is_built_in_name(bytes)
 }
 
 fn is_askable(bytes: &[u8]) -> bool

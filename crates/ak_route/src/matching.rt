@@ -32,7 +32,8 @@ pub(crate) fn gets_built_in(m: &Message, s: SpecifierRef<'_>) -> bool
     m.what() == Code::GET && is_last_direct(m, s) && is_built_in_name(s.property.as_bytes())
 }
 
-fn is_built_in_name(name: &[u8]) -> bool
+/// Whether every handler can be asked for it: its suites, its messenger or its name.
+pub fn is_built_in_name(name: &[u8]) -> bool
     ensures { result ≡ is_built_in_name name.now }
 {
     name == b"Suites".as_slice()
