@@ -151,7 +151,7 @@ impl Desk {
         if let Some(begun) = &mut self.begun {
             return begun.want(alloc, &mut self.state);
         }
-        Ok(Want::Done)
+        unreachable!()
     }
 
     /// Hands it the answer to the last want, one that fits that want; `want` comes next. The result of a reply

@@ -37,12 +37,7 @@ impl Desk {
     {
         let alloc = *self.entries.allocator();
         let Some(begun) = self.begun.take() else {
-            return Made {
-                reply: None,
-                forwarded: false,
-                quit: false,
-                no_memory: false,
-            };
+            unreachable!()
         };
         let Begun {
             position,
