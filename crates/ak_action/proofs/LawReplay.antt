@@ -6,7 +6,7 @@ use Rattle.ak_base.specs.declared.error.KitError.{KitError}
 use Rattle.ak_base.specs.declared.error.KitError.TheVariants as error
 use Rattle.ak_flatten.specs.declared.fault.FlatFault.{FlatFault}
 use Rattle.ak_flatten.specs.Reading.{read_message}
-use Rattle.ak_flatten.proofs.LawsHold.{spelled_is_read}
+use Rattle.ak_flatten.proofs.Surface.{spelled_is_read}
 use Rattle.ak_message.specs.Message.{MessageData}
 use Rattle.ak_action.specs.declared.action.Action.{Action}
 use Rattle.ak_action.specs.declared.answer.Answer.{Answer}

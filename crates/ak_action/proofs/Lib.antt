@@ -18,3 +18,4 @@ pub mod Rows
 pub mod Stages
 pub mod Sums
 pub mod Tested
+pub mod Surface

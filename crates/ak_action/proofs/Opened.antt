@@ -6,7 +6,7 @@ use Rattle.std.proofs.lemmas.List.Elements.{All-weaker}
 use Rattle.ak_base.specs.Word.{is_word}
 use Rattle.ak_handler.specs.Changes.{from_rows, numbered_rows}
 use Rattle.ak_handler.specs.Handlers.{HandlerData, BeginsWithLooper, IsHandlers, IsThere, after_steps, handler_of, next_in}
-use Rattle.ak_base.proofs.Looking.{position-within}
+use Rattle.ak_base.proofs.Surface.{position-within, none_is}
 use Rattle.ak_action.specs.declared.plan.PlanParts.{PlanParts}
 use Rattle.ak_action.specs.declared.plan.PlanRow.{PlanRow}
 use Rattle.ak_action.specs.declared.row.DeskRow.{DeskRow}
@@ -14,7 +14,6 @@ use Rattle.ak_action.specs.Opening.{described_from, described_rows, opening_hand
 use Rattle.ak_action.specs.OpeningInside.{described_row, described_with, nexts_from}
 use Rattle.ak_action.specs.Plan.{IsPlan, chains_end_below, fits_table, may_be, next_place, place_after, place_named, place_or_looper}
 use Rattle.ak_action.specs.Whole.{IsNamed, IsWholeTable, PlansAreWhole}
-use Rattle.ak_base.proofs.Options.{none_is}
 use Rattle.ak_action.proofs.Tested.{All-list_all, Tests, looper_is, named, names_apart, no_row, table_whole, tests_passed}
 
 -- ---- the handlers from a place on

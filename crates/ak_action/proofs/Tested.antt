@@ -7,8 +7,7 @@ use Rattle.std.proofs.lemmas.List.Elements.{All-nil, All-cons}
 use Rattle.std.proofs.lemmas.List.Kept.{AllPairs-cons}
 use Rattle.std.proofs.lemmas.List.Quantifiers.{position-Some}
 use Rattle.std.proofs.lemmas.Slice.Eq.{bytes_eq-Decides}
-use Rattle.ak_base.proofs.Options.{passed, none_is}
-use Rattle.ak_base.proofs.Looking.{is_some-position}
+use Rattle.ak_base.proofs.Surface.{passed, none_is, is_some-position}
 use Rattle.ak_message.specs.declared.kind.Kind.TheVariants as k
 use Rattle.ak_message.specs.Kind.{is_same_kind, same_kind-is}
 use Rattle.ak_property.specs.declared.table.PropertyRow.{PropertyRow}

@@ -4,3 +4,4 @@ pub mod Numbers
 pub mod Options
 pub mod Words
 pub mod Looking
+pub mod Surface

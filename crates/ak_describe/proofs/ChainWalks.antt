@@ -3,7 +3,7 @@ use Rattle.std.proofs.Common.{◌≡◌, ◌≢◌, ◌∙◌, ℕ, zero, suc, �
 use Rattle.std.proofs.lemmas.Bool.{and_from}
 use Rattle.ak_action.specs.declared.plan.PlanRow.{PlanRow}
 use Rattle.ak_action.specs.Plan.{chains_end, chains_end_below, next_place, place_after}
-use Rattle.ak_action.proofs.Chained.{one_does_not}
+use Rattle.ak_action.proofs.Surface.{one_does_not}
 use Rattle.ak_describe.proofs.Walks.{walk, Ends, ends_within, walk_zero}
 
 -- each place leads to that of the next handler

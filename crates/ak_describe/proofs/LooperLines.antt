@@ -8,7 +8,7 @@ use Rattle.std.proofs.lemmas.List.Elements.{All-push, All-set}
 use Rattle.ak_base.specs.declared.ending.RefusalKind.TheVariants as refusal
 use Rattle.ak_base.specs.Word.{is_word}
 use Rattle.ak_filter.specs.declared.filter.Filter.{Filter}
-use Rattle.ak_action.proofs.Tested.{found_any}
+use Rattle.ak_action.proofs.Surface.{found_any}
 use Rattle.ak_base.specs.Option.{where_true, ◌>>=◌}
 use Rattle.ak_action.specs.declared.plan.PlanRow.{PlanRow}
 use Rattle.ak_action.specs.Plan.{begin_with_looper, names_are_words, names_differ, place_named}

@@ -4,7 +4,7 @@ use Rattle.std.proofs.lemmas.Bool.{and_parts, cases_eq, not-true}
 use Rattle.std.proofs.lemmas.List.{length-set}
 use Rattle.std.proofs.lemmas.List.Elements.{All-set}
 use Rattle.std.proofs.lemmas.Option.{slice_get_within}
-use Rattle.ak_base.proofs.Options.{none_is}
+use Rattle.ak_base.proofs.Surface.{none_is}
 use Rattle.ak_describe.specs.declared.keyword.Keyword.TheVariants as key
 use Rattle.ak_describe.specs.declared.named.Need.{Need}
 use Rattle.ak_describe.specs.declared.named.Need.TheVariants as needs

@@ -7,7 +7,7 @@ use Rattle.ak_base.specs.declared.ending.RefusalKind.{RefusalKind}
 use Rattle.ak_base.specs.declared.ending.RefusalKind.TheVariants as refusal
 use Rattle.ak_message.specs.declared.line.Line.{Line}
 use Rattle.ak_action.specs.Plan.{begin_with_looper}
-use Rattle.ak_base.proofs.Options.{none_is}
+use Rattle.ak_base.proofs.Surface.{none_is}
 use Rattle.std.proofs.lemmas.Bool.{and_parts}
 use Rattle.ak_describe.specs.declared.keyword.Keyword.{Keyword}
 use Rattle.ak_describe.specs.declared.keyword.Keyword.TheVariants as key

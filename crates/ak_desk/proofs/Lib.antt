@@ -13,3 +13,4 @@ pub mod Sending
 pub mod Sharing
 pub mod Standing
 pub mod Suites
+pub mod Surface

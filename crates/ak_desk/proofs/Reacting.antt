@@ -39,8 +39,7 @@ use Rattle.ak_action.specs.Laws as law
 use Rattle.ak_action.specs.Number.{number_of, number_value}
 use Rattle.ak_action.specs.Row.{first_of, place_of_property}
 use Rattle.ak_action.specs.State.{looper_named}
-use Rattle.ak_action.proofs.LawSteps.{next_drop}
-use Rattle.ak_action.proofs.Rows.{actions-put}
+use Rattle.ak_action.proofs.Surface.{next_drop, actions-put}
 use Rattle.ak_desk.specs.declared.task.Task.{Task}
 use Rattle.ak_desk.specs.declared.task.Task.TheVariants as task
 use Rattle.ak_desk.specs.BuiltIns.{built_in_quits, built_in_reply}

@@ -17,7 +17,7 @@ use Rattle.ak_flatten.specs.declared.fault.UnflattenFault.TheVariants as fault
 use Rattle.ak_flatten.specs.Building.{with_field, with_values, values_added, field_added, fields_added}
 use Rattle.ak_flatten.specs.Reading.{Left, ◌>>=◌, where_true, kind_at, name_at, value_count_at, value_at, values_at, field_at, fields_at, opening_at, message_from}
 use Rattle.ak_flatten.specs.Seen.{Fails}
-use Rattle.ak_message.proofs.Keeping.{depth-added}
+use Rattle.ak_message.proofs.Surface.{depth-added}
 use Rattle.ak_flatten.proofs.Messages.{not_head}
 use Rattle.ak_flatten.proofs.Parts.{bind_ok, ok_is}
 

@@ -8,3 +8,4 @@ pub mod Lengths
 pub mod Writings
 pub mod Growing
 pub mod Items
+pub mod Surface

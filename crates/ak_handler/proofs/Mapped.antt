@@ -4,7 +4,7 @@ use Rattle.std.proofs.lemmas.List.{length-map}
 use Rattle.std.proofs.lemmas.List.Elements.{All-map}
 use Rattle.std.proofs.lemmas.List.Kept.{AllPairs-cons}
 use Rattle.ak_handler.specs.Handlers.{HandlerData, HandlersData, IsHandlers, BeginsWithLooper, IsThere, after_steps, handler_of, has_token, tokens_of}
-use Rattle.ak_base.proofs.Looking.{find-map}
+use Rattle.ak_base.proofs.Surface.{find-map}
 use Rattle.ak_handler.proofs.Tokens.{begins, begins_with}
 
 pub AllPairs-map : {A B : Type 0} (f : A → B) (Q : B → B → Type 0) (xs : List A) → AllPairs (λ a b. Q (f a) (f b)) xs → AllPairs Q (map f xs)

@@ -6,7 +6,7 @@ use Rattle.std.specs.Io.KnownBytes.{Consumes, IsAtEnd}
 use Rattle.ak_base.specs.declared.ending.Ending.{Ending}
 use Rattle.ak_base.specs.declared.ending.Ending.TheVariants as ending
 use Rattle.ak_outside.specs.Faults.{Rose, Stayed}
-use Rattle.ak_outside.proofs.Counts.{Stayed-not_Rose}
+use Rattle.ak_outside.proofs.Surface.{Stayed-not_Rose}
 use Rattle.ak_kit.specs.FirstInput.{Script, IsFirstInput, IsNoScript}
 use Rattle.ak_kit.specs.declared.top.FirstRun.{FirstRun}
 use Rattle.ak_kit.specs.Kit.{IsInputEnding, IsRunOf, Writes, not_yet}

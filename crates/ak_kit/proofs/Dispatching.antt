@@ -20,7 +20,7 @@ use Rattle.ak_desk.specs.Entry.{EntryData}
 use Rattle.ak_desk.specs.Place.{routed_of}
 use Rattle.ak_desk.specs.Properties.{property_replied}
 use Rattle.ak_desk.specs.Replies.{none_reply, not_understood}
-use Rattle.ak_desk.proofs.History.{counted_push}
+use Rattle.ak_desk.proofs.Surface.{counted_push}
 use Rattle.ak_kit.specs.Dispatched.{IsAlone, IsQuiet, IsResting}
 use Rattle.ak_kit.specs.Messages.{no_reply}
 use Rattle.ak_kit.specs.Run.{came, line_of, reply_of}

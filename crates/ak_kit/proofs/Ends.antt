@@ -4,7 +4,7 @@ use Rattle.std.proofs.lemmas.List.{append-nil, map-append, take_all}
 use Rattle.std.specs.Prelude.{IfSome}
 use Rattle.std.specs.Io.KnownBytes.{Appends}
 use Rattle.ak_outside.specs.Sink.{AppendsPart}
-use Rattle.ak_outside.proofs.Joins.{Appends-joined}
+use Rattle.ak_outside.proofs.Surface.{Appends-joined}
 use Rattle.std.specs.List.{list_all}
 use Rattle.ak_action.specs.declared.state.DeskState.{DeskState}
 use Rattle.ak_desk.specs.Entry.{EntryData}

@@ -6,7 +6,7 @@ use Rattle.ak_base.specs.AppName.{last_part}
 use Rattle.ak_kit.specs.FirstInput.{Script, names_differ, IsScript, line, row_lines, hey_line, spelling, IsFirstInput}
 use Rattle.ak_base.specs.Option.{◌>>=◌, where_true}
 use Rattle.ak_kit.specs.Reading.{after, App, app_at, looper_at, rows_at, asked_at, launch_at, statements_at, opening_at, script_from, script_of}
-use Rattle.ak_base.proofs.Options.{bind_some, cond_some, some_is}
+use Rattle.ak_base.proofs.Surface.{bind_some, cond_some, some_is}
 use Rattle.ak_kit.proofs.GrammarFields.{after_takes, after_again}
 use Rattle.ak_kit.proofs.GrammarLines.{app_line, IsApp, app_takes, app_again, looper_line, IsLooper, looper_takes, looper_again, rows_take, rows_again, asked_take, asked_again}
 

@@ -9,14 +9,12 @@ use Rattle.std.proofs.lemmas.Bool.{ne_eqb, or_from, and_parts}
 use Rattle.std.proofs.lemmas.Bool.Decides.{nat_tests}
 use Rattle.std.proofs.lemmas.List.{take_at, drop_at, take-append-drop}
 use Rattle.std.proofs.lemmas.Str.Parse.{digit_from_value}
-use Rattle.ak_base.proofs.Options.{bind_some, cond_some, some_is}
+use Rattle.ak_base.proofs.Surface.{bind_some, cond_some, some_is, short_from_below, IsForm-decimal, word_byte, word_parts}
 use Rattle.ak_base.specs.Word.{is_word_byte, is_word}
-use Rattle.ak_base.proofs.Digits.{short_from_below, IsForm-decimal}
 use Rattle.ak_base.specs.AppName.{begins_with}
 use Rattle.ak_base.specs.Option.{where_true}
 use Rattle.ak_kit.specs.Reading.{after, is_gap, field_len, field_at, is_int32, int32_of, capacity_of}
 use Rattle.ak_kit.proofs.Fronts.{begins, begins_again, not_begins}
-use Rattle.ak_base.proofs.Words.{word_byte, word_parts}
 use Rattle.ak_kit.proofs.Numbers.{int32_takes, int32_found}
 
 -- ---- a front

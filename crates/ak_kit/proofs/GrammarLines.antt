@@ -13,7 +13,7 @@ use Rattle.ak_kit.specs.FirstInput.{is_mode, is_askable, IsRow, AllRows, line, r
 use Rattle.ak_base.specs.Option.{◌>>=◌, where_true}
 use Rattle.ak_kit.specs.Reading.{after, field_at, int32_of, capacity_of, App, app_at, looper_at, row_at, rows_at, hey_at, asked_at}
 use Rattle.ak_kit.proofs.Numbers.{int32_takes}
-use Rattle.ak_base.proofs.Options.{bind_some, cond_some, some_is}
+use Rattle.ak_base.proofs.Surface.{bind_some, cond_some, some_is}
 use Rattle.ak_kit.proofs.GrammarFields.{after_takes, after_again, NoGap, no_gap_word_bytes, no_gap_word, field_takes, field_again, is_int32_fits, int32_again, no_gap_int32, capacity_takes, capacity_again, no_gap_capacity}
 
 -- ---- the application's line

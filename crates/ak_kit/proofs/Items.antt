@@ -10,18 +10,18 @@ use Rattle.ak_base.specs.Code.{code_of}
 use Rattle.ak_message.specs.Message.{text_value, value_of_message}
 use Rattle.ak_message.specs.Fields.{IsField, IsMessage}
 use Rattle.ak_message.specs.Whole.{IsWhole}
-use Rattle.ak_message.proofs.Keeping.{sound_after}
+use Rattle.ak_message.proofs.Surface.{sound_after}
 use Rattle.ak_flatten.specs.declared.item.Duty.{Duty}
 use Rattle.ak_flatten.specs.declared.item.Duty.TheVariants as duty
 use Rattle.ak_flatten.specs.Item.{message_of}
 use Rattle.ak_flatten.specs.Spelling.{spelling}
-use Rattle.ak_flatten.proofs.Items.{message_is}
+use Rattle.ak_flatten.proofs.Surface.{message_is}
 use Rattle.ak_kit.specs.FirstInput.{is_askable}
 use Rattle.ak_kit.specs.Laws.{ItemsSay}
 use Rattle.ak_kit.specs.Messages.{get_of, ready_to_run, specifier_of}
 use Rattle.ak_kit.specs.Run.{item_of}
 use Rattle.std.proofs.lemmas.Bool.{and_parts}
-use Rattle.ak_base.proofs.Words.{word_ascii, word_has_no_zero, word_parts}
+use Rattle.ak_base.proofs.Surface.{word_ascii, word_has_no_zero, word_parts}
 
 pub askable_word : (word : List ℕ) → is_askable word ≡ true → is_word word ≡ true
 askable_word word h = (and_parts (is_word word) _ h).0

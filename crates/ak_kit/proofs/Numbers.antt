@@ -7,7 +7,7 @@ use Rattle.std.specs.Fmt.{decimal, signed_decimal}
 use Rattle.std.proofs.lemmas.Fmt.{decimal_is_IsNumeral_wide}
 use Rattle.std.proofs.lemmas.Slice.Eq.{bytes_eq-Decides}
 use Rattle.ak_base.specs.Number.{IsIntText}
-use Rattle.ak_base.proofs.Digits.{below_from_short, short_from_below, decimal-ne_minus}
+use Rattle.ak_base.proofs.Surface.{below_from_short, short_from_below, decimal-ne_minus}
 use Rattle.ak_base.specs.Option.{where_true}
 use Rattle.ak_kit.specs.Reading.{int_value, is_int32, int32_of}
 use Rattle.ak_kit.proofs.Fronts.{not_begins}

@@ -4,8 +4,8 @@ use Rattle.std.proofs.lemmas.List.{drop_all, append-nil, map_push, map-append, l
 use Rattle.std.proofs.lemmas.List.Concat.{flat_map-append}
 use Rattle.std.proofs.Math.Seq.{drop-cons}
 use Rattle.std.specs.Io.KnownBytes.{Appends}
-use Rattle.ak_outside.proofs.Joins.{Appends-joined}
 use Rattle.ak_desk.specs.Entry.{EntryData}
+use Rattle.ak_outside.proofs.Surface.{Appends-joined}
 use Rattle.ak_kit.specs.declared.stopped.Stopped.{Stopped}
 use Rattle.ak_kit.specs.declared.stopped.Stopped.TheVariants as stop
 use Rattle.std.specs.List.{list_all}

@@ -9,12 +9,11 @@ use Rattle.std.proofs.lemmas.List.Elements.{All-nil, All-cons, All-get_or}
 use Rattle.std.proofs.lemmas.Nat.{be_bytes_4, from_be_bytes-to_be_bytes_4}
 use Rattle.std.proofs.lemmas.Slice.Eq.{starts_is}
 use Rattle.ak_base.specs.Code.{bytes_of, may_all_be_quoted, hex_of, IsCodeText}
-use Rattle.ak_base.proofs.Codes.{quoted_found}
+use Rattle.ak_base.proofs.Surface.{quoted_found, cond_some, some_is}
 use Rattle.ak_base.specs.Option.{where_true}
 use Rattle.ak_message.specs.Payload.{raw_from}
 use Rattle.ak_message.specs.Reading.{code_from}
 use Rattle.ak_message.proofs.HexLaws.{raws_take, raws_again}
-use Rattle.ak_base.proofs.Options.{cond_some, some_is}
 
 four_small : (bytes : List ℕ) → length bytes ≡ 4 → get_or bytes 0 0 < 256 → get_or bytes 1 0 < 256 → get_or bytes 2 0 < 256 → get_or bytes 3 0 < 256 → All (λ b. b < 256) bytes
 four_small (a ∷ b ∷ c ∷ d ∷ []) size p q r s =

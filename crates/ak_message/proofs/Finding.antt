@@ -10,7 +10,7 @@ use Rattle.ak_message.specs.declared.fault.FindFault.TheVariants as missing
 use Rattle.ak_message.specs.Kind.{is_same_kind, same_kind-is}
 use Rattle.ak_message.specs.Message.{ValueData, FieldData, kind_of}
 use Rattle.ak_message.specs.Fields.{is_named, field_named, added, new_field, with_value, place_fault, depth_fault, or_fault, value_in, value_count_in, AddedValuesAreFound}
-use Rattle.ak_base.proofs.Options.{passed}
+use Rattle.ak_base.proofs.Surface.{passed}
 use Rattle.ak_message.proofs.Keeping.{neither}
 
 -- ---- names

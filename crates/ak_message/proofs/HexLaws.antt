@@ -9,7 +9,7 @@ use Rattle.ak_base.specs.Code.{hex_of}
 use Rattle.ak_message.specs.InputText.{RawsAreRead}
 use Rattle.ak_message.specs.Payload.{hex_value, raw_from}
 use Rattle.ak_base.specs.Option.{◌>>=◌}
-use Rattle.ak_base.proofs.Options.{bind_some, some_is}
+use Rattle.ak_base.proofs.Surface.{bind_some, some_is}
 
 -- ---- digits
 

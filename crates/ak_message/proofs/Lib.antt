@@ -18,3 +18,4 @@ pub mod TextKept
 pub mod TextLoop
 pub mod WordLaws
 pub mod WordLoop
+pub mod Surface

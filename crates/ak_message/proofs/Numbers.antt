@@ -9,7 +9,7 @@ use Rattle.std.proofs.lemmas.Bool.Decides.{Decides-eqb}
 use Rattle.std.proofs.lemmas.Fmt.{decimal_is_IsNumeral_wide}
 use Rattle.std.proofs.lemmas.Slice.Eq.{bytes_eq-Decides, starts_is}
 use Rattle.ak_base.specs.Number.{IsIntText}
-use Rattle.ak_base.proofs.Digits.{below_from_short, short_from_below, decimal-ne_minus}
+use Rattle.ak_base.proofs.Surface.{below_from_short, short_from_below, decimal-ne_minus}
 use Rattle.ak_message.specs.InputText.{IntsAreRead}
 use Rattle.ak_base.specs.Option.{where_true}
 use Rattle.ak_message.specs.Payload.{int_value, int_within}

@@ -13,7 +13,7 @@ use Rattle.ak_message.specs.MessageText.{quoted_byte, quoted}
 use Rattle.ak_base.specs.Option.{where_true, ◌>>=◌}
 use Rattle.ak_message.specs.Payload.{hex_value, is_control, after_zero, text_step, onto, quoted_from, unquoted}
 use Rattle.ak_message.proofs.HexLaws.{digit_again, digit_takes}
-use Rattle.ak_base.proofs.Options.{bind_some, some_is, cond_some}
+use Rattle.ak_base.proofs.Surface.{bind_some, some_is, cond_some}
 
 -- what follows the quotes that open a text
 abbrev body : List ℕ → List ℕ

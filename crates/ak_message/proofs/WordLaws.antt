@@ -4,7 +4,7 @@ use Rattle.std.specs.Prelude.{option_map}
 use Rattle.std.specs.List.{list_all}
 use Rattle.std.proofs.lemmas.List.{append-nil}
 use Rattle.std.proofs.lemmas.Bool.{and_parts}
-use Rattle.ak_base.proofs.Options.{bind_some, done, some_is, cond_some}
+use Rattle.ak_base.proofs.Surface.{bind_some, done, some_is, cond_some}
 use Rattle.ak_message.specs.declared.line.Word.{Word}
 use Rattle.ak_message.specs.declared.marks.Marks.{Marks}
 use Rattle.ak_message.specs.declared.words.Begun.{Begun}

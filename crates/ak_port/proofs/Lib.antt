@@ -14,3 +14,4 @@ pub mod ReplyShown
 pub mod ReplyKeeping
 pub mod ReplyMoves
 pub mod ReplyCalls
+pub mod Surface

@@ -7,8 +7,7 @@ use Rattle.ak_turn.specs.declared.clock.Clock.{Clock}
 use Rattle.std.proofs.lemmas.List.Elements.{All-cons, All-nil}
 use Rattle.ak_turn.specs.Entries.{places}
 use Rattle.ak_turn.specs.Seats.{LockId, HasCalled, IsGiven, KnowsWhole, at_leisure, entered_by, first_seat, with_own}
-use Rattle.ak_turn.proofs.Calls.{seen_then_seen, seen_then_called}
-use Rattle.ak_turn.proofs.NewSeats.{first_knows}
+use Rattle.ak_turn.proofs.Surface.{seen_then_seen, seen_then_called, first_knows}
 use Rattle.ak_port.specs.declared.port_entry.PortEvent.{PortEvent}
 use Rattle.ak_port.specs.declared.port_entry.PortEntry.{PortEntry}
 use Rattle.ak_port.specs.declared.port_entry.PortEvent.TheVariants as event

@@ -6,7 +6,7 @@ use Rattle.ak_flatten.specs.declared.item.Taken.{Taken}
 use Rattle.ak_turn.specs.declared.clock.Clock.{Clock}
 use Rattle.ak_turn.specs.Entries.{made_by}
 use Rattle.ak_turn.specs.Seats.{LockId, IsGiven, KnowsWhole, joined_seat}
-use Rattle.ak_turn.proofs.Calls.{makes_one, knows_still, knows_other, knows_whole}
+use Rattle.ak_turn.proofs.Surface.{makes_one, knows_still, knows_other, knows_whole}
 use Rattle.ak_port.specs.declared.port_entry.PortEntry.{PortEntry}
 use Rattle.ak_port.specs.declared.port_entry.PortEvent.TheVariants as event
 use Rattle.ak_base.specs.declared.thread.ThreadId.{ThreadId}

@@ -9,7 +9,7 @@ use Rattle.ak_turn.specs.declared.clock.Clock.{Clock}
 use Rattle.ak_turn.specs.Entries.{AreByOthers}
 use Rattle.ak_turn.specs.Called.{KeepsSeat}
 use Rattle.ak_turn.specs.Seats.{HasCalled, HasSeen, IsGiven, at_leisure, entered_by, with_own}
-use Rattle.ak_turn.proofs.Calls.{seen_then_seen, seen_then_called}
+use Rattle.ak_turn.proofs.Surface.{seen_then_seen, seen_then_called}
 use Rattle.ak_port.specs.declared.reply_entry.ReplyEntry.{ReplyEntry}
 use Rattle.ak_port.specs.declared.reply_entry.ReplyEvent.{ReplyEvent}
 use Rattle.ak_port.specs.declared.reply_entry.ReplyEvent.TheVariants.{Opened, Filled, Cancelled, Taken}

@@ -12,3 +12,4 @@ pub mod Once
 pub mod Holders
 pub mod Strangers
 pub mod Teams
+pub mod Surface

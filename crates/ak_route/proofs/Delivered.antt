@@ -5,7 +5,7 @@ use Rattle.ak_filter.specs.declared.filter.Filter.{Filter}
 use Rattle.ak_message.specs.declared.address.Target.{Target}
 use Rattle.ak_message.specs.Message.{MessageData}
 use Rattle.ak_handler.specs.Handlers.{HandlersData, IsHandlers, chain_from, tokens_of}
-use Rattle.ak_handler.proofs.Chains.{chains_are_whole-proof}
+use Rattle.ak_handler.proofs.Surface.{chains_are_whole-proof}
 use Rattle.ak_property.specs.HandlerRow.{RowData}
 use Rattle.ak_route.specs.declared.outcome.Taker.{Taker}
 use Rattle.ak_route.specs.declared.outcome.Route.TheVariants as route

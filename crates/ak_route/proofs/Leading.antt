@@ -10,7 +10,7 @@ use Rattle.ak_message.specs.Message.{MessageData}
 use Rattle.ak_specifier.specs.Current.{left_of, popped_once, current_of}
 use Rattle.ak_handler.specs.Changes.{is_there}
 use Rattle.ak_handler.specs.Handlers.{HandlerData, HandlersData, IsHandlers, IsThere, tokens_of, token_at}
-use Rattle.ak_handler.proofs.Tokens.{found_there, looper_there}
+use Rattle.ak_handler.proofs.Surface.{found_there, looper_there}
 use Rattle.ak_property.specs.HandlerRow.{RowData}
 use Rattle.ak_route.specs.Handlers.{row_of, first_target}
 use Rattle.ak_route.specs.Matching.{matches}

@@ -3,8 +3,8 @@ use Rattle.std.proofs.Common.{◌≡◌, ℕ, zero, suc, List, [], ◌∷◌, le
 use Rattle.std.proofs.lemmas.List.{length-map}
 use Rattle.ak_handler.specs.Handlers.{HandlerData, HandlersData, handler_of, has_token, has_name, place_of, token_named, next_in, chain_of, chain_from}
 use Rattle.ak_handler.specs.Changes.{content_of, is_there}
-use Rattle.ak_base.proofs.Looking.{find-map, is_some-position}
-use Rattle.ak_handler.proofs.Placed.{none_there}
+use Rattle.ak_base.proofs.Surface.{find-map, is_some-position}
+use Rattle.ak_handler.proofs.Surface.{none_there}
 use Rattle.ak_property.specs.HandlerRow.{RowData}
 use Rattle.ak_route.specs.Handlers.{no_row, row_seen, handlers_seen, row_of}
 use Rattle.ak_route.specs.Filtering.{target_after}

@@ -5,9 +5,8 @@ use Rattle.std.specs.List.{slice_get}
 use Rattle.std.proofs.lemmas.List.Elements.{All-head, All-tail}
 use Rattle.std.proofs.lemmas.Option.{get_or_from_slice_get, slice_get_within}
 use Rattle.ak_handler.specs.Handlers.{HandlerData, handler_of, has_token, place_of}
-use Rattle.ak_base.proofs.Looking.{is_some-position}
-use Rattle.ak_handler.proofs.Placed.{placed_at}
-use Rattle.ak_handler.proofs.Tokens.{found_has}
+use Rattle.ak_base.proofs.Surface.{is_some-position}
+use Rattle.ak_handler.proofs.Surface.{placed_at, found_has}
 use Rattle.ak_route.specs.Filtering.{asked_already}
 
 or_same : (a b : Bool) → (a || b) ≡ (a || (a || b))

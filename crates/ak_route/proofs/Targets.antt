@@ -4,8 +4,8 @@ use Rattle.std.proofs.lemmas.Bool.{cond_both}
 use Rattle.ak_filter.specs.declared.filter.Filter.{Filter}
 use Rattle.ak_filter.specs.Filter.{admits}
 use Rattle.ak_handler.specs.Handlers.{HandlerData, HandlersData, has_name, token_named, tokens_of}
-use Rattle.ak_base.proofs.Looking.{find-All}
-use Rattle.ak_handler.proofs.Tokens.{contains_token}
+use Rattle.ak_base.proofs.Surface.{find-All}
+use Rattle.ak_handler.proofs.Surface.{contains_token}
 use Rattle.ak_property.specs.HandlerRow.{RowData}
 use Rattle.ak_route.specs.Handlers.{row_of}
 use Rattle.ak_route.specs.Filtering.{Passing, Origin, Settled, settled, passing_after, head_of, passed_on, run_filter, run_list, settle_from, settle, asked_already}

@@ -7,7 +7,7 @@ use Rattle.ak_message.specs.Message.{MessageData}
 use Rattle.ak_message.specs.Specifier.{form_of}
 use Rattle.ak_specifier.specs.Current.{left_of, current_of}
 use Rattle.ak_handler.specs.Handlers.{HandlersData, chain_from}
-use Rattle.ak_base.proofs.Looking.{position-within}
+use Rattle.ak_base.proofs.Surface.{position-within}
 use Rattle.ak_property.specs.HandlerRow.{RowData}
 use Rattle.ak_property.specs.Table.{fits}
 use Rattle.ak_route.specs.declared.outcome.Taker.{Taker}

@@ -11,8 +11,8 @@ use Rattle.ak_message.specs.Kind.{is_same_kind}
 use Rattle.ak_message.specs.Message.{FieldData, MessageData, value_of_message}
 use Rattle.ak_message.specs.MessageCode.{message_at-value}
 use Rattle.ak_message.specs.Fields.{is_named, field_named, added, with_value, place_fault, depth_fault, or_fault, add_fault, value_count, value_count_in, specifier_count_in}
-use Rattle.ak_message.proofs.Finding.{added_values_are_found-proof}
-use Rattle.ak_base.proofs.Options.{passed}
+use Rattle.ak_message.proofs.Surface.{added_values_are_found-proof}
+use Rattle.ak_base.proofs.Surface.{passed}
 use Rattle.ak_specifier.specs.Specifier.{specifier_message, specifier_in}
 use Rattle.ak_specifier.specs.Current.{left_of, last_specifier, specifier_fault, with_specifier, message_of_found}
 use Rattle.ak_specifier.specs.Laws.{AddedIsCurrent, PopShowsTheOneBefore}

@@ -14,3 +14,4 @@ pub mod Knowing
 pub mod NewSeats
 pub mod Calls
 pub mod Making
+pub mod Surface

@@ -7,7 +7,7 @@ use Rattle.ak_desk.specs.declared.entry.DeskEvent.{DeskEvent}
 use Rattle.ak_desk.specs.declared.entry.DeskEvent.TheVariants as event
 use Rattle.ak_desk.specs.Entry.{EntryData}
 use Rattle.ak_desk.specs.Machine.{counted, counted_all, gave_up, gives_up}
-use Rattle.ak_desk.proofs.History.{counted_push}
+use Rattle.ak_desk.proofs.Surface.{counted_push}
 
 -- ---- those before a place, and the one at it
 more : (xs : List EntryData) (i : ℕ) (x : EntryData) → slice_get xs i ≡ Some x → take (suc i) xs ≡ take i xs ++ x ∷ []

@@ -8,7 +8,7 @@ use Rattle.ak_port.specs.declared.port_entry.TakeAnswer.TheVariants as answered
 use Rattle.ak_port.specs.PortCalls.{CanTake, IfTook, PortSeat, making}
 use Rattle.ak_port.specs.PortMachine.{state_of, taken_items}
 use Rattle.ak_port.specs.PortWriters.{StartsToTake}
-use Rattle.ak_port.proofs.PortTaking.{can_titled}
+use Rattle.ak_port.proofs.Surface.{can_titled}
 use Rattle.kit_bench.specs.Ports.{IsSeated}
 
 -- the first seat of a new port is that of a taker that has taken nothing

@@ -1,7 +1,7 @@
 -- What the libraries prove of calls, one after another, by what a caller needs of it.
-use Rattle.ak_turn.proofs.Calls.{knows_other, knows_still, makes_one, seen_then_seen}
-use Rattle.ak_port.proofs.PortWriting.{sends_one, sent_known_other, sent_known_still}
-use Rattle.ak_roster.proofs.Fresh.{stranger_fresh}
+use Rattle.ak_turn.proofs.Surface.{knows_other, knows_still, makes_one, seen_then_seen}
+use Rattle.ak_port.proofs.Surface.{sends_one, sent_known_other, sent_known_still}
+use Rattle.ak_roster.proofs.Surface.{stranger_fresh}
 
 -- a call is one entry more that the thread made
 pub ruleset making = (makes_one)

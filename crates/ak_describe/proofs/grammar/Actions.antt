@@ -8,7 +8,7 @@ use Rattle.ak_base.specs.declared.app_word.AppWord.TheVariants as app
 use Rattle.ak_base.specs.Word.{is_word}
 use Rattle.ak_base.specs.Option.{where_true, ◌>>=◌}
 use Rattle.ak_message.specs.Reading.{code_from, field_split}
-use Rattle.ak_base.proofs.Options.{bind_some, cond_some}
+use Rattle.ak_base.proofs.Surface.{bind_some, cond_some}
 use Rattle.ak_action.specs.declared.action.Action.{Action}
 use Rattle.ak_action.specs.declared.action.Action.TheVariants as action
 use Rattle.ak_action.specs.declared.action.Dest.{Dest}

@@ -1,6 +1,6 @@
 -- One of several that are told by their keys.
 use Rattle.std.proofs.Common.{◌≡◌, Bool, true, false, cond, if◌then◌else◌, Decides, List, [], ◌∷◌, Option, Some, None, refl, ap, ◌∙◌}
-use Rattle.ak_base.proofs.Options.{some_is}
+use Rattle.ak_base.proofs.Surface.{some_is}
 
 -- the first one of this key
 abbrev pub first_by : {A K : Type 0} → (K → K → Bool) → (A → K) → K → List A → Option A

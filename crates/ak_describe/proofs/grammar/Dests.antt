@@ -10,7 +10,7 @@ use Rattle.ak_base.specs.Word.{is_word}
 use Rattle.ak_base.specs.declared.app_word.AppWord.{AppWord}
 use Rattle.ak_base.specs.declared.app_word.AppWord.TheVariants as app
 use Rattle.ak_base.specs.Option.{where_true, ◌>>=◌}
-use Rattle.ak_base.proofs.Options.{bind_some, cond_some, some_is}
+use Rattle.ak_base.proofs.Surface.{bind_some, cond_some, some_is}
 use Rattle.ak_action.specs.declared.action.Dest.{Dest}
 use Rattle.ak_action.specs.declared.action.Dest.TheVariants as dest
 use Rattle.ak_describe.specs.Actions.{to_app, dest_at}

@@ -12,7 +12,7 @@ use Rattle.std.proofs.lemmas.Slice.Eq.{bytes_eq-Decides}
 use Rattle.ak_base.specs.Word.{is_word_byte, is_word}
 use Rattle.ak_base.specs.Option.{where_true, ◌>>=◌}
 use Rattle.ak_message.specs.Reading.{equals_in, field_split}
-use Rattle.ak_base.proofs.Options.{bind_some, cond_some}
+use Rattle.ak_base.proofs.Surface.{bind_some, cond_some, word_parts}
 use Rattle.ak_action.specs.declared.template.Given.{Given}
 use Rattle.ak_action.specs.declared.template.Given.TheVariants as gets
 use Rattle.ak_action.specs.Values.{ValuesData}
@@ -22,7 +22,6 @@ use Rattle.ak_describe.specs.Grammar.{IsProperty, IsCopied, AreValues, IsCopiedT
 use Rattle.ak_describe.specs.Made.{values_from, one_from}
 use Rattle.ak_describe.specs.Parts.{property_named}
 use Rattle.ak_describe.specs.Words.{name_of}
-use Rattle.ak_base.proofs.Words.{word_parts}
 use Rattle.ak_describe.proofs.grammar.Values.{values_are_read, one_is_read}
 
 -- ---- the first `=` of a word

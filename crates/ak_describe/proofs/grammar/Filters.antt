@@ -11,7 +11,7 @@ use Rattle.ak_filter.specs.declared.filter.Filter.{Filter}
 use Rattle.ak_filter.specs.declared.filter.SourceIs.{SourceIs}
 use Rattle.ak_filter.specs.declared.filter.SourceIs.TheVariants as sides
 use Rattle.ak_base.specs.Option.{where_true, ◌>>=◌}
-use Rattle.ak_base.proofs.Options.{bind_some, cond_some, some_is}
+use Rattle.ak_base.proofs.Surface.{bind_some, cond_some, some_is}
 use Rattle.ak_describe.specs.declared.form.filter.Passing.{Passing}
 use Rattle.ak_describe.specs.Forms.{code_behind, name_behind, source_of, source_found, source_at, delivery_of, delivery_found, delivery_at, skipping_at, passing_at, passing_behind, verdict_from, passing_from, filter_form}
 use Rattle.ak_describe.specs.Grammar.{IsName, WritesCode, IsPart, IsSide, IsWay, IsVerdict, SaysFilter}

@@ -14,7 +14,7 @@ use Rattle.ak_message.specs.Payload.{kind_before, bool_from, int_within, raw_fro
 use Rattle.ak_message.specs.Pieces.{braced}
 use Rattle.ak_message.specs.Reading as reading
 use Rattle.ak_message.specs.Reading.{Got, got, over, text_of, text_from, raw_within, raw_value_from, small_from, number_or, short_from, read_value, words_of, message_of, got_message, message_from}
-use Rattle.ak_base.proofs.Options.{bind_some, some_is}
+use Rattle.ak_base.proofs.Surface.{bind_some, some_is}
 use Rattle.ak_describe.specs.Made.{kind_over, kind_read, value_from, value_of_kind, value_by_letter}
 use Rattle.ak_describe.proofs.grammar.Choices.{chosen}
 use Rattle.ak_describe.proofs.grammar.Numbers.{mapped_some}

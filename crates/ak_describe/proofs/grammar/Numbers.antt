@@ -5,11 +5,10 @@ use Rattle.std.specs.Fmt.{decimal, signed_decimal}
 use Rattle.std.specs.Str.Parse.{AllDigits}
 use Rattle.std.proofs.lemmas.Bool.{leb-true, le-leb}
 use Rattle.std.proofs.lemmas.Str.Parse.{digit_from_value}
-use Rattle.ak_base.proofs.Digits.{IsForm-decimal, short_from_below}
+use Rattle.ak_base.proofs.Surface.{IsForm-decimal, short_from_below, bind_some, cond_some, some_is}
 use Rattle.ak_base.specs.Option.{where_true, ◌>>=◌}
 use Rattle.ak_message.specs.Payload.{int_within, uint_within}
-use Rattle.ak_message.proofs.Numbers.{ints_read}
-use Rattle.ak_base.proofs.Options.{bind_some, cond_some, some_is}
+use Rattle.ak_message.proofs.Surface.{ints_read}
 use Rattle.ak_describe.specs.Grammar.{WritesNumber}
 use Rattle.ak_describe.specs.Words.{number_within}
 

@@ -9,7 +9,7 @@ use Rattle.std.proofs.lemmas.Slice.Eq.{bytes_eq-Decides}
 use Rattle.ak_base.specs.Word.{is_word}
 use Rattle.ak_base.specs.declared.code.Code.{Code}
 use Rattle.ak_base.specs.Option.{where_true, ◌>>=◌}
-use Rattle.ak_base.proofs.Options.{bind_some, cond_some, some_is}
+use Rattle.ak_base.proofs.Surface.{bind_some, cond_some, some_is}
 use Rattle.ak_describe.specs.Forms.{code_found, code_behind, name_found, name_behind, form_of, text_found, text_behind}
 use Rattle.ak_describe.specs.Grammar.{IsName, IsPart, AreParts, IsTextPart, WritesCode, WritesNumber, WritesText}
 use Rattle.ak_describe.specs.Made.{quoted_from}

@@ -17,8 +17,8 @@ use Rattle.ak_message.specs.Payload.{kind_before, bool_from, int_within, uint_wi
 use Rattle.ak_message.specs.Pieces.{braced}
 use Rattle.ak_message.specs.Reading as reading
 use Rattle.ak_message.specs.Reading.{Got, GotValues, got, over, text_kept, raw_within, text_of, text_from, raw_value_from, small_from, number_or, short_from, payload_from, value_with, joined, first_values, more_values, values_behind, field_split, field_begun, add_or_not, values_added, field_behind, fields_behind, code_from, message_of, got_message, words_of, message_from, read_value, read_values}
-use Rattle.ak_message.proofs.Keeping.{depth-added}
-use Rattle.ak_base.proofs.Options.{bind_some, cond_some}
+use Rattle.ak_message.proofs.Surface.{depth-added}
+use Rattle.ak_base.proofs.Surface.{bind_some, cond_some}
 use Rattle.ak_action.specs.declared.number.Number.{Number}
 use Rattle.ak_action.specs.declared.number.Number.TheVariants as n
 use Rattle.ak_action.specs.declared.template.Given.{Given}

@@ -11,15 +11,13 @@ use Rattle.std.proofs.lemmas.Slice.Eq.{bytes_eq-Decides, starts_is}
 use Rattle.ak_base.specs.Code.{hex_of, may_be_quoted, may_all_be_quoted, IsCodeText}
 use Rattle.ak_base.specs.Word.{is_word}
 use Rattle.ak_base.specs.declared.code.Code.{Code}
-use Rattle.ak_base.proofs.Codes.{hex_found, quoted_found}
+use Rattle.ak_base.proofs.Surface.{hex_found, quoted_found, bind_some, cond_some, some_is}
 use Rattle.ak_message.specs.declared.kind.Kind.TheVariants as k
 use Rattle.ak_message.specs.Message.{text_value}
 use Rattle.ak_base.specs.Option.{where_true}
 use Rattle.ak_message.specs.Payload.{raw_from, unquoted}
 use Rattle.ak_message.specs.Reading.{Got, got, over, code_from, text_from, text_of}
-use Rattle.ak_message.proofs.CodeLaws.{code_again}
-use Rattle.ak_message.proofs.HexLaws.{raws_take}
-use Rattle.ak_base.proofs.Options.{bind_some, cond_some, some_is}
+use Rattle.ak_message.proofs.Surface.{code_again, raws_take}
 use Rattle.ak_describe.specs.Grammar.{IsName, WritesCode, WritesText}
 use Rattle.ak_describe.specs.Made.{quoted_from, text_in}
 use Rattle.ak_describe.specs.Words.{coded, code_of, name_of}

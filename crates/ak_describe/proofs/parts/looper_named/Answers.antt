@@ -3,7 +3,7 @@ use Rattle.std.proofs.Common.{sym, ◌∙◌, rules, tests}
 use Rattle.std.specs.Str.{bytes_eq}
 use Rattle.std.proofs.lemmas.Iterator.{YieldsList-from_slice}
 use Rattle.std.proofs.lemmas.Iterator.Search.{position_from_yields_List}
-use Rattle.ak_base.proofs.Looking.{position-map}
+use Rattle.ak_base.proofs.Surface.{position-map}
 use Rattle.ak_describe.specs.Parts.{LooperData}
 use Rattle.ak_describe.specs.Seen.{looper_data}
 use Rattle.ak_describe.proofs.parts.looper_named.Goals as goal

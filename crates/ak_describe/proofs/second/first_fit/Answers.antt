@@ -2,7 +2,7 @@
 use Rattle.std.proofs.Common.{sym, ◌∙◌, rules, tests}
 use Rattle.std.proofs.lemmas.Iterator.{YieldsList-from_slice}
 use Rattle.std.proofs.lemmas.Iterator.Search.{position_from_yields_List}
-use Rattle.ak_base.proofs.Looking.{position-map}
+use Rattle.ak_base.proofs.Surface.{position-map}
 use Rattle.ak_describe.specs.Second.{fits}
 use Rattle.ak_describe.specs.Seen.{app_data}
 use Rattle.ak_describe.proofs.second.first_fit.Goals as goal

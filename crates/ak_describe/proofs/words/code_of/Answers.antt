@@ -1,7 +1,7 @@
 -- A code's text is read as it.
 use Rattle.std.proofs.Common.{ℕ, Option, ap, sym, arith}
 use Rattle.std.specs.Prelude.{option_map}
-use Rattle.ak_message.proofs.CodeLaws.{code_again, no_code}
+use Rattle.ak_message.proofs.Surface.{code_again, no_code}
 use Rattle.ak_describe.specs.Words.{coded}
 use Rattle.ak_describe.proofs.words.code_of.Goals as goal
 

@@ -3,7 +3,7 @@ use Rattle.std.proofs.Common.{ℤ, pos, FitsSigned, Option, sym, ap, ◌∙◌, 
 use Rattle.std.specs.Prelude.{option_map, unsigned_abs}
 use Rattle.std.specs.Int.{w128}
 use Rattle.std.proofs.lemmas.Int.{to_z-of_z}
-use Rattle.ak_message.proofs.Numbers.{int_found, int_none}
+use Rattle.ak_message.proofs.Surface.{int_found, int_none}
 use Rattle.ak_describe.proofs.words.number_up_to.Goals as goal
 
 pub returns-in-Some : goal.returns-in-Some

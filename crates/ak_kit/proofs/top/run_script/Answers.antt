@@ -2,7 +2,7 @@ use Rattle.std.proofs.Common.{◌≤◌, ℕ, ℤ, List, length, Ok, Err, sym, a
 use Rattle.std.specs.List.{list_all}
 use Rattle.ak_action.specs.declared.state.DeskState.{DeskState}
 use Rattle.ak_outside.specs.Faults.{Rose}
-use Rattle.ak_outside.proofs.Counts.{Rose-after}
+use Rattle.ak_outside.proofs.Surface.{Rose-after}
 use Rattle.ak_kit.specs.declared.top.FirstRun.{FirstRun}
 use Rattle.ak_kit.specs.FirstInput.{is_askable}
 use Rattle.ak_kit.specs.Opening.{OpensAs}

@@ -1,5 +1,5 @@
 use Rattle.std.proofs.Common.{sym, ◌∙◌}
-use Rattle.ak_base.proofs.Options.{some_is}
+use Rattle.ak_base.proofs.Surface.{some_is}
 use Rattle.ak_message.proofs.WordLaws.{line_again}
 use Rattle.ak_message.proofs.words.one_line.Goals as goal
 

@@ -1,6 +1,6 @@
 use Rattle.std.proofs.Common.{sym, ap, ◌∙◌}
 use Rattle.ak_flatten.specs.Item.{spelled}
-use Rattle.ak_flatten.proofs.Items.{spelled_as_spells}
+use Rattle.ak_flatten.proofs.Surface.{spelled_as_spells}
 use Rattle.ak_messenger.proofs.asking.await_reply.Goals as goal
 
 pub returns-clause-message : goal.returns-clause-message

@@ -1,6 +1,5 @@
 use Rattle.std.proofs.Common.{None, refl}
-use Rattle.ak_port.proofs.PortTaken.{kept_at_turn}
-use Rattle.ak_port.proofs.PortTaking.{can_after_turn}
+use Rattle.ak_port.proofs.Surface.{kept_at_turn, can_after_turn}
 use Rattle.ak_messenger.proofs.posting.post_at_turn.Goals as goal
 
 -- the turn was passed on without an entry

@@ -1,6 +1,6 @@
 -- Those that are marked are those whose filters ran.
 use Rattle.std.proofs.Common.{◌∙◌, ◌-◌, true, false, length, replicate, set, option_map, refl, sym, ap, length-set, arith}
-use Rattle.ak_handler.proofs.Placed.{placed_at}
+use Rattle.ak_handler.proofs.Surface.{placed_at}
 use Rattle.ak_route.specs.Handlers.{handlers_seen}
 use Rattle.ak_route.specs.Filtering.{passing_after, settle}
 use Rattle.ak_route.specs.Seen.{origin_of, passing_of}

@@ -3,7 +3,7 @@ use Rattle.std.specs.Str.{bytes_eq}
 use Rattle.std.proofs.lemmas.Iterator.{YieldsList-from_slice}
 use Rattle.std.proofs.lemmas.Iterator.Search.{position_from_yields_List}
 use Rattle.ak_value.specs.Seen.{element_of}
-use Rattle.ak_base.proofs.Looking.{position-map}
+use Rattle.ak_base.proofs.Surface.{position-map}
 use Rattle.ak_value.proofs.choice.place_of_name.Goals as goal
 
 pub returns : goal.returns

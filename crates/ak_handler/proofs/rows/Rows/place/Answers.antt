@@ -4,7 +4,7 @@ use Rattle.indexmap.specs.IndexMap.{values}
 use Rattle.ak_handler.specs.Handlers.{has_token, place_of}
 use Rattle.ak_handler.specs.Rows.{handler_seen, Rise}
 use Rattle.ak_handler.proofs.Halving.{rows_rise}
-use Rattle.ak_base.proofs.Looking.{position-map}
+use Rattle.ak_base.proofs.Surface.{position-map}
 use Rattle.ak_handler.proofs.rows.Rows.place.Goals as goal
 
 pub place_with-requires : goal.place_with-requires

@@ -2,7 +2,7 @@
 use Rattle.std.proofs.Common.{◌∙◌, ◌<◌, sym, ap, subst, length, IfSome, is_some, arith}
 use Rattle.std.proofs.lemmas.Option.{IfSome_then}
 use Rattle.ak_handler.specs.Handlers.{has_token}
-use Rattle.ak_base.proofs.Looking.{is_some-position, position-within}
+use Rattle.ak_base.proofs.Surface.{is_some-position, position-within}
 use Rattle.ak_handler.proofs.set.HandlerSet.place.Goals as goal
 
 pub place-requires : goal.place-requires

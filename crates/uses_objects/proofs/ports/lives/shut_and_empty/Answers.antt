@@ -1,6 +1,6 @@
 use Rattle.std.proofs.Common.{◌∙◌, subst, sym}
 use Rattle.ak_port.specs.PortCalls.{CanTake}
-use Rattle.ak_port.proofs.PortTaking.{can_titled}
+use Rattle.ak_port.proofs.Surface.{can_titled}
 use Rattle.uses_objects.proofs.ports.lives.shut_and_empty.Goals as goal
 
 pub take_one-requires-clause-taking : goal.take_one-requires-clause-taking

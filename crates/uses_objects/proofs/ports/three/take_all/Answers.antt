@@ -1,7 +1,7 @@
 use Rattle.std.proofs.Common.{◌∙◌, subst, sym}
 use Rattle.ak_port.specs.declared.port_entry.TakeAnswer.TheVariants as answer
 use Rattle.ak_port.specs.PortCalls.{CanTake}
-use Rattle.ak_port.proofs.PortWriting.{takes_on}
+use Rattle.ak_port.proofs.Surface.{takes_on}
 use Rattle.uses_objects.proofs.ports.three.take_all.Goals as goal
 
 pub loop-preserved : goal.loop-preserved

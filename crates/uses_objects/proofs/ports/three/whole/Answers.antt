@@ -2,8 +2,7 @@ use Rattle.std.proofs.Common.{ap, ◌∙◌}
 use Rattle.ak_turn.specs.Entries.{made_by}
 use Rattle.ak_port.specs.PortCalls.{by_number}
 use Rattle.ak_port.specs.PortWriters.{teams_in}
-use Rattle.ak_port.proofs.PortTaken.{told_at_end}
-use Rattle.ak_port.proofs.PortWriting.{sent_known_whole}
+use Rattle.ak_port.proofs.Surface.{told_at_end, sent_known_whole}
 use Rattle.uses_objects.proofs.ports.three.whole.Goals as goal
 
 pub returns-clause-sent : goal.returns-clause-sent

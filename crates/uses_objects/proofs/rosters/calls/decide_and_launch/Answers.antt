@@ -3,8 +3,7 @@ use Rattle.std.proofs.Common.{◌≡◌, length, [], sym, ap, ◌∙◌}
 use Rattle.ak_roster.specs.Answers.{decision_of}
 use Rattle.ak_roster.specs.Machine.{launch_of, loopers_at}
 use Rattle.ak_roster.specs.Roster.{state}
-use Rattle.ak_roster.proofs.Fresh.{fresh_decided, fresh_launch}
-use Rattle.ak_roster.proofs.Launching.{doors_for_start}
+use Rattle.ak_roster.proofs.Surface.{fresh_decided, fresh_launch, doors_for_start}
 use Rattle.uses_objects.proofs.rosters.calls.decide_and_launch.Goals as goal
 
 pub launch-requires-clause-doors : goal.launch-requires-clause-doors

@@ -1,6 +1,6 @@
 use Rattle.std.proofs.Common.{ap, ◌∙◌}
 use Rattle.ak_turn.specs.Entries.{made_by}
-use Rattle.ak_turn.proofs.Calls.{knows_whole}
+use Rattle.ak_turn.proofs.Surface.{knows_whole}
 use Rattle.uses_objects.proofs.turns.four.whole.Goals as goal
 
 pub returns : goal.returns

@@ -1,0 +1,6 @@
+-- What the layers above may cite of these proofs: they name this file alone.
+pub use Rattle.ak_message.proofs.CodeLaws.{code_again, code_takes, no_code}
+pub use Rattle.ak_message.proofs.Finding.{added_values_are_found-proof}
+pub use Rattle.ak_message.proofs.HexLaws.{raws_take}
+pub use Rattle.ak_message.proofs.Keeping.{depth-added, sound_after}
+pub use Rattle.ak_message.proofs.Numbers.{int_found, int_none, ints_read}
