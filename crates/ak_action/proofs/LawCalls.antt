@@ -16,6 +16,7 @@ use Rattle.ak_action.specs.Acts.{is_at, put, want_of}
 use Rattle.ak_action.specs.Doing.{Doing, says, replies, puts, sends, finds, stops, quits, doing_of, preferred_of}
 use Rattle.ak_action.specs.Interp.{InterpData, Nexted, nexted, failed, actions_of, carried, give_at, give_of, go_on, hear_of_team, next_at, next_of, out_of_memory, past, started, then_go_on, with_stage}
 use Rattle.ak_action.specs.Laws.{Calls, CallsAct, IsAsking, Ran, answered_so, by_want, got_none, got_one, found_none, is_done, run, unanswered, wanting}
+use Rattle.ak_action.proofs.Behind.{IsWaiting}
 use Rattle.ak_action.proofs.LawSteps.{run_is, run_on, runs_act_holds}
 
 -- ---- the place of the next action that memory can fail
@@ -25,14 +26,6 @@ next_place _ place = place + 1
 
 abbrev place_after : InterpData → ℕ
 place_after i = next_place i.stage i.place
-
--- a want has no answer yet
-abbrev IsWaiting : Stage → Type 0
-IsWaiting stage.Ready = ⊥
-IsWaiting (stage.Finding _ _) = Unit {0}
-IsWaiting (stage.Found _ _ _) = ⊥
-IsWaiting (stage.Sent _) = Unit {0}
-IsWaiting stage.Ended = ⊥
 
 heard_place : (how : Sending) (m : MessageData) (i : InterpData) (a : Answer) → place_after (hear_of_team how m i a) ≡ i.place + 1
 heard_place how m i (answer.Team team first) = refl

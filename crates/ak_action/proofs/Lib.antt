@@ -19,3 +19,4 @@ pub mod Stages
 pub mod Sums
 pub mod Tested
 pub mod Surface
+pub mod Behind

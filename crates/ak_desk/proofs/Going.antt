@@ -37,7 +37,8 @@ use Rattle.ak_desk.specs.Place.{is_local, loopers_of, routed_of}
 use Rattle.ak_desk.specs.Properties.{property_replied}
 use Rattle.ak_desk.specs.Task.{Comes, Heard, IsDone, MayWant, TakesAnswer, Wanted, wants, wants_none, came_of, heard_of, place_in, task_by, task_of, want_of}
 use Rattle.ak_desk.specs.Task as the
-use Rattle.ak_desk.proofs.Coming.{NextStands, dispatch_comes, next_stands}
+use Rattle.ak_action.proofs.Surface.{NextStands, next_stands}
+use Rattle.ak_desk.proofs.Coming.{dispatch_comes}
 use Rattle.ak_desk.proofs.History.{all_spelled}
 use Rattle.ak_desk.proofs.InStep.{answered_push, comes_may, comes_takes, done_may, done_never_fails, done_so, done_wants, failed_so, first_may, one_too_many}
 use Rattle.ak_desk.proofs.Reacting.{AimsAt, AimsBy, next_is, routed_so, waiting_tells}

@@ -22,7 +22,9 @@ use Rattle.ak_desk.specs.BuiltIns.{built_in_quits, built_in_reply}
 use Rattle.ak_desk.specs.Properties.{property_replied}
 use Rattle.ak_desk.specs.Task.{Awaits, Comes, IsDone, MayWant, TakesAnswer, Wanted, wants, wants_none, heard_of, place_in, task_by, want_of}
 use Rattle.ak_desk.specs.Task as the
-use Rattle.ak_desk.proofs.Coming.{IsAsked, IsFinding, IsPosted, IsWaiting, NextStands, StandsBehind, asking_awaits, give_may, may_not, next_stands, not_answered, reaction_awaits}
+use Rattle.ak_action.proofs.Surface.{IsAsked, IsPosted, IsWaiting, NextStands, StandsBehind, next_stands}
+use Rattle.ak_action.specs.Steps.{IsFinding}
+use Rattle.ak_desk.proofs.Coming.{asking_awaits, give_may, may_not, not_answered, reaction_awaits}
 use Rattle.ak_desk.proofs.Reacting.{failed_is, next_is}
 
 -- ---- one more
