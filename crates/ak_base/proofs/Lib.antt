@@ -5,3 +5,4 @@ pub mod Options
 pub mod Words
 pub mod Looking
 pub mod Surface
+pub mod Pigeons

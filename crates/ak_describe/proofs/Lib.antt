@@ -27,7 +27,6 @@ pub mod Ordering
 pub mod Outcomes
 pub mod PartsKept
 pub mod Passing
-pub mod Pigeons
 pub mod Placed
 pub mod Places
 pub mod Reading

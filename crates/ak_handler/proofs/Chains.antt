@@ -6,8 +6,7 @@ use Rattle.std.proofs.lemmas.List.Elements.{All-nil, All-cons, All-contains, All
 use Rattle.std.proofs.lemmas.List.Kept.{AllPairs-cons}
 use Rattle.ak_handler.specs.Handlers.{HandlerData, IsThere, after_steps, chain_of, has_token, next_in, tokens_of}
 use Rattle.ak_handler.specs.Laws.{ChainsAreWhole}
-use Rattle.ak_base.proofs.Surface.{find-All}
-use Rattle.ak_handler.proofs.Pigeons.{pigeons}
+use Rattle.ak_base.proofs.Surface.{find-All, pigeons}
 
 module _ {R : Type 0} (list : List (HandlerData R)) where
   -- after some number of steps there is no next handler

@@ -8,7 +8,6 @@ pub mod Linking
 pub mod Mapped
 pub mod Meeting
 pub mod Named
-pub mod Pigeons
 pub mod Placed
 pub mod Places
 pub mod Preferring

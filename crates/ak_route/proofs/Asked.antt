@@ -6,7 +6,7 @@ use Rattle.std.proofs.lemmas.List.{length-map}
 use Rattle.std.proofs.lemmas.List.Elements.{All-nil, All-cons, All-weaker, All-contains}
 use Rattle.std.proofs.lemmas.List.Kept.{AllPairs-cons}
 use Rattle.ak_handler.specs.Handlers.{HandlersData, tokens_of}
-use Rattle.ak_handler.proofs.Surface.{pigeons}
+use Rattle.ak_base.proofs.Surface.{pigeons}
 use Rattle.ak_property.specs.HandlerRow.{RowData}
 use Rattle.ak_route.specs.Handlers.{row_of}
 use Rattle.ak_route.specs.Filtering.{Passing, Origin, Settled, settled, passing_after, run_list, settle_from, asked_already}

@@ -1,7 +1,8 @@
--- Where things that all differ are each among some others, there are no more of them than of those.
-use Rattle.std.proofs.Common.{◌≡◌, ◌≢◌, ℕ, zero, suc, ◌<◌, ◌≤◌, List, [], ◌∷◌, length, get_or, remove, All, AllPairs, Contains, sym, arith}
+-- Where things that all differ are each among some others, there are no more of them than of those; and numbers that all differ and are below another one are no more than that.
+use Rattle.std.proofs.Common.{◌≡◌, ◌≢◌, ℕ, zero, suc, ◌<◌, ◌≤◌, List, [], ◌∷◌, length, get_or, remove, All, AllPairs, Contains, refl, sym, ap, ⊎_elim, arith}
+use Rattle.std.proofs.lemmas.Bool.{cases_eq}
 use Rattle.std.proofs.lemmas.List.Edits.{length-remove}
-use Rattle.std.proofs.lemmas.List.Elements.{All-head}
+use Rattle.std.proofs.lemmas.List.Elements.{All-head, All-weaker}
 use Rattle.std.proofs.lemmas.List.Sorted.{IsPermutation-remove, Contains-permutation}
 
 module _ {X : Type 0} where
@@ -23,3 +24,24 @@ module _ {X : Type 0} where
       (λ i j d lt within. differ (suc i) (suc j) d (omega arith) (omega arith))
       (λ k d lt. Contains-remove ys x (get_or xs k d) at (there (suc k) d (omega arith)) (differ zero (suc k) d (omega arith) (omega arith))) in
       omega (arith, rest, length-remove ys at.0 at.1)
+
+-- the numbers below another one
+abbrev upto : ℕ → List ℕ
+upto zero = []
+upto (suc n) = n ∷ upto n
+
+length-upto : (n : ℕ) → length (upto n) ≡ n
+length-upto zero = refl
+length-upto (suc n) = ap suc (length-upto n)
+
+in_upto : (n p : ℕ) → p < n → Contains (upto n) p
+in_upto zero p lt = absurd (omega arith)
+in_upto (suc n) p lt =
+    ⊎_elim
+    (λ same. (zero, omega arith, sym same))
+    (λ other. let there : p < n = omega (arith, other) in let r = in_upto n p there in (suc r.0, omega (arith, r.1), r.2))
+    (cases_eq p n)
+
+pub few_below : (n : ℕ) (xs : List ℕ) → AllPairs (λ a b. a ≢ b) xs → All (λ x. x < n) xs → length xs ≤ n
+few_below n xs differ below =
+    omega (arith, pigeons xs (upto n) differ (All-weaker (λ x. x < n) (λ x. Contains (upto n) x) (λ x lt. in_upto n x lt) xs below), length-upto n)
