@@ -95,11 +95,16 @@ impl Model for Interp {
 impl Interp {
     /// The reaction at that place of the handler with that token, on the message. Reactions count from 0; one
     /// that is not there has no actions. Room for all answers is reserved: `NoMemory` where there is none.
-    pub fn start(alloc: Global, m: Message, token: u64, reaction: u32) -> Result<Interp, NoMemory>
-        ensures { IfOk result (λ i. i ≡ started m token reaction) }
+    pub fn start(
+        alloc: Global,
+        message: Message,
+        token: u64,
+        reaction: u32,
+    ) -> Result<Interp, NoMemory>
+        ensures { IfOk result (λ i. i ≡ started message token reaction) }
     {
         Ok(Interp {
-            message: m,
+            message,
             token,
             reaction,
             place: 0,
@@ -140,13 +145,13 @@ impl Interp {
     /// text of a reply has to spell its message. An answer `NoMemory` ends the list of actions. Takes no
     /// memory.
     #[tactic(auto, using(crate::proofs::Stages::stages))]
-    pub fn give(&mut self, state: &mut DeskState, a: Answer)
-        requires { Answers self.old a }
-        ensures { give_of self.old state.old a ≡ record { interp = self.new; state = state.new } }
+    pub fn give(&mut self, state: &mut DeskState, answer: Answer)
+        requires { Answers self.old answer }
+        ensures { give_of self.old state.old answer ≡ record { interp = self.new; state = state.new } }
     {
         match self.stage {
-            Stage::Finding { .. } => self.hear_of_team(a),
-            Stage::Sent { how } => self.hear_of_send(state, how, a),
+            Stage::Finding { .. } => self.hear_of_team(answer),
+            Stage::Sent { how } => self.hear_of_send(state, how, answer),
             _ => {}
         }
     }

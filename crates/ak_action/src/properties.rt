@@ -113,18 +113,18 @@ impl ElementsList {
         place: usize,
         what: Code,
         at: AtRef<'_>,
-        m: &Message,
+        message: &Message,
     ) -> Result<Option<Items<Value>>, ElementFault>
-        ensures refused { IfErr (access_at self.old place what.0 (at_of at.entry) m.now) (λ f. result ≡ Err f) }
-        ensures only { IfOk (access_at self.old place what.0 (at_of at.entry) m.now) (λ _. IsOkUnless result ElementFault.NoMemory) }
-        ensures ok { IfOk result (λ values. access_at self.old place what.0 (at_of at.entry) m.now
+        ensures refused { IfErr (access_at self.old place what.0 (at_of at.entry) message.now) (λ f. result ≡ Err f) }
+        ensures only { IfOk (access_at self.old place what.0 (at_of at.entry) message.now) (λ _. IsOkUnless result ElementFault.NoMemory) }
+        ensures ok { IfOk result (λ values. access_at self.old place what.0 (at_of at.entry) message.now
             ≡ Ok (record { list = self.new; values = answer_of values })) }
         ensures err { OnErr result (self.new ≡ self.old) }
     {
         let Some(elements) = self.list.get_mut(place) else {
             return Err(ElementFault::BadScript);
         };
-        elements.access(what, at, m)
+        elements.access(what, at, message)
     }
 }
 

@@ -12,35 +12,35 @@ const DIGITS_LIMIT: usize = 20;
 
 /// Adds the number in decimal: a `-` where it is below 0, then its digits without a leading zero.
 /// An `Err` changes nothing. `NoMemory` where memory ran out.
-pub fn print_int(n: i64, out: &mut Bytes) -> Result<(), NoMemory>
-    ensures ok { OnOk result (out.new ≡ out.old ++ signed_decimal n) }
+pub fn print_int(number: i64, out: &mut Bytes) -> Result<(), NoMemory>
+    ensures ok { OnOk result (out.new ≡ out.old ++ signed_decimal number) }
     ensures err { OnErr result (out.new ≡ out.old) }
 {
-    out.extend(n.to_string(out.allocator())?.as_bytes())
+    out.extend(number.to_string(out.allocator())?.as_bytes())
 }
 
 /// Adds the number in decimal, without a leading zero. An `Err` changes nothing. `NoMemory` where memory ran
 /// out.
-pub fn print_uint(n: u64, out: &mut Bytes) -> Result<(), NoMemory>
-    ensures ok { OnOk result (out.new ≡ out.old ++ decimal n) }
+pub fn print_uint(number: u64, out: &mut Bytes) -> Result<(), NoMemory>
+    ensures ok { OnOk result (out.new ≡ out.old ++ decimal number) }
     ensures err { OnErr result (out.new ≡ out.old) }
 {
-    out.extend(n.to_string(out.allocator())?.as_bytes())
+    out.extend(number.to_string(out.allocator())?.as_bytes())
 }
 
 /// The number that the bytes are the printed form of, in at most 20 digits. None where they are the form
 /// of no number, as `+3`, `03`, `-0` and the empty text. Takes no memory.
-pub fn read_int(b: &[u8]) -> Option<i128>
-    ensures found { IfSome result (λ z. IsIntText b.now z) }
-    ensures none { IfNone result ((z : ℤ) → IsIntText b.now z → ⊥) }
+pub fn read_int(bytes: &[u8]) -> Option<i128>
+    ensures found { IfSome result (λ z. IsIntText bytes.now z) }
+    ensures none { IfNone result ((z : ℤ) → IsIntText bytes.now z → ⊥) }
 {
-    let Some((first, rest)) = b.split_first() else {
+    let Some((first, rest)) = bytes.split_first() else {
         return None;
     };
     if *first == b'-' {
         read_below_zero(rest)
     } else {
-        read_from_zero(b)
+        read_from_zero(bytes)
     }
 }
 

@@ -50,16 +50,16 @@ impl Raw {
     ghost use Rattle.ak_base.specs.Text.{IsRaw};
 
     /// The raw value of these bytes. The faults are tested in the order of `RawFault`. The bytes are copied.
-    pub fn from_bytes(alloc: Global, b: &[u8]) -> Result<Raw, RawFault>
-        ensures ok { IfOk result (λ r. r ≡ b.now) }
+    pub fn from_bytes(alloc: Global, bytes: &[u8]) -> Result<Raw, RawFault>
+        ensures ok { IfOk result (λ r. r ≡ bytes.now) }
         ensures limit { RAW_LIMIT ≡ raw_limit }
-        ensures too_long { IsErrOf result RawFault.TooLong ↔ (RAW_LIMIT < length b.now) }
+        ensures too_long { IsErrOf result RawFault.TooLong ↔ (RAW_LIMIT < length bytes.now) }
     {
-        if b.len() > RAW_LIMIT {
+        if bytes.len() > RAW_LIMIT {
             return Err(RawFault::TooLong);
         }
         Ok(Raw {
-            bytes: Vec::from_slice(alloc, b)?,
+            bytes: Vec::from_slice(alloc, bytes)?,
         })
     }
 

@@ -55,22 +55,22 @@ impl Text {
     ghost use Rattle.ak_base.specs.Text.{IsTextBytes, IsText};
 
     /// The text of these bytes. The faults are tested in the order of `TextFault`. The bytes are copied.
-    pub fn from_bytes(alloc: Global, b: &[u8]) -> Result<Text, TextFault>
-        ensures ok { IfOk result (λ t. t ≡ b.now) }
-        ensures is_text { IfOk result (λ _. IsText b.now) }
+    pub fn from_bytes(alloc: Global, bytes: &[u8]) -> Result<Text, TextFault>
+        ensures ok { IfOk result (λ t. t ≡ bytes.now) }
+        ensures is_text { IfOk result (λ _. IsText bytes.now) }
         ensures limit { TEXT_LIMIT ≡ text_limit }
-        ensures too_long { IsErrOf result TextFault.TooLong ↔ (TEXT_LIMIT < length b.now) }
-        ensures not_utf8 { IsErrOf result TextFault.NotUtf8 ↔ ((length b.now ≤ TEXT_LIMIT) × (¬ (IsUtf8 b.now))) }
+        ensures too_long { IsErrOf result TextFault.TooLong ↔ (TEXT_LIMIT < length bytes.now) }
+        ensures not_utf8 { IsErrOf result TextFault.NotUtf8 ↔ ((length bytes.now ≤ TEXT_LIMIT) × (¬ (IsUtf8 bytes.now))) }
         ensures zero { IsErrOf result TextFault.Zero
-            ↔ ((length b.now ≤ TEXT_LIMIT) × IsUtf8 b.now × Contains b.now 0) }
+            ↔ ((length bytes.now ≤ TEXT_LIMIT) × IsUtf8 bytes.now × Contains bytes.now 0) }
     {
-        if b.len() > TEXT_LIMIT {
+        if bytes.len() > TEXT_LIMIT {
             return Err(TextFault::TooLong);
         }
-        let Ok(text) = str::from_utf8(b) else {
+        let Ok(text) = str::from_utf8(bytes) else {
             return Err(TextFault::NotUtf8);
         };
-        if b.contains(&0) {
+        if bytes.contains(&0) {
             return Err(TextFault::Zero);
         }
         Ok(Text {

@@ -6,17 +6,22 @@ ghost use Rattle.ak_base.specs.Word as word;
 pub const WORD_LIMIT: usize = 64;
 
 /// Whether the byte may stand in a word: a letter, a digit or one of `_ - . : /`. Letters are those of ASCII.
-pub fn is_word_byte(b: u8) -> bool
-    ensures { result ≡ word.is_word_byte b }
+pub fn is_word_byte(byte: u8) -> bool
+    ensures { result ≡ word.is_word_byte byte }
 {
-    b.is_ascii_alphanumeric() || b == b'_' || b == b'-' || b == b'.' || b == b':' || b == b'/'
+    byte.is_ascii_alphanumeric()
+        || byte == b'_'
+        || byte == b'-'
+        || byte == b'.'
+        || byte == b':'
+        || byte == b'/'
 }
 
 /// Whether the bytes are a word: 1 to 64 of them, each of which may stand in a word.
-pub fn is_word(b: &[u8]) -> bool
-    ensures { result ≡ word.is_word b.now }
+pub fn is_word(bytes: &[u8]) -> bool
+    ensures { result ≡ word.is_word bytes.now }
 {
-    !b.is_empty() && b.len() <= WORD_LIMIT && are_word_bytes(b)
+    !bytes.is_empty() && bytes.len() <= WORD_LIMIT && are_word_bytes(bytes)
 }
 
 fn are_word_bytes(b: &[u8]) -> bool

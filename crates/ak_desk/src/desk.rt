@@ -157,18 +157,18 @@ impl Desk {
     /// Hands it the answer to the last want, one that fits that want; `want` comes next. The result of a reply
     /// goes into the property that the ask names, where it names one. No other answer changes the handlers.
     /// Takes no memory.
-    pub fn give(&mut self, a: Answer)
-        requires { DeskTakes self.old a }
+    pub fn give(&mut self, answer: Answer)
+        requires { DeskTakes self.old answer }
         ensures opening { self.new.opening ≡ self.old.opening }
         ensures entries { self.new.entries ≡ self.old.entries }
-        ensures given { Turns (Hears a) self.old self.new }
+        ensures given { Turns (Hears answer) self.old self.new }
         ensures goes_on { DeskMayWant self.new }
     {
         ak_action::runs_act();
         ak_action::calls_act();
         let alloc = *self.entries.allocator();
         if let Some(begun) = &mut self.begun {
-            begun.give(alloc, &mut self.state, a);
+            begun.give(alloc, &mut self.state, answer);
         }
     }
 }

@@ -77,12 +77,12 @@ pub struct Head {
 }
 
 /// Whether the filter admits the message: each of its criteria is any, or fits. Takes no memory.
-pub fn admits(f: &Filter, h: &Head) -> bool
-    ensures { result ≡ admits f.now h.now }
+pub fn admits(filter: &Filter, head: &Head) -> bool
+    ensures { result ≡ admits filter.now head.now }
 {
-    fits_what(f.what, h.what)
-        && fits_source(f.source, h.local)
-        && fits_delivery(f.delivery, h.dropped)
+    fits_what(filter.what, head.what)
+        && fits_source(filter.source, head.local)
+        && fits_delivery(filter.delivery, head.dropped)
 }
 
 fn fits_what(what: Option<Code>, code: Code) -> bool

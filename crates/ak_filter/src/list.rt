@@ -61,16 +61,16 @@ impl FilterList {
 
     /// Adds a filter at the end. `FilterLimit` at 32 filters. An `Err` changes nothing, and the filter is
     /// dropped. `NoMemory` where memory ran out. (The Be Book, The Application Kit, BHandler: AddFilter().)
-    pub fn push(&mut self, f: Filter) -> Result<(), FilterFault>
+    pub fn push(&mut self, filter: Filter) -> Result<(), FilterFault>
         ensures limit { FILTER_LIMIT ≡ filter_limit }
         ensures full { IsErrOf result FilterFault.FilterLimit ↔ (length self.old ≡ filter_limit) }
-        ensures ok { OnOk result (self.new ≡ self.old ++ f ∷ []) }
+        ensures ok { OnOk result (self.new ≡ self.old ++ filter ∷ []) }
         ensures err { OnErr result (self.new ≡ self.old) }
     {
         if self.filters.len() >= FILTER_LIMIT {
             return Err(FilterFault::FilterLimit);
         }
-        self.filters.push(f)?;
+        self.filters.push(filter)?;
         Ok(())
     }
 

@@ -71,23 +71,23 @@ impl Item {
         team: u32,
         dropped: bool,
         duty: Duty,
-        m: &Message,
+        message: &Message,
     ) -> Result<Item, FlattenFault>
         ensures ok { IfOk result (λ item. item ≡ record {
           target = target;
           team = team;
           dropped = dropped;
           duty = duty;
-          popped = m.now.popped;
-          flat = spelling m.now;
+          popped = message.now.popped;
+          flat = spelling message.now;
         }) }
-        ensures too_long { IsErrOf result FlattenFault.TooLong ↔ (flat_limit < length (spelling m.now)) }
-        ensures message { IfOk result (λ item. message_of item ≡ record (unpopped m.now) { popped = m.now.popped }) }
+        ensures too_long { IsErrOf result FlattenFault.TooLong ↔ (flat_limit < length (spelling message.now)) }
+        ensures message { IfOk result (λ item. message_of item ≡ record (unpopped message.now) { popped = message.now.popped }) }
     {
-        let flat = flatten(alloc, m)?;
+        let flat = flatten(alloc, message)?;
         // Reading the code shows that the message is whole.
-        let _code = m.what();
-        let popped = m.popped();
+        let _code = message.what();
+        let popped = message.popped();
         Ok(Item {
             target,
             team,

@@ -236,11 +236,11 @@ impl Message {
 
     /// Pops so many of its specifiers, counted from the last, and changes nothing else. It has to have so
     /// many.
-    pub fn set_popped(&mut self, n: u32)
-        requires { n ≤ specifier_count self.old.fields }
-        ensures { self.new ≡ record self.old { popped = n } }
+    pub fn set_popped(&mut self, count: u32)
+        requires { count ≤ specifier_count self.old.fields }
+        ensures { self.new ≡ record self.old { popped = count } }
     {
-        self.popped = n;
+        self.popped = count;
     }
 
     /// Removes every field. Its code stays. Nothing is popped then. (The Be Book, The Application Kit,
@@ -341,10 +341,10 @@ impl Message {
 
     /// Field `i`, in the order of adding. `None` past the last one. Fields count from 0. Takes no memory.
     /// (The Be Book, The Application Kit, BMessage: GetInfo().)
-    pub fn field_at(&self, i: u32) -> Option<FieldRef<'_>>
-        ensures { option_map field_ref_of result ≡ slice_get self.now.fields i }
+    pub fn field_at(&self, place: u32) -> Option<FieldRef<'_>>
+        ensures { option_map field_ref_of result ≡ slice_get self.now.fields place }
     {
-        let field = self.fields.get(i as usize)?;
+        let field = self.fields.get(place as usize)?;
         Some(FieldRef {
             name: field.name.as_slice(),
             kind: field.kind,

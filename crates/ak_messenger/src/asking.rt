@@ -183,35 +183,35 @@ fn ask_by<R: Wait>(
 /// are. (The Be Book, The Application Kit, BMessenger: SendMessage(), with a reply that is waited for.)
 pub fn ask<R: Wait>(
     alloc: Global,
-    h: &mut Hands,
+    hands: &mut Hands,
     rt: &R,
     port: &Port,
     seat: &mut Seat<PortBook>,
-    e: Envelope,
-    m: &Message,
+    envelope: Envelope,
+    message: &Message,
 ) -> Result<Reply, SendFault>
     requires of { seat.old.lock ≡ port.now }
     requires idle { seat.old.turn ≡ false }
-    requires thread { seat.old.thread ≡ h.old.clock.thread.0 }
-    requires popped { e.popped ≤ specifier_count m.now.fields }
-    requires back { e.back ≡ None }
-    ensures answered { AskTells (item_in e Duty.None m.now) h.old.clock h.new.clock h.old.book_seat h.new.book_seat seat.old seat.new result }
-    ensures too_long { IsErrOf result SendFault.TooLong ↔ (flat_limit < length (spelling m.now)) }
+    requires thread { seat.old.thread ≡ hands.old.clock.thread.0 }
+    requires popped { envelope.popped ≤ specifier_count message.now.fields }
+    requires back { envelope.back ≡ None }
+    ensures answered { AskTells (item_in envelope Duty.None message.now) hands.old.clock hands.new.clock hands.old.book_seat hands.new.book_seat seat.old seat.new result }
+    ensures too_long { IsErrOf result SendFault.TooLong ↔ (flat_limit < length (spelling message.now)) }
     ensures message { IfOk result (λ reply. reply.message ≡ spelled reply.flat) }
     ensures spells { IfOk result (λ reply. Spells reply.flat reply.message) }
     ensures port { IsAtPort seat.old → IsAtPort seat.new }
     ensures at_port { IfReached result (IsAtPort seat.new) }
     ensures known { IfReached result (KnowsWhole by_number seat.new) }
     ensures knows_still { KnowsWhole by_number seat.old → KnowsWhole by_number seat.new }
-    ensures book_known { IfReached result (KnowsWhole maker_of h.new.book_seat) }
-    ensures book_knows_still { KnowsWhole maker_of h.old.book_seat → KnowsWhole maker_of h.new.book_seat }
+    ensures book_known { IfReached result (KnowsWhole maker_of hands.new.book_seat) }
+    ensures book_knows_still { KnowsWhole maker_of hands.old.book_seat → KnowsWhole maker_of hands.new.book_seat }
     ensures seat { KeepsSeat seat.old seat.new }
     ensures taking { (thread : ThreadId) (room : ℕ) → CanTake thread room seat.old → CanTake thread room seat.new }
     ensures taken { KeepsTaken seat.old seat.new }
-    ensures book { h.new.book ≡ h.old.book }
-    ensures book_seat { KeepsSeat h.old.book_seat h.new.book_seat }
-    ensures clock { h.new.clock.thread ≡ h.old.clock.thread }
+    ensures book { hands.new.book ≡ hands.old.book }
+    ensures book_seat { KeepsSeat hands.old.book_seat hands.new.book_seat }
+    ensures clock { hands.new.clock.thread ≡ hands.old.clock.thread }
 {
-    let item = e.item(alloc, Duty::None, m)?;
-    ask_by(alloc, h, rt, port, seat, item)
+    let item = envelope.item(alloc, Duty::None, message)?;
+    ask_by(alloc, hands, rt, port, seat, item)
 }

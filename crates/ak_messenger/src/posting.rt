@@ -41,19 +41,19 @@ fn posted(answer: WriteAnswer) -> Result<u64, SendFault>
 /// Book, The Application Kit, BMessenger: SendMessage().)
 pub fn post<R: Wait>(
     alloc: Global,
-    h: &mut Hands,
+    hands: &mut Hands,
     rt: &R,
     port: &Port,
     seat: &mut Seat<PortBook>,
-    e: Envelope,
-    m: &Message,
+    envelope: Envelope,
+    message: &Message,
 ) -> Result<u64, SendFault>
     requires of { seat.old.lock ≡ port.now }
     requires idle { seat.old.turn ≡ false }
-    requires thread { seat.old.thread ≡ h.old.clock.thread.0 }
-    requires popped { e.popped ≤ specifier_count m.now.fields }
-    ensures answered { HasAnswered (post_event e m.now result) h.old.clock h.new.clock seat.old seat.new }
-    ensures too_long { IsErrOf result SendFault.TooLong ↔ (flat_limit < length (spelling m.now)) }
+    requires thread { seat.old.thread ≡ hands.old.clock.thread.0 }
+    requires popped { envelope.popped ≤ specifier_count message.now.fields }
+    ensures answered { HasAnswered (post_event envelope message.now result) hands.old.clock hands.new.clock seat.old seat.new }
+    ensures too_long { IsErrOf result SendFault.TooLong ↔ (flat_limit < length (spelling message.now)) }
     ensures unsent { IsErrOf result SendFault.TooLong → seat.new ≡ seat.old }
     ensures not_blocked { IsErrOf result SendFault.WouldBlock → ⊥ }
     ensures wanting { IsErrOf result SendFault.NoMemory → LacksRoom seat.new.front → seat.new ≡ seat.old }
@@ -64,12 +64,12 @@ pub fn post<R: Wait>(
     ensures seat { KeepsSeat seat.old seat.new }
     ensures taking { (thread : ThreadId) (room : ℕ) → CanTake thread room seat.old → CanTake thread room seat.new }
     ensures taken { KeepsTaken seat.old seat.new }
-    ensures book { h.new.book ≡ h.old.book }
-    ensures book_seat { h.new.book_seat ≡ h.old.book_seat }
-    ensures clock { h.new.clock.thread ≡ h.old.clock.thread }
+    ensures book { hands.new.book ≡ hands.old.book }
+    ensures book_seat { hands.new.book_seat ≡ hands.old.book_seat }
+    ensures clock { hands.new.clock.thread ≡ hands.old.clock.thread }
 {
-    let item = e.item(alloc, e.duty(), m)?;
-    posted(write(port, rt, seat, &mut h.clock, item))
+    let item = envelope.item(alloc, envelope.duty(), message)?;
+    posted(write(port, rt, seat, &mut hands.clock, item))
 }
 
 // Passes the turn on without an entry.
@@ -99,8 +99,8 @@ pub fn post_at_turn(
     clock: &mut Clock,
     turn: Turn<'_, PortBook>,
     seat: &mut Seat<PortBook>,
-    e: Envelope,
-    m: &Message,
+    envelope: Envelope,
+    message: &Message,
 ) -> Result<u64, SendFault>
     requires of { seat.old.lock ≡ turn.lock }
     requires turn { seat.old.turn ≡ true }
@@ -109,10 +109,10 @@ pub fn post_at_turn(
     requires list { turn.book.entries ≡ seat.old.front }
     requires time { clock.old.time < 2 ^ 63 }
     requires last { last_stamp_of stamp_number turn.book.entries < 2 ^ 63 }
-    requires popped { e.popped ≤ specifier_count m.now.fields }
-    ensures answered { HasAnsweredAtTurn (post_event e m.now result) clock.old clock.new seat.old seat.new }
-    ensures machine { IfSome (post_event e m.now result) (λ event. event ≡ write_event (state_of seat.old.front) (item_in e (back_duty e.back) m.now)) }
-    ensures too_long { IsErrOf result SendFault.TooLong ↔ (flat_limit < length (spelling m.now)) }
+    requires popped { envelope.popped ≤ specifier_count message.now.fields }
+    ensures answered { HasAnsweredAtTurn (post_event envelope message.now result) clock.old clock.new seat.old seat.new }
+    ensures machine { IfSome (post_event envelope message.now result) (λ event. event ≡ write_event (state_of seat.old.front) (item_in envelope (back_duty envelope.back) message.now)) }
+    ensures too_long { IsErrOf result SendFault.TooLong ↔ (flat_limit < length (spelling message.now)) }
     ensures seat { KeepsSeat (at_leisure seat.old) seat.new }
     ensures clock { clock.new.thread ≡ clock.old.thread }
     ensures port { IsAtPort seat.new }
@@ -120,7 +120,7 @@ pub fn post_at_turn(
     ensures taking { (thread : ThreadId) (room : ℕ) (before : PortSeat) → CanTake thread room before → IsGiven by_number before seat.old → CanTake thread room seat.new }
     ensures taken { (before : PortSeat) → IsGiven by_number before seat.old → KeepsTaken before seat.new }
 {
-    match e.item(alloc, e.duty(), m) {
+    match envelope.item(alloc, envelope.duty(), message) {
         Ok(item) => posted(write_at_turn(turn, seat, clock, item)),
         Err(fault) => {
             pass_on(turn, seat);

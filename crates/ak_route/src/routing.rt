@@ -24,25 +24,25 @@ use ak_property::HandlerRow;
 pub fn route<R: HandlerRow + Drop>(
     set: &HandlerSet<R>,
     common: &FilterList,
-    m: &mut Message,
+    message: &mut Message,
     local: bool,
     dropped: bool,
     first: Target,
     place: &Place<'_>,
 ) -> Route
-    ensures { record { route = result; message = m.new }
-        ≡ route_of (handlers_seen R.told set.now) place.now (record { local = local; dropped = dropped }) common.now m.old first }
+    ensures { record { route = result; message = message.new }
+        ≡ route_of (handlers_seen R.told set.now) place.now (record { local = local; dropped = dropped }) common.now message.old first }
 {
     let Some(token) = first_target(set, first) else {
         return Route::Dropped;
     };
     let loopers = place.loopers();
-    match resolve(set, m, first, loopers, token) {
+    match resolve(set, message, first, loopers, token) {
         Destination::Nowhere => Route::NotUnderstood,
         Destination::Looper(looper) => Route::Forward { looper },
         Destination::Handler(token) => {
             let origin = Origin { local, dropped };
-            deliver(set, common, m, origin, loopers, token)
+            deliver(set, common, message, origin, loopers, token)
         }
     }
 }

@@ -18,13 +18,13 @@ pub struct BadScript;
 /// 32-bit numbers, and `name`, a text. The first value of each counts, and other fields do not matter.
 /// `BadScript` where none is left, and where it is not of this form. Takes no memory. (The Be Book, The
 /// Application Kit, BMessage: GetCurrentSpecifier().)
-pub fn current(m: &Message) -> Result<SpecifierRef<'_>, BadScript>
-    ensures { option_map specifier_of (result_ok result) ≡ current_of m.now }
+pub fn current(message: &Message) -> Result<SpecifierRef<'_>, BadScript>
+    ensures { option_map specifier_of (result_ok result) ≡ current_of message.now }
 {
-    let Some(message) = current_message(m) else {
+    let Some(last) = current_message(message) else {
         return Err(BadScript);
     };
-    match specifier_in(message) {
+    match specifier_in(last) {
         Some(specifier) => Ok(specifier),
         None => Err(BadScript),
     }

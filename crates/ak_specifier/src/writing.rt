@@ -13,19 +13,23 @@ use std::alloc::Global;
 /// are 64 fields. No other fault comes but `NoMemory`. An `Err` changes nothing, and the specifier is
 /// dropped. (The Be Book, The Application Kit, BMessage: AddSpecifier().)
 #[tactic(auto, using(crate::proofs::Last::added_is_current))]
-pub fn add_specifier(alloc: Global, m: &mut Message, s: Specifier) -> Result<(), AddFault>
-    ensures refused { IfSome (specifier_fault m.old) (λ f. result ≡ Err f) }
-    ensures only { IfNone (specifier_fault m.old) (IsOkUnless result AddFault.NoMemory) }
-    ensures ok { OnOk result (m.new ≡ with_specifier m.old s) }
-    ensures current { OnOk result (current_of m.new ≡ Some s) }
-    ensures err { OnErr result (m.new ≡ m.old) }
+pub fn add_specifier(
+    alloc: Global,
+    message: &mut Message,
+    specifier: Specifier,
+) -> Result<(), AddFault>
+    ensures refused { IfSome (specifier_fault message.old) (λ f. result ≡ Err f) }
+    ensures only { IfNone (specifier_fault message.old) (IsOkUnless result AddFault.NoMemory) }
+    ensures ok { OnOk result (message.new ≡ with_specifier message.old specifier) }
+    ensures current { OnOk result (current_of message.new ≡ Some specifier) }
+    ensures err { OnErr result (message.new ≡ message.old) }
 {
-    if let Some(fault) = specifier_fault(m) {
+    if let Some(fault) = specifier_fault(message) {
         return Err(fault);
     }
-    let message = specifier_message(alloc, s)?;
-    m.add_fitting(b"specifiers", Value::from_message(alloc, message)?)?;
-    m.set_popped(0);
+    let shown = specifier_message(alloc, specifier)?;
+    message.add_fitting(b"specifiers", Value::from_message(alloc, shown)?)?;
+    message.set_popped(0);
     Ok(())
 }
 

@@ -36,18 +36,18 @@ impl Elements {
         &mut self,
         what: Code,
         at: AtRef<'_>,
-        m: &Message,
+        message: &Message,
     ) -> Result<Option<Items<Value>>, ElementFault>
-        ensures refused { IfErr (access_of self.old what.0 (at_of at.entry) m.now) (λ f. result ≡ Err f) }
-        ensures only { IfOk (access_of self.old what.0 (at_of at.entry) m.now) (λ _. IsOkUnless result ElementFault.NoMemory) }
-        ensures ok { IfOk result (λ values. access_of self.old what.0 (at_of at.entry) m.now
+        ensures refused { IfErr (access_of self.old what.0 (at_of at.entry) message.now) (λ f. result ≡ Err f) }
+        ensures only { IfOk (access_of self.old what.0 (at_of at.entry) message.now) (λ _. IsOkUnless result ElementFault.NoMemory) }
+        ensures ok { IfOk result (λ values. access_of self.old what.0 (at_of at.entry) message.now
             ≡ Ok (record { elements = self.new; values = answer_of values })) }
         ensures err { OnErr result (self.new ≡ self.old) }
-        ensures cause { (f : ElementFault) → f ≢ fault.NoMemory → IsErrOf result f ↔ Refuses f self.old what.0 (at_of at.entry) m.now }
+        ensures cause { (f : ElementFault) → f ≢ fault.NoMemory → IsErrOf result f ↔ Refuses f self.old what.0 (at_of at.entry) message.now }
     {
         // Reading the code shows that it is a message: no field of it is without a value.
-        let _code = m.what();
-        self.carry_out(what, at, m)
+        let _code = message.what();
+        self.carry_out(what, at, message)
     }
 
     fn carry_out(

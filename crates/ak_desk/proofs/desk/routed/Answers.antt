@@ -8,5 +8,5 @@ use Rattle.ak_desk.proofs.desk.routed.Goals as goal
 
 pub returns-clause-forward : goal.returns-clause-forward
 returns-clause-forward c = λ looper is.
-    let same : record { route = c.route.result; message = c.route.new.m } ≡ routed_of c.args.state.now c.args.item.now = grind (arith, common_steps) in
+    let same : record { route = c.route.result; message = c.route.new.message } ≡ routed_of c.args.state.now c.args.item.now = grind (arith, common_steps) in
     forwarded_within c.forwards_are_to_later_loopers.ensures.routed c.args.state.now c.args.item.now looper (sym (ap (λ (r : Routed). r.route) same) ∙ is)
