@@ -5,6 +5,8 @@ use crate::number::Number;
 use crate::template::{Given, Template};
 use ak_base::{AppWord, Code, NoMemory, Text};
 use std::alloc::{AllocFailed, Global};
+use std::error::Error;
+use std::fmt;
 use std::marker::Model;
 
 /// How many actions a reaction may have.
@@ -85,6 +87,17 @@ pub enum ActionFault {
     /// Memory ran out.
     NoMemory,
 }
+
+impl fmt::Display for ActionFault {
+    fn fmt<W: fmt::Write>(&self, f: &mut fmt::Formatter<W>) -> fmt::Result {
+        match self {
+            ActionFault::ActionLimit => f.write_str("there are 16 actions"),
+            ActionFault::NoMemory => f.write_str("no memory"),
+        }
+    }
+}
+
+impl Error for ActionFault {}
 
 impl<T: Drop> From<AllocFailed<T>> for ActionFault {
     ghost use Rattle.std.specs.Prelude.{◌≡◌};
@@ -239,6 +252,17 @@ pub enum ReactionFault {
     /// Memory ran out.
     NoMemory,
 }
+
+impl fmt::Display for ReactionFault {
+    fn fmt<W: fmt::Write>(&self, f: &mut fmt::Formatter<W>) -> fmt::Result {
+        match self {
+            ReactionFault::ReactionLimit => f.write_str("there are 64 reactions"),
+            ReactionFault::NoMemory => f.write_str("no memory"),
+        }
+    }
+}
+
+impl Error for ReactionFault {}
 
 impl<T: Drop> From<AllocFailed<T>> for ReactionFault {
     ghost use Rattle.std.specs.Prelude.{◌≡◌};

@@ -8,6 +8,8 @@ use ak_filter::FilterList;
 use ak_handler::HANDLER_LIMIT;
 use ak_property::PropertyTable;
 use std::alloc::Global;
+use std::error::Error;
+use std::fmt;
 use std::marker::Model;
 
 mod actions;
@@ -83,6 +85,25 @@ pub enum PlanFault {
     /// property's. Or it asks a handler, or its own looper without naming it, or it sets several values.
     BadAction,
 }
+
+impl fmt::Display for PlanFault {
+    fn fmt<W: fmt::Write>(&self, f: &mut fmt::Formatter<W>) -> fmt::Result {
+        match self {
+            PlanFault::BadLooper => f.write_str("the first handler is not the looper"),
+            PlanFault::BadCapacity => f.write_str("the capacity is not from 1 to 1,000"),
+            PlanFault::HandlerLimit => f.write_str("there are over 64 handlers"),
+            PlanFault::BadName => f.write_str("a name is no word"),
+            PlanFault::NameInUse => f.write_str("two handlers have one name"),
+            PlanFault::UnknownName => f.write_str("a handler that is named is not there"),
+            PlanFault::ChainLoop => f.write_str("the next handlers lead back to a handler"),
+            PlanFault::SuiteLimit => f.write_str("a handler has over 16 suites"),
+            PlanFault::BadTable => f.write_str("the properties and the elements do not fit"),
+            PlanFault::BadAction => f.write_str("an action does not fit its handler"),
+        }
+    }
+}
+
+impl Error for PlanFault {}
 
 /// The plan of a looper: a description in which everything that is named is there. Contracts see its
 /// parts.

@@ -5,6 +5,8 @@ use crate::values::Values;
 use ak_base::{Code, NoMemory, Text, is_word};
 use ak_message::FIELD_LIMIT;
 use std::alloc::{AllocFailed, Global};
+use std::error::Error;
+use std::fmt;
 use std::marker::Model;
 
 /// What a field gets as its values.
@@ -52,6 +54,19 @@ pub enum TemplateFault {
     /// Memory ran out.
     NoMemory,
 }
+
+impl fmt::Display for TemplateFault {
+    fn fmt<W: fmt::Write>(&self, f: &mut fmt::Formatter<W>) -> fmt::Result {
+        match self {
+            TemplateFault::BadName => f.write_str("the name is no word"),
+            TemplateFault::NameInUse => f.write_str("a field has that name"),
+            TemplateFault::FieldLimit => f.write_str("there are 64 fields"),
+            TemplateFault::NoMemory => f.write_str("no memory"),
+        }
+    }
+}
+
+impl Error for TemplateFault {}
 
 impl<T: Drop> From<AllocFailed<T>> for TemplateFault {
     ghost use Rattle.std.specs.Prelude.{◌≡◌};

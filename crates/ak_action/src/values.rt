@@ -5,6 +5,8 @@ ghost use Rattle.ak_action.specs.Values.{AreValues, one_value, with_last, depth_
 use ak_base::NoMemory;
 use ak_message::{DEPTH_LIMIT, Kind, VALUE_LIMIT, Value};
 use std::alloc::{AllocFailed, Global};
+use std::error::Error;
+use std::fmt;
 use std::marker::Model;
 
 /// Why a value is not taken among values of one field. They are tested in this order.
@@ -19,6 +21,19 @@ pub enum ValuesFault {
     /// Memory ran out.
     NoMemory,
 }
+
+impl fmt::Display for ValuesFault {
+    fn fmt<W: fmt::Write>(&self, f: &mut fmt::Formatter<W>) -> fmt::Result {
+        match self {
+            ValuesFault::BadType => f.write_str("the value has another kind"),
+            ValuesFault::ValueLimit => f.write_str("there are 255 values"),
+            ValuesFault::TooDeep => f.write_str("messages stand too deep"),
+            ValuesFault::NoMemory => f.write_str("no memory"),
+        }
+    }
+}
+
+impl Error for ValuesFault {}
 
 impl From<NoMemory> for ValuesFault {
     ghost use Rattle.std.specs.Prelude.{◌≡◌};

@@ -4,6 +4,8 @@ ghost use Rattle.ak_base.specs.Limits.{raw_limit};
 
 use crate::no_memory::NoMemory;
 use std::alloc::{AllocError, Global};
+use std::error::Error;
+use std::fmt;
 use std::marker::Model;
 
 /// The longest raw value, in bytes.
@@ -17,6 +19,17 @@ pub enum RawFault {
     /// Memory ran out.
     NoMemory,
 }
+
+impl fmt::Display for RawFault {
+    fn fmt<W: fmt::Write>(&self, f: &mut fmt::Formatter<W>) -> fmt::Result {
+        match self {
+            RawFault::TooLong => f.write_str("over 1,024 bytes"),
+            RawFault::NoMemory => f.write_str("no memory"),
+        }
+    }
+}
+
+impl Error for RawFault {}
 
 impl From<AllocError> for RawFault {
     ghost use Rattle.std.specs.Prelude.{◌≡◌};

@@ -5,6 +5,8 @@ ghost use Rattle.ak_base.specs.Word.{is_word};
 
 use crate::no_memory::NoMemory;
 use std::alloc::{AllocError, Global};
+use std::error::Error;
+use std::fmt;
 use std::marker::Model;
 
 /// The longest text, in bytes.
@@ -22,6 +24,19 @@ pub enum TextFault {
     /// Memory ran out.
     NoMemory,
 }
+
+impl fmt::Display for TextFault {
+    fn fmt<W: fmt::Write>(&self, f: &mut fmt::Formatter<W>) -> fmt::Result {
+        match self {
+            TextFault::TooLong => f.write_str("over 1,024 bytes"),
+            TextFault::NotUtf8 => f.write_str("the bytes are not UTF-8"),
+            TextFault::Zero => f.write_str("a zero byte is among the bytes"),
+            TextFault::NoMemory => f.write_str("no memory"),
+        }
+    }
+}
+
+impl Error for TextFault {}
 
 impl From<AllocError> for TextFault {
     ghost use Rattle.std.specs.Prelude.{◌≡◌};

@@ -5,6 +5,8 @@ ghost use Rattle.ak_filter.specs.Limits.{filter_limit};
 use crate::filter::Filter;
 use ak_base::NoMemory;
 use std::alloc::{AllocFailed, Global};
+use std::error::Error;
+use std::fmt;
 use std::marker::Model;
 
 /// How many filters a list may have.
@@ -18,6 +20,17 @@ pub enum FilterFault {
     /// Memory ran out.
     NoMemory,
 }
+
+impl fmt::Display for FilterFault {
+    fn fmt<W: fmt::Write>(&self, f: &mut fmt::Formatter<W>) -> fmt::Result {
+        match self {
+            FilterFault::FilterLimit => f.write_str("there are 32 filters"),
+            FilterFault::NoMemory => f.write_str("no memory"),
+        }
+    }
+}
+
+impl Error for FilterFault {}
 
 impl<T: Drop> From<AllocFailed<T>> for FilterFault {
     ghost use Rattle.std.specs.Prelude.{◌≡◌};

@@ -1,4 +1,6 @@
 use ak_base::NoMemory;
+use std::error::Error;
+use std::fmt;
 
 /// What is wrong with bytes that are no flat text.
 #[derive(Clone, Copy, Debug, PartialEq, Eq)]
@@ -29,6 +31,25 @@ pub enum FlatKind {
     Trailing,
 }
 
+impl fmt::Display for FlatKind {
+    fn fmt<W: fmt::Write>(&self, f: &mut fmt::Formatter<W>) -> fmt::Result {
+        match self {
+            FlatKind::TooLong => f.write_str("over 4,096 bytes"),
+            FlatKind::Truncated => f.write_str("a part passes the end"),
+            FlatKind::Magic => f.write_str("a message does not begin with AKM1"),
+            FlatKind::FieldCount => f.write_str("over 64 fields"),
+            FlatKind::BadType => f.write_str("the type code of no kind"),
+            FlatKind::BadName => f.write_str("a name is no word"),
+            FlatKind::RepeatedName => f.write_str("a name stands twice"),
+            FlatKind::NoValues => f.write_str("a field without values"),
+            FlatKind::BadLength => f.write_str("a value of another length"),
+            FlatKind::BadValue => f.write_str("a value that is none of its kind"),
+            FlatKind::TooDeep => f.write_str("messages stand too deep"),
+            FlatKind::Trailing => f.write_str("bytes behind the last field"),
+        }
+    }
+}
+
 /// The first fault from left to right, and at which byte: counted from 0 in all the bytes.
 #[derive(Clone, Copy, Debug, PartialEq, Eq)]
 pub struct FlatFault {
@@ -37,6 +58,14 @@ pub struct FlatFault {
     /// What is wrong there.
     pub kind: FlatKind,
 }
+
+impl fmt::Display for FlatFault {
+    fn fmt<W: fmt::Write>(&self, f: &mut fmt::Formatter<W>) -> fmt::Result {
+        write!(f, "{} at byte {}", self.kind, self.place)
+    }
+}
+
+impl Error for FlatFault {}
 
 /// Why a message was not flattened.
 #[derive(Clone, Copy, Debug, PartialEq, Eq)]
@@ -47,6 +76,17 @@ pub enum FlattenFault {
     NoMemory,
 }
 
+impl fmt::Display for FlattenFault {
+    fn fmt<W: fmt::Write>(&self, f: &mut fmt::Formatter<W>) -> fmt::Result {
+        match self {
+            FlattenFault::TooLong => f.write_str("the flat text has over 4,096 bytes"),
+            FlattenFault::NoMemory => f.write_str("no memory"),
+        }
+    }
+}
+
+impl Error for FlattenFault {}
+
 /// Why no message was read.
 #[derive(Clone, Copy, Debug, PartialEq, Eq)]
 pub enum UnflattenFault {
@@ -55,6 +95,17 @@ pub enum UnflattenFault {
     /// Memory ran out.
     NoMemory,
 }
+
+impl fmt::Display for UnflattenFault {
+    fn fmt<W: fmt::Write>(&self, f: &mut fmt::Formatter<W>) -> fmt::Result {
+        match self {
+            UnflattenFault::Bad(fault) => write!(f, "no flat text: {fault}"),
+            UnflattenFault::NoMemory => f.write_str("no memory"),
+        }
+    }
+}
+
+impl Error for UnflattenFault {}
 
 /// Why a flat text is kept as no item. They are tested in this order.
 #[derive(Clone, Copy, Debug, PartialEq, Eq)]
@@ -66,6 +117,18 @@ pub enum ItemFault {
     /// Memory ran out.
     NoMemory,
 }
+
+impl fmt::Display for ItemFault {
+    fn fmt<W: fmt::Write>(&self, f: &mut fmt::Formatter<W>) -> fmt::Result {
+        match self {
+            ItemFault::Bad(fault) => write!(f, "no flat text: {fault}"),
+            ItemFault::Popped => f.write_str("more specifiers are popped than there are"),
+            ItemFault::NoMemory => f.write_str("no memory"),
+        }
+    }
+}
+
+impl Error for ItemFault {}
 
 impl From<NoMemory> for FlattenFault {
     ghost use Rattle.std.specs.Prelude.{◌≡◌};

@@ -1,5 +1,7 @@
 use ak_base::NoMemory;
 use std::alloc::AllocFailed;
+use std::error::Error;
+use std::fmt;
 
 /// Why handlers were not changed. They are tested in this order; each call names those that it may answer.
 #[derive(Clone, Copy, Debug, PartialEq, Eq)]
@@ -17,6 +19,21 @@ pub enum HandlerFault {
     /// Memory ran out.
     NoMemory,
 }
+
+impl fmt::Display for HandlerFault {
+    fn fmt<W: fmt::Write>(&self, f: &mut fmt::Formatter<W>) -> fmt::Result {
+        match self {
+            HandlerFault::NameInUse => f.write_str("a handler has that name"),
+            HandlerFault::HandlerLimit => f.write_str("there are 64 handlers, or no token is left"),
+            HandlerFault::BadHandler => f.write_str("no handler has that token"),
+            HandlerFault::IsLooper => f.write_str("it is the looper"),
+            HandlerFault::ChainLoop => f.write_str("the chain would come back"),
+            HandlerFault::NoMemory => f.write_str("no memory"),
+        }
+    }
+}
+
+impl Error for HandlerFault {}
 
 impl From<NoMemory> for HandlerFault {
     ghost use Rattle.std.specs.Prelude.{◌≡◌};

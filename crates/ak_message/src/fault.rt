@@ -1,4 +1,6 @@
 use ak_base::NoMemory;
+use std::error::Error;
+use std::fmt;
 
 /// Why a value was not added. They are tested in this order.
 #[derive(Clone, Copy, Debug, PartialEq, Eq)]
@@ -15,6 +17,20 @@ pub enum AddFault {
     NoMemory,
 }
 
+impl fmt::Display for AddFault {
+    fn fmt<W: fmt::Write>(&self, f: &mut fmt::Formatter<W>) -> fmt::Result {
+        match self {
+            AddFault::BadName => f.write_str("the name is no word"),
+            AddFault::BadType => f.write_str("the field has another kind"),
+            AddFault::FieldLimit => f.write_str("there are too many fields or values"),
+            AddFault::TooDeep => f.write_str("messages stand too deep"),
+            AddFault::NoMemory => f.write_str("no memory"),
+        }
+    }
+}
+
+impl Error for AddFault {}
+
 /// Why no value was found. They are tested in this order.
 #[derive(Clone, Copy, Debug, PartialEq, Eq)]
 pub enum FindFault {
@@ -25,6 +41,18 @@ pub enum FindFault {
     /// The field has not so many values.
     BadIndex,
 }
+
+impl fmt::Display for FindFault {
+    fn fmt<W: fmt::Write>(&self, f: &mut fmt::Formatter<W>) -> fmt::Result {
+        match self {
+            FindFault::NameNotFound => f.write_str("no field has that name"),
+            FindFault::BadType => f.write_str("the field has another kind"),
+            FindFault::BadIndex => f.write_str("the field has not so many values"),
+        }
+    }
+}
+
+impl Error for FindFault {}
 
 /// Why no value was replaced. They are tested in this order.
 #[derive(Clone, Copy, Debug, PartialEq, Eq)]
@@ -39,6 +67,19 @@ pub enum ReplaceFault {
     TooDeep,
 }
 
+impl fmt::Display for ReplaceFault {
+    fn fmt<W: fmt::Write>(&self, f: &mut fmt::Formatter<W>) -> fmt::Result {
+        match self {
+            ReplaceFault::NameNotFound => f.write_str("no field has that name"),
+            ReplaceFault::BadType => f.write_str("the field has another kind"),
+            ReplaceFault::BadIndex => f.write_str("the field has not so many values"),
+            ReplaceFault::TooDeep => f.write_str("messages stand too deep"),
+        }
+    }
+}
+
+impl Error for ReplaceFault {}
+
 /// Why nothing was removed. They are tested in this order.
 #[derive(Clone, Copy, Debug, PartialEq, Eq)]
 pub enum RemoveFault {
@@ -47,6 +88,17 @@ pub enum RemoveFault {
     /// The field has not so many values.
     BadIndex,
 }
+
+impl fmt::Display for RemoveFault {
+    fn fmt<W: fmt::Write>(&self, f: &mut fmt::Formatter<W>) -> fmt::Result {
+        match self {
+            RemoveFault::NameNotFound => f.write_str("no field has that name"),
+            RemoveFault::BadIndex => f.write_str("the field has not so many values"),
+        }
+    }
+}
+
+impl Error for RemoveFault {}
 
 impl From<NoMemory> for AddFault {
     ghost use Rattle.std.specs.Prelude.{◌≡◌};

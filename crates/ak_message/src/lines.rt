@@ -13,6 +13,8 @@ use crate::marks::is_blank;
 use crate::words::{WordsFault, split_words};
 use ak_base::{Items, RefusalKind};
 use std::alloc::{AllocFailed, Global};
+use std::error::Error;
+use std::fmt;
 
 /// The longest input, in bytes.
 pub const INPUT_LIMIT: usize = 1_048_576;
@@ -43,6 +45,17 @@ pub enum LinesFault {
     /// Memory ran out.
     NoMemory,
 }
+
+impl fmt::Display for LinesFault {
+    fn fmt<W: fmt::Write>(&self, f: &mut fmt::Formatter<W>) -> fmt::Result {
+        match self {
+            LinesFault::TooLong { line } => write!(f, "line {line}: over 1,048,576 bytes"),
+            LinesFault::NoMemory => f.write_str("no memory"),
+        }
+    }
+}
+
+impl Error for LinesFault {}
 
 impl<T: Drop> From<AllocFailed<T>> for LinesFault {
     ghost use Rattle.std.specs.Prelude.{◌≡◌};

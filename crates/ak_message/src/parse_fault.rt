@@ -1,5 +1,7 @@
 use ak_base::NoMemory;
 use std::alloc::{AllocError, AllocFailed};
+use std::error::Error;
+use std::fmt;
 
 /// Why no value or message was read. They are tested in this order.
 #[derive(Clone, Copy, Debug, PartialEq, Eq)]
@@ -13,6 +15,18 @@ pub enum ParseFault {
     /// Memory ran out.
     NoMemory,
 }
+
+impl fmt::Display for ParseFault {
+    fn fmt<W: fmt::Write>(&self, f: &mut fmt::Formatter<W>) -> fmt::Result {
+        match self {
+            ParseFault::BadValue => f.write_str("the words are not of its form"),
+            ParseFault::Limit => f.write_str("a limit is passed"),
+            ParseFault::NoMemory => f.write_str("no memory"),
+        }
+    }
+}
+
+impl Error for ParseFault {}
 
 impl From<NoMemory> for ParseFault {
     ghost use Rattle.std.specs.Prelude.{◌≡◌};

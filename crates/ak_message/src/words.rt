@@ -11,6 +11,8 @@ use crate::line::Word;
 use crate::marks::{Marks, is_blank};
 use ak_base::{Bytes, Items, NoMemory};
 use std::alloc::{AllocFailed, Global};
+use std::error::Error;
+use std::fmt;
 
 /// Why a line has no words. They are tested in this order.
 #[derive(Clone, Copy, Debug, PartialEq, Eq)]
@@ -22,6 +24,20 @@ pub enum WordsFault {
     /// Memory ran out.
     NoMemory,
 }
+
+impl fmt::Display for WordsFault {
+    fn fmt<W: fmt::Write>(&self, f: &mut fmt::Formatter<W>) -> fmt::Result {
+        match self {
+            WordsFault::NotUtf8 => f.write_str("the line is not UTF-8"),
+            WordsFault::BadWord => {
+                f.write_str("a word is not closed, or has an escape that is none")
+            }
+            WordsFault::NoMemory => f.write_str("no memory"),
+        }
+    }
+}
+
+impl Error for WordsFault {}
 
 impl From<NoMemory> for WordsFault {
     ghost use Rattle.std.specs.Prelude.{◌≡◌};

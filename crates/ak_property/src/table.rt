@@ -6,6 +6,8 @@ ghost use Rattle.ak_property.specs.Limits.{row_limit};
 use ak_base::{Code, Items, NoMemory, Text};
 use ak_message::Kind;
 use std::alloc::{AllocFailed, Global};
+use std::error::Error;
+use std::fmt;
 use std::marker::Model;
 
 /// How many rows a table may have.
@@ -35,6 +37,17 @@ pub enum RowFault {
     /// Memory ran out.
     NoMemory,
 }
+
+impl fmt::Display for RowFault {
+    fn fmt<W: fmt::Write>(&self, f: &mut fmt::Formatter<W>) -> fmt::Result {
+        match self {
+            RowFault::RowLimit => f.write_str("there are 64 rows"),
+            RowFault::NoMemory => f.write_str("no memory"),
+        }
+    }
+}
+
+impl Error for RowFault {}
 
 impl<T: Drop> From<AllocFailed<T>> for RowFault {
     ghost use Rattle.std.specs.Prelude.{◌≡◌};

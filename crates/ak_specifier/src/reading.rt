@@ -8,10 +8,20 @@ ghost use Rattle.ak_specifier.specs.Current.{current_message, current_of, specif
 use crate::popping::left;
 use ak_base::{Code, Text};
 use ak_message::{AtRef, Kind, Message, SpecifierRef, Value};
+use std::error::Error;
+use std::fmt;
 
 /// No specifier is left, or the current one is badly formed.
 #[derive(Clone, Copy, Debug, PartialEq, Eq)]
 pub struct BadScript;
+
+impl fmt::Display for BadScript {
+    fn fmt<W: fmt::Write>(&self, f: &mut fmt::Formatter<W>) -> fmt::Result {
+        f.write_str("no specifier is left, or it is badly formed")
+    }
+}
+
+impl Error for BadScript {}
 
 /// The current specifier: the last one added that is not popped. Its code is the number of its form. Its
 /// fields are `property`, a text, and those of its form: `index`, `range` (the count) and `id`, which are
