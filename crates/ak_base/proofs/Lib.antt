@@ -6,3 +6,4 @@ pub mod Words
 pub mod Looking
 pub mod Surface
 pub mod Pigeons
+pub mod Zeros

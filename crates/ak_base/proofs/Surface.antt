@@ -5,3 +5,4 @@ pub use Rattle.ak_base.proofs.Looking.{find-All, find-map, is_some-position, pos
 pub use Rattle.ak_base.proofs.Options.{bind_some, cond_some, done, none_is, passed, some_is}
 pub use Rattle.ak_base.proofs.Pigeons.{few_below, pigeons}
 pub use Rattle.ak_base.proofs.Words.{word_ascii, word_byte, word_has_no_zero, word_parts}
+pub use Rattle.ak_base.proofs.Zeros.{no_zero, zero_in}

@@ -1,14 +1,15 @@
 -- The bytes of one value: what they are read as is spelled so, and a value's bytes are read as the value.
-use Rattle.std.proofs.Common.{◌≡◌, ℕ, zero, suc, ◌+◌, ◌^◌, ◌<◌, ◌≤◌, Bool, true, false, cond, not, ◌&&◌, ◌||◌, eqb, leb, ℤ, List, [], ◌∷◌, ◌++◌, length, get_or, Contains, Result, Ok, Err, refl, sym, ap, subst, ◌∙◌, append_assoc, arith, inl, inr, Fits}
+use Rattle.std.proofs.Common.{◌≡◌, ℕ, ◌+◌, ◌^◌, ◌<◌, ◌≤◌, Bool, true, false, cond, not, ◌&&◌, ◌||◌, eqb, leb, ℤ, List, [], ◌∷◌, ◌++◌, length, get_or, Contains, Result, Ok, Err, refl, sym, ap, subst, ◌∙◌, append_assoc, arith, inl, inr, Fits}
 use Rattle.std.specs.Prelude.{FitsSigned, IsUtf8}
 use Rattle.std.specs.Int.{Width, w8, w16, w32, w64, byte_len, from_be_bytes, to_be_bytes, cast_signed, cast_unsigned}
 use Rattle.std.specs.List.{list_any}
 use Rattle.std.specs.Str.{is_utf8}
 use Rattle.std.proofs.Math.Facts.{sfits_to_z, Fits-of_z, of_z-to_z}
-use Rattle.std.proofs.lemmas.Bool.{leb-true, le-leb, eqb-true, eq-eqb, and_parts, and_from, and_left, and_right, not_from_true, false_from_ne_true, true_from_ne_false, or_cases, or_parts, cond_both, cases_eq, or_from, not-true, not_from_false, ne_eqb}
+use Rattle.std.proofs.lemmas.Bool.{leb-true, le-leb, eqb-true, and_parts, and_from, and_left, and_right, not_from_true, false_from_ne_true, true_from_ne_false, or_cases, cond_both, cases_eq, not-true, not_from_false}
 use Rattle.std.proofs.lemmas.Int.{to_z-of_z}
 use Rattle.std.proofs.lemmas.List.{append-nil, length-append}
 use Rattle.std.proofs.lemmas.Str.{IsUtf8-from_is_utf8, is_utf8-from_IsUtf8}
+use Rattle.ak_base.proofs.Surface.{no_zero, zero_in}
 use Rattle.ak_base.specs.Text.{IsText}
 use Rattle.ak_message.specs.declared.address.Address.{Address}
 use Rattle.ak_message.specs.declared.address.Target.{Target}
@@ -64,16 +65,6 @@ signed_again w limit wide p z fits =
     (cast_unsigned w z, a.0, a.1, to_z-of_z w z fits)
 
 -- ---- texts
-no_zero : (bytes : List ℕ) → list_any (λ b. eqb b 0) bytes ≡ false → Contains bytes 0 → ⊥
-no_zero [] none c = omega (arith, c.1)
-no_zero (b ∷ bytes) none (zero, lt, is) = let e = eq-eqb b 0 is in let n = (or_parts (eqb b 0) (list_any (λ x. eqb x 0) bytes) none).0 in absurd cc
-no_zero (b ∷ bytes) none (suc i, lt, is) = no_zero bytes (or_parts (eqb b 0) (list_any (λ x. eqb x 0) bytes) none).1 (i, omega arith, is)
-
-zero_in : (bytes : List ℕ) → (Contains bytes 0 → ⊥) → list_any (λ b. eqb b 0) bytes ≡ false
-zero_in [] none = refl
-zero_in (b ∷ bytes) none =
-    or_from _ _ (ne_eqb b 0 (λ e. none (0, omega arith, e))) (zero_in bytes (λ c. none (suc c.0, omega (arith, c.1), c.2)))
-
 pub text_is : (bytes : List ℕ) → IsText bytes → is_text bytes ≡ true
 text_is bytes h = and_from _ _ (is_utf8-from_IsUtf8 bytes h.1) (not_from_false _ (zero_in bytes h.0.1))
 

@@ -1,10 +1,11 @@
 -- Which bytes in quotes are a text.
-use Rattle.std.proofs.Common.{◌≡◌, ℕ, suc, ◌<◌, ◌≤◌, true, false, eqb, List, [], ◌∷◌, length, Option, Some, None, Result, refl, subst, zero, arith}
+use Rattle.std.proofs.Common.{◌≡◌, ℕ, ◌<◌, ◌≤◌, true, eqb, List, length, Option, Some, None, Result, refl, subst}
 use Rattle.std.specs.Prelude.{Contains, IsUtf8}
 use Rattle.std.specs.List.{list_any}
 use Rattle.std.specs.Str.{is_utf8}
-use Rattle.std.proofs.lemmas.Bool.{le-leb, ne_eqb, eq-eqb, or_from, or_parts, true_from_ne_false, lt-leb}
+use Rattle.std.proofs.lemmas.Bool.{le-leb, true_from_ne_false, lt-leb}
 use Rattle.std.proofs.lemmas.Str.{IsUtf8-from_is_utf8}
+use Rattle.ak_base.proofs.Surface.{no_zero, zero_in}
 use Rattle.ak_base.specs.Text.{IsText}
 use Rattle.ak_message.specs.declared.kind.Kind.TheVariants as k
 use Rattle.ak_message.specs.Message.{text_value}
@@ -12,16 +13,6 @@ use Rattle.ak_message.specs.Payload.{unquoted}
 use Rattle.ak_message.specs.Reading.{got, over, text_of, text_got, text_from}
 use Rattle.ak_message.specs.declared.parse_fault.ParseFault.{ParseFault}
 use Rattle.ak_message.specs.ReadSeen.{Gives}
-
-no_zero : (bytes : List ℕ) → list_any (λ b. eqb b 0) bytes ≡ false → Contains bytes 0 → ⊥
-no_zero [] none c = omega (arith, c.1)
-no_zero (b ∷ bytes) none (zero, lt, is) = let e = eq-eqb b 0 is in let n = (or_parts (eqb b 0) (list_any (λ x. eqb x 0) bytes) none).0 in absurd cc
-no_zero (b ∷ bytes) none (suc i, lt, is) = no_zero bytes (or_parts (eqb b 0) (list_any (λ x. eqb x 0) bytes) none).1 (i, omega arith, is)
-
-zero_in : (bytes : List ℕ) → (Contains bytes 0 → ⊥) → list_any (λ b. eqb b 0) bytes ≡ false
-zero_in [] none = refl
-zero_in (b ∷ bytes) none =
-    or_from _ _ (ne_eqb b 0 (λ e. none (0, omega arith, e))) (zero_in bytes (λ c. none (suc c.0, omega (arith, c.1), c.2)))
 
 pub text_ok : (bytes : List ℕ) → is_utf8 bytes ≡ true → IsText bytes → text_of bytes ≡ Some (got (text_value bytes))
 text_ok bytes utf8 h = rw (utf8, le-leb _ _ h.0.0, zero_in bytes h.0.1) refl
