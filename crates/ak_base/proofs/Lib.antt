@@ -7,3 +7,4 @@ pub mod Looking
 pub mod Surface
 pub mod Pigeons
 pub mod Zeros
+pub mod Lists

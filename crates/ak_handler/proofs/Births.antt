@@ -1,9 +1,10 @@
 -- What changes do to the tokens of handlers.
-use Rattle.std.proofs.Common.{◌≡◌, ℕ, zero, suc, ◌+◌, ◌<◌, ◌≤◌, ◌⊎◌, not, List, [], ◌∷◌, ◌++◌, map, filter, All, AllPairs, Contains, Option, None, Some, ⊎_elim, inl, inr, refl, subst, arith}
+use Rattle.std.proofs.Common.{◌≡◌, ℕ, ◌+◌, ◌<◌, ◌≤◌, ◌⊎◌, not, List, [], ◌∷◌, ◌++◌, map, filter, All, AllPairs, Contains, Option, None, Some, ⊎_elim, inl, inr, refl, subst, arith}
 use Rattle.std.proofs.lemmas.Bool.{cond_both}
 use Rattle.std.proofs.lemmas.List.{map-append}
 use Rattle.std.proofs.lemmas.List.Elements.{All-nil, All-cons, All-head, All-tail, All-append, All-weaker, All-map, All-filter, All-contains, Contains-append_left, Contains-append_right, Contains-append_cases}
 use Rattle.std.proofs.lemmas.List.Kept.{AllPairs-cons}
+use Rattle.ak_base.proofs.Surface.{head_pairs, tail_pairs}
 use Rattle.ak_handler.specs.declared.fault.HandlerFault.{HandlerFault}
 use Rattle.ak_handler.specs.Handlers.{HandlerData, HandlersData, tokens_of, has_token}
 use Rattle.ak_handler.specs.Changes.{add_fault, with_handler, remove_fault, without_handler, relinked, next_fault, linked, with_next, preferred_fault, holding, with_content}
@@ -14,12 +15,6 @@ use Rattle.ak_handler.proofs.Tokens.{contains_token}
 -- ---- pairs of a list
 no_pairs : {X : Type 0} (R : X → X → Type 0) → AllPairs R []
 no_pairs R = λ i j d lt within. absurd (omega arith)
-
-tail_pairs : {X : Type 0} (R : X → X → Type 0) (x : X) (xs : List X) → AllPairs R (x ∷ xs) → AllPairs R xs
-tail_pairs R x xs h = λ i j d lt within. h (suc i) (suc j) d (omega arith) (omega arith)
-
-head_pairs : {X : Type 0} (R : X → X → Type 0) (x : X) (xs : List X) → AllPairs R (x ∷ xs) → All (R x) xs
-head_pairs R x xs h = λ k d within. h zero (suc k) d (omega arith) (omega arith)
 
 pairs-append : {X : Type 0} (R : X → X → Type 0) (xs ys : List X) → AllPairs R xs → AllPairs R ys → All (λ x. All (R x) ys) xs → AllPairs R (xs ++ ys)
 pairs-append R [] ys first second across = second

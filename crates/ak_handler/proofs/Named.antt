@@ -7,17 +7,12 @@ use Rattle.std.specs.String.{string_bytes, string_eq}
 use Rattle.std.specs.declared.string.String.{String}
 use Rattle.std.proofs.lemmas.List.{map_push}
 use Rattle.std.proofs.lemmas.Option.{slice_get-map}
+use Rattle.ak_base.proofs.Surface.{map-remove}
 use Rattle.indexmap.specs.IndexMap.{IndexMap, insert_entry, set_value_at}
 use Rattle.indexmap.proofs.CallerLemmas.{insert_entry-new}
 use Rattle.ak_handler.specs.declared.rows.Row.{Row}
 use Rattle.ak_handler.specs.Handlers.{HandlerData, has_name, token_named}
 use Rattle.ak_handler.specs.Rows.{handler_seen, list_seen, changed_at}
-
-pub map-remove : {A B : Type 0} (f : A → B) (xs : List A) (i : ℕ) → map f (remove xs i) ≡ remove (map f xs) i
-map-remove f [] zero = refl
-map-remove f [] (suc i) = refl
-map-remove f (x ∷ xs) zero = refl
-map-remove f (x ∷ xs) (suc i) = ap (λ t. f x ∷ t) (map-remove f xs i)
 
 module _ {K R : Type 0} where
   -- ---- the handlers of the entries: one more at the end, one changed at its place, one taken out

@@ -3,6 +3,7 @@ use Rattle.std.proofs.Common.{◌≡◌, ℕ, zero, suc, ◌<◌, ◌≤◌, Boo
 use Rattle.std.specs.List.{position_or_len, position, cons_option}
 use Rattle.std.proofs.lemmas.List.{map-set, length-map}
 use Rattle.std.proofs.Math.ListN.{get_or-map}
+use Rattle.ak_base.proofs.Surface.{map-remove}
 use Rattle.ak_message.specs.declared.message.Value.{Value}
 use Rattle.ak_message.specs.declared.message.Field.{Field}
 use Rattle.ak_message.specs.Message.{ValueData, FieldData}
@@ -11,12 +12,6 @@ use Rattle.ak_message.specs.Seen.{value_of, field_of, fields_of}
 use Rattle.ak_message.proofs.Adding.{fields-unchanged}
 
 -- ---- lists
-pub map-remove : {A B : Type 0} (f : A → B) (xs : List A) (i : ℕ) → map f (remove xs i) ≡ remove (map f xs) i
-map-remove f [] zero = refl
-map-remove f [] (suc i) = refl
-map-remove f (x ∷ xs) zero = refl
-map-remove f (x ∷ xs) (suc i) = ap (λ t. f x ∷ t) (map-remove f xs i)
-
 pub remove-set : {A : Type 0} (xs : List A) (i : ℕ) (x : A) → remove (set xs i x) i ≡ remove xs i
 remove-set [] zero x = refl
 remove-set [] (suc i) x = refl

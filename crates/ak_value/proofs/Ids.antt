@@ -6,6 +6,7 @@ use Rattle.std.proofs.lemmas.List.Elements.{All-append, All-cons, All-take, All-
 use Rattle.std.proofs.lemmas.List.Folds.{drop_split}
 use Rattle.std.proofs.lemmas.List.Kept.{AllPairs-cons}
 use Rattle.std.proofs.lemmas.List.Quantifiers.{all_pairs_push}
+use Rattle.ak_base.proofs.Surface.{head_pairs, tail_pairs}
 use Rattle.ak_message.specs.declared.specifier.At.{At}
 use Rattle.ak_message.specs.Message.{ValueData, MessageData}
 use Rattle.ak_value.specs.declared.fault.ElementFault.{ElementFault}
@@ -15,12 +16,6 @@ use Rattle.ak_value.specs.Access.{Accessed, access_of, has_form, gets, sets, cou
 use Rattle.ak_value.specs.Laws.{Command, elements_after, after, ids_of, IdsStayRising, NoIdIsUsedAgain}
 
 -- ---- a list without a part of it
-tail_pairs : {X : Type 0} (R : X → X → Type 0) (x : X) (xs : List X) → AllPairs R (x ∷ xs) → AllPairs R xs
-tail_pairs R x xs h = λ i j d lt within. h (suc i) (suc j) d (omega arith) (omega arith)
-
-head_pairs : {X : Type 0} (R : X → X → Type 0) (x : X) (xs : List X) → AllPairs R (x ∷ xs) → All (R x) xs
-head_pairs R x xs h = λ k d within. h zero (suc k) d (omega arith) (omega arith)
-
 pairs_behind : {X : Type 0} (R : X → X → Type 0) (b : ℕ) (xs : List X) → AllPairs R xs → AllPairs R (drop b xs)
 pairs_behind R zero xs h = h
 pairs_behind R (suc b) [] h = h
