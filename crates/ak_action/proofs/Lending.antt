@@ -1,8 +1,9 @@
 -- What a handler holds is changed in the state, where it is there.
 use Rattle.std.proofs.Common.{◌≡◌, ℕ, Bool, true, false, cond, List, [], ◌∷◌, map, find, Option, None, Some, option_map, unwrap_or, slice_get, length, ◌+◌, ◌≤◌, refl, ap, sym, ◌∙◌}
 use Rattle.std.proofs.Math.Bridge.{le_prop}
+use Rattle.ak_handler.proofs.Surface.{map-held_by_none}
 use Rattle.ak_handler.specs.Changes.{content_of, holding, with_content}
-use Rattle.ak_handler.specs.Handlers.{HandlerData, handler_of, has_token}
+use Rattle.ak_handler.specs.Handlers.{HandlerData, has_token}
 use Rattle.ak_value.specs.Elements.{ElementsData}
 use Rattle.ak_action.specs.declared.action.Reaction.{Reaction}
 use Rattle.ak_action.specs.declared.row.DeskRow.{DeskRow}
@@ -10,18 +11,6 @@ use Rattle.ak_action.specs.declared.state.DeskState.{DeskState}
 use Rattle.ak_action.specs.Doing.{row_of, with_row}
 use Rattle.ak_action.specs.Interp.{actions_of, reaction_actions}
 use Rattle.ak_action.specs.Row.{empty_row}
-
-module _ {R : Type 0} (token : ℕ) (content : R) where
-  skipped : (b : Bool) (h : HandlerData R) (rest : Option (HandlerData R)) → option_map (λ (h : HandlerData R). h.content) (cond b (Some h) rest) ≡ None → (b ≡ false) × (option_map (λ (h : HandlerData R). h.content) rest ≡ None)
-  skipped true h rest e = absurd cc
-  skipped false h rest e = (refl, e)
-
-  -- no handler has the token, so none changes
-  map-held_by_none : (list : List (HandlerData R)) → content_of list token ≡ None → map (holding token content) list ≡ list
-  map-held_by_none [] e = refl
-  map-held_by_none (h ∷ list) e =
-      let head = skipped (has_token token h) h (handler_of list token) e in
-      rw head.0 (ap (λ (t : List (HandlerData R)). h ∷ t) (map-held_by_none list head.1))
 
 module _ {R : Type 0} (token : ℕ) (content : R) where
   held_by : (b : Bool) (h : HandlerData R) (after list : List (HandlerData R)) → has_token token h ≡ b → content_of after token ≡ option_map (λ _. content) (content_of list token) → content_of (cond b (record h { content = content }) h ∷ after) token ≡ option_map (λ _. content) (content_of (h ∷ list) token)

@@ -1,9 +1,10 @@
 -- A command on the elements of a handler, and what the handlers are then.
-use Rattle.std.proofs.Common.{◌≡◌, ◌≢◌, ℕ, ◌+◌, ◌≤◌, Bool, true, false, cond, List, [], ◌∷◌, map, length, Option, None, Some, option_map, unwrap_or, Result, Ok, Err, IfOk, IfErr, IsOkUnless, refl, sym, ap, subst, ◌∙◌}
+use Rattle.std.proofs.Common.{◌≡◌, ◌≢◌, ℕ, ◌+◌, ◌≤◌, List, length, Option, None, Some, unwrap_or, Result, Ok, Err, IfOk, IfErr, IsOkUnless, sym, ap, subst, ◌∙◌}
 use Rattle.std.proofs.Math.Bridge.{le_prop}
+use Rattle.ak_handler.proofs.Surface.{map-held_by_none}
 use Rattle.ak_base.specs.declared.no_memory.NoMemory.{NoMemory}
-use Rattle.ak_handler.specs.Changes.{content_of, holding, with_content}
-use Rattle.ak_handler.specs.Handlers.{HandlerData, HandlersData, handler_of, has_token}
+use Rattle.ak_handler.specs.Changes.{content_of, with_content}
+use Rattle.ak_handler.specs.Handlers.{HandlerData, HandlersData}
 use Rattle.ak_message.specs.Message.{MessageData}
 use Rattle.ak_value.specs.declared.fault.ElementFault.{ElementFault}
 use Rattle.ak_value.specs.declared.fault.ElementFault.TheVariants as fault
@@ -45,20 +46,8 @@ module _ (h : HandlersData DeskRow) (token : ℕ) where
   accessed_none (Err f) reply e = ap (λ (m : MessageData). record { handlers = h; reply = m }) (ap (λ p. p.0) e)
 
 -- ---- the handlers
-module _ {R : Type 0} (token : ℕ) (content : R) where
-  skipped : (b : Bool) (h : HandlerData R) (rest : Option (HandlerData R)) → option_map (λ (h : HandlerData R). h.content) (cond b (Some h) rest) ≡ None → (b ≡ false) × (option_map (λ (h : HandlerData R). h.content) rest ≡ None)
-  skipped true h rest e = absurd cc
-  skipped false h rest e = (refl, e)
-
-  -- no handler has the token, so none changes
-  held_by_none : (list : List (HandlerData R)) → content_of list token ≡ None → map (holding token content) list ≡ list
-  held_by_none [] e = refl
-  held_by_none (h ∷ list) e =
-      let head = skipped (has_token token h) h (handler_of list token) e in
-      rw head.0 (ap (λ (t : List (HandlerData R)). h ∷ t) (held_by_none list head.1))
-
 pub put_none : (h : HandlersData DeskRow) (token : ℕ) (row : DeskRow) → content_of h.list token ≡ None → h ≡ with_content h token row
-put_none h token row e = ap (λ (list : List (HandlerData DeskRow)). record h { list = list }) (sym (held_by_none token row h.list e))
+put_none h token row e = ap (λ (list : List (HandlerData DeskRow)). record h { list = list }) (sym (map-held_by_none token row h.list e))
 
 pub put_there : (h : HandlersData DeskRow) (token : ℕ) (row : DeskRow) (elements : List ElementsData) → content_of h.list token ≡ Some row → with_content h token (record row { elements = elements }) ≡ with_content h token (record (row_in h token) { elements = elements })
 put_there h token row elements e =

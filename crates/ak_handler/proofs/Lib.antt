@@ -15,3 +15,4 @@ pub mod Relinking
 pub mod Removing
 pub mod Tokens
 pub mod Surface
+pub mod Held

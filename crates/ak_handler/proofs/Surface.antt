@@ -1,4 +1,5 @@
 -- What the layers above may cite of these proofs: they name this file alone.
 pub use Rattle.ak_handler.proofs.Chains.{chains_are_whole-proof}
+pub use Rattle.ak_handler.proofs.Held.{map-held_by_none}
 pub use Rattle.ak_handler.proofs.Placed.{none_there, placed_at}
 pub use Rattle.ak_handler.proofs.Tokens.{contains_token, found_has, found_there, looper_there}
