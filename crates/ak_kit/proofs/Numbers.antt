@@ -1,28 +1,16 @@
 -- The text of a number of 32 bits is read as that number.
-use Rattle.std.proofs.Common.{◌≡◌, ℕ, suc, ◌≤◌, Bool, true, false, ◌&&◌, List, length, ℤ, pos, negsuc, neg_ℤ, Option, Some, None, refl, sym, ap, ◌∙◌, arith, rules}
-use Rattle.std.specs.Prelude.{int_le, unsigned_abs, codes}
+use Rattle.std.proofs.Common.{◌≡◌, ℕ, suc, ◌≤◌, Bool, true, false, ◌&&◌, List, length, ℤ, pos, negsuc, Option, Some, None, refl, sym, arith, rules}
+use Rattle.std.specs.Prelude.{int_le, unsigned_abs}
 use Rattle.std.specs.Str.{bytes_eq}
-use Rattle.std.specs.Str.Parse.{digits_value}
 use Rattle.std.specs.Fmt.{decimal, signed_decimal}
-use Rattle.std.proofs.lemmas.Fmt.{decimal_is_IsNumeral_wide}
 use Rattle.std.proofs.lemmas.Slice.Eq.{bytes_eq-Decides}
 use Rattle.ak_base.specs.Number.{IsIntText}
-use Rattle.ak_base.proofs.Surface.{below_from_short, short_from_below, decimal-ne_minus}
+use Rattle.ak_base.proofs.Surface.{short_from_below}
 use Rattle.ak_base.specs.Option.{where_true}
-use Rattle.ak_kit.specs.Reading.{int_value, is_int32, int32_of}
-use Rattle.ak_kit.proofs.Fronts.{not_begins}
+use Rattle.ak_message.specs.Payload.{int_value}
+use Rattle.ak_kit.specs.Reading.{is_int32, int32_of}
 use Rattle.std.proofs.lemmas.Bool.{and_parts}
-
-digits_value-decimal : (n : ℕ) → length (decimal n) ≤ 20 → digits_value 10 (decimal n) ≡ n
-digits_value-decimal n short = let below = below_from_short n short in (decimal_is_IsNumeral_wide n (omega arith)).1
-
-int_value-decimal : (n : ℕ) → length (decimal n) ≤ 20 → int_value (decimal n) ≡ pos n
-int_value-decimal n short =
-    rw (not_begins (codes "-") (decimal n) (λ rest. decimal-ne_minus n rest short)) (ap (λ (k : ℕ). pos k) (digits_value-decimal n short))
-
-pub int_value-text : (text : List ℕ) (z : ℤ) → IsIntText text z → int_value text ≡ z
-int_value-text text (pos n) is = ap int_value is.printed ∙ int_value-decimal n is.short
-int_value-text text (negsuc n) is = ap int_value is.printed ∙ ap (λ (k : ℕ). neg_ℤ (pos k)) (digits_value-decimal (suc n) is.short)
+use Rattle.ak_message.proofs.Surface.{int_value-text}
 
 -- a text that a number has
 pub int32_found : (text : List ℕ) (z : ℤ) → IsIntText text z → int32_of text ≡ where_true (is_int32 z) z

@@ -1,13 +1,13 @@
 -- Reading such an input from its front: each reader answers what it read and the bytes after it, or nothing.
-use Rattle.std.specs.Prelude.{ℕ, zero, suc, ◌++◌, Bool, not, ◌&&◌, ◌||◌, ◌==◌, List, [], ◌∷◌, length, take, drop, codes, ℤ, pos, negsuc, neg_ℤ, unsigned_abs, int_le, Option, Some, None, if◌then◌else◌}
+use Rattle.std.specs.Prelude.{ℕ, zero, suc, ◌++◌, Bool, not, ◌&&◌, ◌||◌, ◌==◌, List, [], ◌∷◌, length, take, drop, codes, ℤ, pos, negsuc, unsigned_abs, int_le, Option, Some, None}
 use Rattle.std.specs.Option.{option_map_or}
 use Rattle.std.specs.List.{prefix_len}
 use Rattle.std.specs.Str.{bytes_eq}
-use Rattle.std.specs.Str.Parse.{digits_value}
 use Rattle.std.specs.Fmt.{signed_decimal}
 use Rattle.ak_base.specs.Word.{is_word}
 use Rattle.ak_base.specs.Option.{◌>>=◌, where_true}
 use Rattle.ak_base.specs.Limits.{capacity_limit}
+use Rattle.ak_message.specs.Payload.{int_value}
 use Rattle.ak_property.specs.Limits.{row_limit}
 use Rattle.ak_base.specs.AppName.{begins_with, is_path, is_signature, last_part}
 use Rattle.ak_kit.specs.FirstInput.{Script, is_mode, is_askable, names_differ}
@@ -29,10 +29,6 @@ unfoldable pub field_at : ℕ → List ℕ → Option (List ℕ × List ℕ)
 field_at gap bytes = do
   rest ← after (gap ∷ []) (drop (field_len bytes) bytes)
   Some (take (field_len bytes) bytes, rest)
-
--- the number that a sign and digits write
-abbrev pub int_value : List ℕ → ℤ
-int_value text = if begins_with (codes "-") text then neg_ℤ (pos (digits_value 10 (drop 1 text))) else pos (digits_value 10 text)
 
 abbrev pub is_int32 : ℤ → Bool
 is_int32 z = int_le (negsuc 2147483647) z && int_le z (pos 2147483647)

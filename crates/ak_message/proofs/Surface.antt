@@ -3,4 +3,4 @@ pub use Rattle.ak_message.proofs.CodeLaws.{code_again, code_takes, no_code}
 pub use Rattle.ak_message.proofs.Finding.{added_values_are_found-proof}
 pub use Rattle.ak_message.proofs.HexLaws.{raws_take}
 pub use Rattle.ak_message.proofs.Keeping.{depth-added, sound_after}
-pub use Rattle.ak_message.proofs.Numbers.{int_found, int_none, ints_read}
+pub use Rattle.ak_message.proofs.Numbers.{int_found, int_none, int_value-text, ints_read}
