@@ -1,5 +1,5 @@
 -- Items of messages with their envelopes.
-use Rattle.std.proofs.Common.{◌≡◌, ℕ, ◌≤◌, true, refl, sym, subst}
+use Rattle.std.proofs.Common.{◌≡◌, ℕ, ◌≤◌, true, refl, sym, ap, ◌∙◌, subst}
 use Rattle.std.specs.Prelude.{Result, Ok, Err}
 use Rattle.ak_message.specs.Message.{MessageData}
 use Rattle.ak_message.specs.Fields.{specifier_count}
@@ -14,7 +14,8 @@ use Rattle.ak_port.specs.PortMachine.{LacksRoom}
 use Rattle.ak_messenger.specs.declared.fault.SendFault.{SendFault}
 use Rattle.ak_messenger.specs.declared.fault.SendFault.TheVariants as fault
 use Rattle.ak_messenger.specs.Asks.{IsWritten}
-use Rattle.ak_messenger.specs.Sends.{IfReached, post_answer, write_fault}
+use Rattle.ak_messenger.specs.declared.envelope.Envelope.{Envelope}
+use Rattle.ak_messenger.specs.Sends.{IfReached, back_duty, item_in, post_answer, post_event, write_fault}
 
 -- an item has as many specifiers as its message
 pub popped_fits : (n : ℕ) (item : ItemData) (m : MessageData) → message_of item ≡ record (unpopped m) { popped = m.popped } → n ≤ specifier_count m.fields → n ≤ specifier_count (message_of item).fields
@@ -44,3 +45,14 @@ written_so (answer.Closed back) item c c' s s' answered not_full room = answered
 written_so (answer.Spent back) item c c' s s' answered not_full room = answered
 written_so (answer.Full back) item c c' s s' answered not_full room = absurd (not_full refl)
 written_so (answer.NoMemory back) item c c' s s' answered not_full room = record { looked = answered; room = room }
+
+-- the one entry of a post is that of its write
+post_entry : (a : WriteAnswer) (e : Envelope) (m : MessageData) → post_event e m (post_answer a) ≡ write_entry a (item_in e (back_duty e.back) m)
+post_entry (answer.Wrote p) e m = refl
+post_entry (answer.Closed back) e m = refl
+post_entry (answer.Spent back) e m = refl
+post_entry (answer.Full back) e m = refl
+post_entry (answer.NoMemory back) e m = refl
+
+pub posted_entry : (a : WriteAnswer) (item : ItemData) (e : Envelope) (m : MessageData) (r : Result ℕ SendFault) → r ≡ post_answer a → item ≡ item_in e (back_duty e.back) m → post_event e m r ≡ write_entry a item
+posted_entry a item e m r is same = ap (post_event e m) is ∙ post_entry a e m ∙ ap (write_entry a) (sym same)
