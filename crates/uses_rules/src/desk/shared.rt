@@ -108,7 +108,13 @@ fn entries(desk: &Desk) -> Result<[Entry; 5], Fail> {
 }
 
 fn answers_in(entries: &[Entry; 5]) -> [EditAnswer; 5] {
-    [entries[0].2, entries[1].2, entries[2].2, entries[3].2, entries[4].2]
+    [
+        entries[0].2,
+        entries[1].2,
+        entries[2].2,
+        entries[3].2,
+        entries[4].2,
+    ]
 }
 
 fn edited<R: Wait>(rt: &R, alloc: Global) -> Result<Edited, Fail> {
