@@ -1,0 +1,24 @@
+-- What is printed is read back.
+use Rattle.std.specs.Prelude.{◌≡◌, List, map, Some}
+use Rattle.ak_message.specs.declared.line.Word.{Word}
+use Rattle.ak_message.specs.Message.{ValueData, MessageData}
+use Rattle.ak_message.specs.MessageText.{value_text, message_text, message_words}
+use Rattle.ak_message.specs.Popped.{IsUnpoppedValue, IsUnpopped}
+use Rattle.ak_message.specs.Reading.{got, read_value, read_message}
+use Rattle.ak_message.specs.Whole.{FitsValue, IsWhole}
+use Rattle.ak_message.specs.Words.{IsLine}
+
+-- a value that is sound at every depth, with nothing popped in it, is read from its text
+abbrev pub PrintedValuesAreRead : Type 0
+PrintedValuesAreRead = (v : ValueData) → FitsValue v → IsUnpoppedValue v → read_value (value_text v) ≡ Some (got v)
+
+-- a message that is sound at every depth, with nothing popped, is read from the words of its text
+abbrev pub PrintedMessagesAreRead : Type 0
+PrintedMessagesAreRead = (m : MessageData) → IsWhole m → IsUnpopped m → read_message (message_words m) ≡ Some (Some m)
+
+-- and these are the words of its text, as a line has them
+abbrev pub PrintedWordsAreThere : Type 0
+PrintedWordsAreThere =
+    (m : MessageData)
+    → IsWhole m
+    → (words : List Word) × IsLine 1 (message_text m) words × (map (λ (word : Word). word.bytes) words ≡ message_words m)
