@@ -16,6 +16,7 @@ pub mod Numbers
 pub mod Passing
 pub mod PieceLoop
 pub mod PiecesAgain
+pub mod PrintedUtf8
 pub mod QuotedLaws
 pub mod Remaining
 pub mod Specifiers

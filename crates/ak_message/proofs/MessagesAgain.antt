@@ -1,10 +1,10 @@
 -- What is printed of a value and of a message is read, where nothing is popped.
-use Rattle.std.proofs.Common.{◌≡◌, ℕ, zero, suc, ◌+◌, ◌-◌, ◌<◌, ◌≤◌, true, false, eqb, ltb, List, [], ◌∷◌, ◌++◌, length, take, get_or, Bool, Option, Some, refl, sym, ap, subst, ◌∙◌, arith}
+use Rattle.std.proofs.Common.{◌≡◌, ℕ, zero, suc, ◌+◌, ◌-◌, ◌<◌, ◌≤◌, true, false, eqb, ltb, List, [], ◌∷◌, ◌++◌, codes, length, take, get_or, Bool, Option, Some, refl, sym, ap, subst, ◌∙◌, arith}
 use Rattle.std.specs.Prelude.{filter}
-use Rattle.std.specs.List.{slice_get}
+use Rattle.std.specs.List.{flat_map, slice_get}
 use Rattle.std.proofs.lemmas.Bool.{ne_eqb, le-ltb}
 use Rattle.std.proofs.lemmas.List.{length-append, take_at, get_or_at}
-use Rattle.ak_base.specs.Code.{bytes_of, may_all_be_quoted, code_text}
+use Rattle.ak_base.specs.Code.{bytes_of, hex_of, may_all_be_quoted, code_text}
 use Rattle.ak_base.proofs.Codes.{code_text-quoted, code_text-hex}
 use Rattle.ak_message.specs.declared.pieces.Separator.TheVariants as by
 use Rattle.ak_message.specs.Fields.{IsMessage}
@@ -45,8 +45,8 @@ filled front b rest =
 pub code_filled : (what : ℕ) → eqb (length (code_text what)) 0 ≡ false
 code_filled what = by_form (may_all_be_quoted (bytes_of what)) refl where
   by_form : (all : Bool) → may_all_be_quoted (bytes_of what) ≡ all → eqb (length (code_text what)) 0 ≡ false
-  by_form true all = subst (λ (t : List ℕ). eqb (length t) 0 ≡ false) (sym (code_text-quoted what all)) refl
-  by_form false some = subst (λ (t : List ℕ). eqb (length t) 0 ≡ false) (sym (code_text-hex what some)) refl
+  by_form true all = subst (λ (t : List ℕ). eqb (length t) 0 ≡ false) (sym (code_text-quoted what all)) (ne_eqb (length (39 ∷ bytes_of what ++ 39 ∷ [])) 0 (λ e. omega arith))
+  by_form false some = subst (λ (t : List ℕ). eqb (length t) 0 ≡ false) (sym (code_text-hex what some)) (ne_eqb (length (codes "0x" ++ flat_map hex_of (bytes_of what))) 0 (λ e. omega arith))
 
 fields_filled : (fs : NestedFields) → AreFilled (field_texts fs)
 fields_filled no_fields = tt

@@ -202,7 +202,7 @@ no_zero_digit (suc (suc (suc (suc (suc (suc (suc (suc (suc (suc (suc (suc (suc (
 no_zero_digit (suc (suc (suc (suc (suc (suc (suc (suc (suc (suc (suc (suc (suc (suc (suc zero))))))))))))))) positive lt = refl
 no_zero_digit (suc (suc (suc (suc (suc (suc (suc (suc (suc (suc (suc (suc (suc (suc (suc (suc d)))))))))))))))) positive lt = absurd (omega arith)
 
-hex_words : (bytes : List ℕ) → All (λ b. b < 256) bytes → list_all is_word_byte (flat_map hex_of bytes) ≡ true
+pub hex_words : (bytes : List ℕ) → All (λ b. b < 256) bytes → list_all is_word_byte (flat_map hex_of bytes) ≡ true
 hex_words [] small = refl
 hex_words (b ∷ bytes) small =
     let lt : b < 256 = All-head (λ b. b < 256) b bytes small in
@@ -296,7 +296,7 @@ quoted_passes bytes n all =
 
 -- ---- the letters of a kind, and a colon
 
-letters_are_words : (kind : Kind) → list_all is_word_byte (kind_letters kind) ≡ true
+pub letters_are_words : (kind : Kind) → list_all is_word_byte (kind_letters kind) ≡ true
 letters_are_words k.Bool = refl
 letters_are_words k.Int8 = refl
 letters_are_words k.Int16 = refl

@@ -1,5 +1,5 @@
 -- What is printed is read back.
-use Rattle.std.specs.Prelude.{◌≡◌, List, map, Some}
+use Rattle.std.specs.Prelude.{◌≡◌, List, map, Some, IsUtf8}
 use Rattle.ak_message.specs.declared.line.Word.{Word}
 use Rattle.ak_message.specs.Message.{ValueData, MessageData}
 use Rattle.ak_message.specs.MessageText.{value_text, message_text, message_words}
@@ -22,3 +22,7 @@ PrintedWordsAreThere =
     (m : MessageData)
     → IsWhole m
     → (words : List Word) × IsLine 1 (message_text m) words × (map (λ (word : Word). word.bytes) words ≡ message_words m)
+
+-- a line is split only where it is UTF-8
+abbrev pub PrintedTextsAreUtf8 : Type 0
+PrintedTextsAreUtf8 = (m : MessageData) → IsWhole m → IsUtf8 (message_text m)
