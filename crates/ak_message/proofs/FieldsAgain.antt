@@ -17,7 +17,7 @@ use Rattle.ak_message.specs.Kind.{is_same_kind}
 use Rattle.ak_message.specs.Message.{ValueData, NestedValues, no_values, then_value, NestedFields, no_fields, then_field, FieldData, MessageData, kind_of, depth_of_value, depth_of_nested_values, depth_of_nested_fields, listed_values, listed_fields, message_of_nested}
 use Rattle.ak_message.specs.MessageText.{value_text, more_values_text, nested_values_text, field_texts}
 use Rattle.ak_message.specs.Pieces.{pieces_of}
-use Rattle.ak_message.specs.Reading.{Got, Built, got, value_with, values_added, field_split, field_behind, fields_behind, code_from, message_of}
+use Rattle.ak_message.specs.Reading.{Got, GotValues, Built, got, value_with, values_with, values_of, values_behind, values_added, field_split, field_behind, fields_behind, code_from, message_of}
 use Rattle.ak_message.specs.Whole.{FitsValues, FitsFields}
 use Rattle.ak_message.specs.Words.{◌>>=◌}
 use Rattle.ak_message.proofs.CodeLaws.{code_again}
@@ -146,6 +146,32 @@ module _ (message : List ℕ → Option Got) (what : ℕ) (name : List ℕ) (kin
       (ap read_built (sym (map_push name_of front (field name kind (v ∷ listed_values vs))))) where
         read_built : List (List ℕ) → Option Built
         read_built names = Some (record { names = names; message = read_so_far (v ∷ listed_values vs) })
+
+-- ---- values alone
+
+abbrev pub values_of_kind : Kind → List ValueData → Option GotValues
+values_of_kind kind values = Some (record { kind = kind; values = Some values })
+
+behind_again : (message : List ℕ → Option Got) (kind : Kind) (vs : NestedValues) (values : List ValueData) → AreRead message vs → All (λ v. kind_of v ≡ kind) (listed_values vs) → length values + length (listed_values vs) ≤ 255
+    → values_behind message (value_texts vs) (record { kind = kind; values = Some values }) ≡ values_of_kind kind (values ++ listed_values vs)
+unfolding values_behind
+behind_again message kind no_values values read kinds room = rw (append-nil values) refl
+behind_again message kind (then_value v vs) values read kinds room =
+    let is : kind_of v ≡ kind = All-head (λ v. kind_of v ≡ kind) v (listed_values vs) kinds in
+    let later = All-tail (λ v. kind_of v ≡ kind) v (listed_values vs) kinds in
+    let fits : is_same_kind (kind_of v) kind ≡ true = rw is (same_kind-refl kind) in
+    let long = length-append values (v ∷ []) in
+    let next = behind_again message kind vs (values ++ v ∷ []) read.1 later (omega (arith, room, long)) in
+    rw (read.0, fits, lt-ltb (length values) 255 (omega (arith, room))) (next ∙ ap (λ (all : List ValueData). values_of_kind kind all) (append_assoc values (v ∷ []) (listed_values vs)))
+
+pub values_alone : (message : List ℕ → Option Got) (kind : Kind) (vs : NestedValues) → AreRead message vs → FitsValues vs → All (λ v. kind_of v ≡ kind) (listed_values vs) → 0 < length (listed_values vs) → length (listed_values vs) ≤ 255
+    → values_with message (nested_values_text vs) ≡ values_of_kind kind (listed_values vs)
+unfolding values_of
+values_alone message kind no_values read fits kinds some few = absurd (omega (arith, some))
+values_alone message kind (then_value v vs) read fits kinds some few =
+    let is : kind_of v ≡ kind = All-head (λ v. kind_of v ≡ kind) v (listed_values vs) kinds in
+    let later = All-tail (λ v. kind_of v ≡ kind) v (listed_values vs) kinds in
+    rw (values_again v vs fits.0 fits.1, read.0, is) (behind_again message kind vs (v ∷ []) read.1 later (omega (arith, few)))
 
 -- ---- fields
 

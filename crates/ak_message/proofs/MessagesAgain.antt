@@ -1,6 +1,6 @@
 -- What is printed of a value and of a message is read, where nothing is popped.
 use Rattle.std.proofs.Common.{◌≡◌, ℕ, zero, suc, ◌+◌, ◌-◌, ◌<◌, ◌≤◌, true, false, eqb, ltb, List, [], ◌∷◌, ◌++◌, codes, length, take, get_or, Bool, Option, Some, refl, sym, ap, subst, ◌∙◌, arith}
-use Rattle.std.specs.Prelude.{filter}
+use Rattle.std.specs.Prelude.{All, filter}
 use Rattle.std.specs.List.{flat_map, slice_get}
 use Rattle.std.proofs.lemmas.Bool.{ne_eqb, le-ltb}
 use Rattle.std.proofs.lemmas.List.{length-append, take_at, get_or_at}
@@ -8,16 +8,16 @@ use Rattle.ak_base.specs.Code.{bytes_of, hex_of, may_all_be_quoted, code_text}
 use Rattle.ak_base.proofs.Codes.{code_text-quoted, code_text-hex}
 use Rattle.ak_message.specs.declared.pieces.Separator.TheVariants as by
 use Rattle.ak_message.specs.Fields.{IsMessage}
-use Rattle.ak_message.specs.Laws.{PrintedValuesAreRead, PrintedMessagesAreRead}
+use Rattle.ak_message.specs.Laws.{PrintedValuesAreRead, PrintedFieldsAreRead, PrintedMessagesAreRead}
 use Rattle.ak_message.specs.Message.{ValueData, bool_value, int8_value, int16_value, int32_value, int64_value, uint8_value, uint16_value, uint32_value, uint64_value, text_value, message_value, messenger_value, raw_value, NestedValues, no_values, then_value, NestedFields, no_fields, then_field, MessageData, kind_of, depth_of_value, depth_of_nested_values, depth_of_nested_fields, nested_values, listed_values, nested_fields, listed_fields, message_of_nested}
-use Rattle.ak_message.specs.MessageCode.{listed_fields-nested}
+use Rattle.ak_message.specs.MessageCode.{listed_values-nested, listed_fields-nested}
 use Rattle.ak_message.specs.MessageText.{payload_text, nested_values_text, nested_fields_text, value_text, field_texts}
 use Rattle.ak_message.specs.Pieces.{pieces_of, braced}
 use Rattle.ak_message.specs.Popped.{IsUnpoppedValue, AreUnpoppedValues, AreUnpoppedFields}
 use Rattle.ak_message.specs.Reading.{Got, got, payload_from, value_with, is_some_bytes, is_missing, words_of, message_from}
 use Rattle.ak_message.specs.Whole.{FitsValue, FitsValues, FitsFields}
 use Rattle.ak_message.specs.Words.{◌>>=◌}
-use Rattle.ak_message.proofs.FieldsAgain.{AreRead, FieldsAreRead, message_is_read}
+use Rattle.ak_message.proofs.FieldsAgain.{AreRead, FieldsAreRead, values_of_kind, values_alone, message_is_read}
 use Rattle.ak_message.proofs.PiecesAgain.{code_passes_word, words_again}
 use Rattle.ak_message.proofs.ValuesAgain.{value_is, bool_again, int8_again, int16_again, int32_again, int64_again, uint8_again, uint16_again, uint32_again, uint64_again, text_again, messenger_again, raw_again}
 
@@ -111,17 +111,17 @@ module _ (message : List ℕ → Option Got) (levels : ℕ) (again : MessageAgai
   are_read (then_value v vs) fits unpopped shallow =
       (value_again v fits.0 unpopped.0 (omega (arith, shallow)), are_read vs fits.1 unpopped.1 (omega (arith, shallow)))
 
-  fields_are_read : (fs : NestedFields) → FitsFields fs → AreUnpoppedFields fs → depth_of_nested_fields fs ≤ levels → FieldsAreRead message fs
-  fields_are_read no_fields fits unpopped shallow = tt
-  fields_are_read (then_field name kind vs fs) fits unpopped shallow =
-      (are_read vs fits.0 unpopped.0 (omega (arith, shallow)), fields_are_read fs fits.1 unpopped.1 (omega (arith, shallow)))
+  each_is_read : (fs : NestedFields) → FitsFields fs → AreUnpoppedFields fs → depth_of_nested_fields fs ≤ levels → FieldsAreRead message fs
+  each_is_read no_fields fits unpopped shallow = tt
+  each_is_read (then_field name kind vs fs) fits unpopped shallow =
+      (are_read vs fits.0 unpopped.0 (omega (arith, shallow)), each_is_read fs fits.1 unpopped.1 (omega (arith, shallow)))
 
 -- ---- messages in braces, level by level
 message_again : (levels : ℕ) → levels ≤ 16 → MessageAgain (message_from levels) levels
 unfolding message_from
 message_again zero le what fs is fits unpopped shallow = absurd (omega arith)
 message_again (suc levels) le what fs is fits unpopped shallow =
-    let read = fields_are_read (message_from levels) levels (message_again levels (omega arith)) fs fits unpopped (omega arith) in
+    let read = each_is_read (message_from levels) levels (message_again levels (omega arith)) fs fits unpopped (omega arith) in
     let pieces = words_again (code_text what) fs (code_passes_word what) is.every_field fits in
     let words = words_are (code_text what ++ nested_fields_text fs) (code_text what) fs (code_filled what) pieces in
     let made = message_is_read (message_from levels) what fs is fits read (omega arith) in
@@ -148,6 +148,16 @@ pub values_are_read : PrintedValuesAreRead
 values_are_read v fits unpopped =
     value_again (message_from 16) 16 (message_again 16 (omega arith)) v fits unpopped (depth_within v fits)
 
+pub fields_are_read : PrintedFieldsAreRead
+fields_are_read f is fits unpopped shallow =
+    let same : listed_values (nested_values f.values) ≡ f.values = listed_values-nested f.values in
+    let again : f.values ≡ listed_values (nested_values f.values) = sym same in
+    let read = are_read (message_from 15) 15 (message_again 15 (omega arith)) (nested_values f.values) fits unpopped (omega (arith, shallow)) in
+    let kinds : All (λ v. kind_of v ≡ f.kind) (listed_values (nested_values f.values)) = subst (λ (vs : List ValueData). All (λ v. kind_of v ≡ f.kind) vs) again is.same_kind in
+    let some : 0 < length (listed_values (nested_values f.values)) = subst (λ (vs : List ValueData). 0 < length vs) again is.filled in
+    let few : length (listed_values (nested_values f.values)) ≤ 255 = subst (λ (vs : List ValueData). length vs ≤ 255) again is.limit in
+    values_alone (message_from 15) f.kind (nested_values f.values) read fits kinds some few ∙ ap (λ (vs : List ValueData). values_of_kind f.kind vs) same
+
 abbrev found : MessageData → Option (Option MessageData)
 found m = Some (Some m)
 
@@ -156,5 +166,5 @@ messages_are_read m whole unpopped =
     let same : message_of_nested m.what (nested_fields m.fields) 0 ≡ m = λ i. record { what = m.what; fields = listed_fields-nested m.fields i; popped = (sym unpopped.0) i } in
     let is : IsMessage (message_of_nested m.what (nested_fields m.fields) 0) = subst IsMessage (sym same) whole.0 in
     let shallow : depth_of_nested_fields (nested_fields m.fields) ≤ 15 = omega (arith, whole.0.depth_within) in
-    let read = fields_are_read (message_from 15) 15 (message_again 15 (omega arith)) (nested_fields m.fields) whole.1 unpopped.1 shallow in
+    let read = each_is_read (message_from 15) 15 (message_again 15 (omega arith)) (nested_fields m.fields) whole.1 unpopped.1 shallow in
     message_is_read (message_from 15) m.what (nested_fields m.fields) is whole.1 read shallow ∙ ap found same

@@ -1,16 +1,28 @@
 -- What is printed is read back.
-use Rattle.std.specs.Prelude.{◌≡◌, List, map, Some, IsUtf8}
+use Rattle.std.specs.Prelude.{◌≡◌, ◌<◌, List, map, Some, IsUtf8}
 use Rattle.ak_message.specs.declared.line.Word.{Word}
-use Rattle.ak_message.specs.Message.{ValueData, MessageData}
-use Rattle.ak_message.specs.MessageText.{value_text, message_text, message_words}
-use Rattle.ak_message.specs.Popped.{IsUnpoppedValue, IsUnpopped}
-use Rattle.ak_message.specs.Reading.{got, read_value, read_message}
-use Rattle.ak_message.specs.Whole.{FitsValue, IsWhole}
+use Rattle.ak_message.specs.Fields.{IsField}
+use Rattle.ak_message.specs.Limits.{depth_limit}
+use Rattle.ak_message.specs.Message.{ValueData, FieldData, MessageData, nested_values, depth_of_nested_values}
+use Rattle.ak_message.specs.MessageText.{value_text, nested_values_text, message_text, message_words}
+use Rattle.ak_message.specs.Popped.{IsUnpoppedValue, AreUnpoppedValues, IsUnpopped}
+use Rattle.ak_message.specs.Reading.{got, read_value, read_values, read_message}
+use Rattle.ak_message.specs.Whole.{FitsValue, FitsValues, IsWhole}
 use Rattle.ak_message.specs.Words.{IsLine}
 
 -- a value that is sound at every depth, with nothing popped in it, is read from its text
 abbrev pub PrintedValuesAreRead : Type 0
 PrintedValuesAreRead = (v : ValueData) → FitsValue v → IsUnpoppedValue v → read_value (value_text v) ≡ Some (got v)
+
+-- and so are the values of a field, of which a message is at most 15 deep
+abbrev pub PrintedFieldsAreRead : Type 0
+PrintedFieldsAreRead =
+    (f : FieldData)
+    → IsField f
+    → FitsValues (nested_values f.values)
+    → AreUnpoppedValues (nested_values f.values)
+    → depth_of_nested_values (nested_values f.values) < depth_limit
+    → read_values (nested_values_text (nested_values f.values)) ≡ Some (record { kind = f.kind; values = Some f.values })
 
 -- a message that is sound at every depth, with nothing popped, is read from the words of its text
 abbrev pub PrintedMessagesAreRead : Type 0
