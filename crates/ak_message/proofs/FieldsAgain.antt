@@ -1,5 +1,5 @@
 -- The fields of a message are read from their texts, where each value is read from its own.
-use Rattle.std.proofs.Common.{◌≡◌, ◌≢◌, ℕ, suc, ◌+◌, ◌<◌, ◌≤◌, true, false, List, [], ◌∷◌, ◌++◌, length, map, take, get_or, Option, Some, None, refl, sym, ap, subst, ◌∙◌, append_assoc, arith}
+use Rattle.std.proofs.Common.{◌≡◌, ◌≢◌, ℕ, suc, ◌+◌, ◌<◌, ◌≤◌, true, false, List, [], ◌∷◌, ◌++◌, length, map, get_or, Option, Some, None, refl, sym, ap, subst, ◌∙◌, append_assoc, arith}
 use Rattle.std.specs.Prelude.{All, AllPairs}
 use Rattle.std.specs.List.{list_any}
 use Rattle.std.specs.Str.{bytes_eq}
@@ -10,19 +10,17 @@ use Rattle.std.proofs.lemmas.Slice.Eq.{bytes_eq-Decides}
 use Rattle.ak_base.specs.Code.{code_text}
 use Rattle.ak_base.specs.Word.{is_word_byte, is_word}
 use Rattle.ak_base.proofs.Codes.{printed_codes_are_read}
+use Rattle.ak_base.proofs.Surface.{word_parts}
 use Rattle.ak_message.specs.declared.kind.Kind.{Kind}
-use Rattle.ak_message.specs.declared.pieces.Separator.TheVariants as by
 use Rattle.ak_message.specs.Fields.{field_named, added, add_fault, new_field, IsField, IsMessage}
 use Rattle.ak_message.specs.Kind.{is_same_kind}
 use Rattle.ak_message.specs.Message.{ValueData, NestedValues, no_values, then_value, NestedFields, no_fields, then_field, FieldData, MessageData, kind_of, depth_of_value, depth_of_nested_values, depth_of_nested_fields, listed_values, listed_fields, message_of_nested}
 use Rattle.ak_message.specs.MessageText.{value_text, more_values_text, nested_values_text, field_texts}
-use Rattle.ak_message.specs.Pieces.{pieces_of}
-use Rattle.ak_message.specs.Reading.{Got, GotValues, Built, got, value_with, values_with, values_of, values_behind, values_added, field_split, field_behind, fields_behind, code_from, message_of}
+use Rattle.ak_message.specs.Reading.{Got, GotValues, Built, got, value_with, values_with, values_of, values_behind, add_or_not, values_added, field_split, field_behind, fields_behind, message_of}
 use Rattle.ak_message.specs.Whole.{FitsValues, FitsFields}
-use Rattle.ak_message.specs.Words.{◌>>=◌}
 use Rattle.ak_message.proofs.CodeLaws.{code_again}
 use Rattle.ak_message.proofs.Finding.{names_differ, same_kind-refl}
-use Rattle.ak_message.proofs.PiecesAgain.{word_bytes, value_texts, values_again}
+use Rattle.ak_message.proofs.PiecesAgain.{value_texts, values_again}
 use Rattle.ak_message.proofs.ValuesAgain.{position_again, drop_past}
 
 -- each of these values is read from its text
@@ -104,7 +102,7 @@ no_fault_more name kind values v fs word new same room shallow =
 split_again : (name text : List ℕ) → is_word name ≡ true → field_split (name ++ 61 ∷ text) ≡ Some (name, text)
 unfolding field_split
 split_again name text word =
-    rw (position_again is_word_byte 61 name text (word_bytes name word) refl, take_at name (61 ∷ text) (length name) refl, drop_past name 61 text, word) refl
+    rw (position_again is_word_byte 61 name text (word_parts name word).1 refl, take_at name (61 ∷ text) (length name) refl, drop_past name 61 text, word) refl
 
 module _ (message : List ℕ → Option Got) (what : ℕ) (name : List ℕ) (kind : Kind) (front : List FieldData) (word : is_word name ≡ true) (new : NoneNamed name front) where
   -- the message, with these values in the field
@@ -135,7 +133,11 @@ module _ (message : List ℕ → Option Got) (what : ℕ) (name : List ℕ) (kin
       let is : kind_of v ≡ kind = All-head (λ v. kind_of v ≡ kind) v (listed_values vs) kinds in
       let later = All-tail (λ v. kind_of v ≡ kind) v (listed_values vs) kinds in
       let none = no_fault_new name v front word new room (omega (arith, shallow)) in
-      rw (read.0, none, added_new name v front new, is) (more_added vs (v ∷ []) read.1 later (omega (arith, few)) (omega (arith, shallow)))
+      let first : values_added message name (value_text v ∷ value_texts vs) None (Some (with_fields what front)) ≡ values_added message name (value_texts vs) (Some (kind_of v)) (add_or_not (add_fault front name v) (with_fields what front) name v) = rw read.0 refl in
+      let grown : add_or_not (add_fault front name v) (with_fields what front) name v ≡ Some (with_fields what (front ++ new_field name v ∷ [])) = rw (none, added_new name v front new) refl in
+      let next : values_added message name (value_texts vs) (Some (kind_of v)) (Some (with_fields what (front ++ new_field name v ∷ []))) ≡ read_whole (v ∷ listed_values vs) =
+      rw is (more_added vs (v ∷ []) read.1 later (omega (arith, few)) (omega (arith, shallow))) in
+      first ∙ ap (λ (m : Option MessageData). values_added message name (value_texts vs) (Some (kind_of v)) m) grown ∙ next
 
   field_again : (vs : NestedValues) → IsField (field name kind (listed_values vs)) → AreRead message vs → FitsValues vs → length front < 64 → depth_of_nested_values vs ≤ 15
       → field_behind message (built what front) (name ++ 61 ∷ nested_values_text vs) ≡ Some (built what (front ++ field name kind (listed_values vs) ∷ []))

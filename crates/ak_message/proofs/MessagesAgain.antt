@@ -1,5 +1,5 @@
 -- What is printed of a value and of a message is read, where nothing is popped.
-use Rattle.std.proofs.Common.{◌≡◌, ℕ, zero, suc, ◌+◌, ◌-◌, ◌<◌, ◌≤◌, true, false, eqb, ltb, List, [], ◌∷◌, ◌++◌, codes, length, take, get_or, Bool, Option, Some, refl, sym, ap, subst, ◌∙◌, arith}
+use Rattle.std.proofs.Common.{◌≡◌, ℕ, zero, suc, ◌-◌, ◌<◌, ◌≤◌, true, false, eqb, ltb, List, [], ◌∷◌, ◌++◌, codes, length, take, get_or, Bool, Option, Some, refl, sym, ap, subst, ◌∙◌, arith}
 use Rattle.std.specs.Prelude.{All, filter}
 use Rattle.std.specs.List.{flat_map, slice_get}
 use Rattle.std.proofs.lemmas.Bool.{ne_eqb, le-ltb}
@@ -16,7 +16,6 @@ use Rattle.ak_message.specs.Pieces.{pieces_of, braced}
 use Rattle.ak_message.specs.Popped.{IsUnpoppedValue, AreUnpoppedValues, AreUnpoppedFields}
 use Rattle.ak_message.specs.Reading.{Got, got, payload_from, value_with, is_some_bytes, is_missing, words_of, message_from}
 use Rattle.ak_message.specs.Whole.{FitsValue, FitsValues, FitsFields}
-use Rattle.ak_message.specs.Words.{◌>>=◌}
 use Rattle.ak_message.proofs.FieldsAgain.{AreRead, FieldsAreRead, values_of_kind, values_alone, message_is_read}
 use Rattle.ak_message.proofs.PiecesAgain.{code_passes_word, words_again}
 use Rattle.ak_message.proofs.ValuesAgain.{value_is, bool_again, int8_again, int16_again, int32_again, int64_again, uint8_again, uint16_again, uint32_again, uint64_again, text_again, messenger_again, raw_again}

@@ -1,18 +1,18 @@
 -- The text of a value closes all that it opens, and nothing in it ends a piece: what leads from marks to marks.
-use Rattle.std.proofs.Common.{◌≡◌, ℕ, zero, suc, ◌+◌, ◌-◌, ◌/◌, ◌%◌, ◌^◌, ◌<◌, ◌≤◌, Bool, true, false, not, ◌&&◌, ◌||◌, eqb, leb, ltb, List, [], ◌∷◌, ◌++◌, codes, ℤ, pos, negsuc, Some, refl, sym, ap, subst, inl, inr, arith}
+use Rattle.std.proofs.Common.{◌≡◌, ℕ, zero, suc, ◌+◌, ◌-◌, ◌/◌, ◌%◌, ◌^◌, ◌<◌, ◌≤◌, Bool, true, false, not, ◌&&◌, ◌||◌, eqb, leb, List, [], ◌∷◌, ◌++◌, codes, ℤ, pos, negsuc, Some, refl, sym, subst, inl, inr, arith}
 use Rattle.std.specs.Prelude.{All, FitsSigned, unsigned_abs}
 use Rattle.std.specs.Char.{digit_char}
 use Rattle.std.specs.Fmt.{decimal, signed_decimal}
 use Rattle.std.specs.Int.{w8, w16, w32, w64}
 use Rattle.std.specs.List.{flat_map, list_all}
 use Rattle.std.specs.Str.Parse.{AllDigits}
-use Rattle.std.proofs.lemmas.Bool.{and_left, and_right, and_parts, or_parts, or_from, not-true, both_ways, eqb-true, ne_eqb, le-leb, le-ltb, cases_lt}
+use Rattle.std.proofs.lemmas.Bool.{and_right, and_parts, or_parts, or_from, not-true, both_ways, eqb-true, ne_eqb, le-leb, le-ltb, cases_lt}
 use Rattle.std.proofs.lemmas.List.Elements.{All-head, All-tail}
 use Rattle.std.proofs.lemmas.Str.Parse.{digit_from_value}
 use Rattle.ak_base.specs.Code.{bytes_of, hex_of, may_be_quoted, may_all_be_quoted, code_text}
 use Rattle.ak_base.specs.Word.{is_word_byte}
 use Rattle.ak_base.proofs.Codes.{code_text-quoted, code_text-hex}
-use Rattle.ak_base.proofs.Digits.{short_from_below, IsForm-decimal}
+use Rattle.ak_base.proofs.Surface.{IsForm-decimal, short_from_below}
 use Rattle.ak_message.specs.declared.kind.Kind.{Kind}
 use Rattle.ak_message.specs.declared.kind.Kind.TheVariants as k
 use Rattle.ak_message.specs.declared.marks.Marks.{Marks}
@@ -85,15 +85,15 @@ pub record Spares (test : ℕ → Bool) : Type 0 where
   pub brace_out : test 125 ≡ false
 
 pub differs : (test : ℕ → Bool) (b c : ℕ) → test b ≡ true → test c ≡ false → eqb b c ≡ false
-differs test b c yes no = ne_eqb b c (λ e. both_ways (test c) no (subst (λ (x : ℕ). test x ≡ true) e yes))
+differs test b c passes fails = ne_eqb b c (λ e. both_ways (test c) fails (subst (λ (x : ℕ). test x ≡ true) e passes))
 
 spared_step : (test : ℕ → Bool) → Spares test → (b n : ℕ) → test b ≡ true → step (within n) b ≡ Some (within n)
-spared_step test spares b n yes =
-    rw (differs test b 34 yes spares.double, differs test b 39 yes spares.single, differs test b 123 yes spares.brace_in, differs test b 125 yes spares.brace_out, differs test b 91 yes spares.bracket_in, differs test b 93 yes spares.bracket_out) refl
+spared_step test spares b n passes =
+    rw (differs test b 34 passes spares.double, differs test b 39 passes spares.single, differs test b 123 passes spares.brace_in, differs test b 125 passes spares.brace_out, differs test b 91 passes spares.bracket_in, differs test b 93 passes spares.bracket_out) refl
 
 spared_end : (test : ℕ → Bool) → Spares test → (b : ℕ) → test b ≡ true → value_end b ≡ false
-spared_end test spares b yes =
-    rw (differs test b 32 yes spares.space, differs test b 9 yes spares.tab, differs test b 44 yes spares.comma, differs test b 91 yes spares.bracket_in) refl
+spared_end test spares b passes =
+    rw (differs test b 32 passes spares.space, differs test b 9 passes spares.tab, differs test b 44 passes spares.comma, differs test b 91 passes spares.bracket_in) refl
 
 pub passes_spared : (test : ℕ → Bool) → Spares test → (text : List ℕ) (n : ℕ) → list_all test text ≡ true → Passes value_end (within n) text (within n)
 passes_spared test spares [] n all = refl
@@ -224,12 +224,14 @@ pub code_passes : (what n : ℕ) → Passes value_end (within n) (code_text what
 code_passes what n = by_form (may_all_be_quoted (bytes_of what)) refl where
   by_form : (all : Bool) → may_all_be_quoted (bytes_of what) ≡ all → Passes value_end (within n) (code_text what) (within n)
   by_form true all =
-      subst (λ (t : List ℕ). Passes value_end (within n) t (within n)) (sym (code_text-quoted what all))
-      (and_right (is_outside (within n)) (value_end 39) refl, (
-        quotes_in q.Single n,
-        refl,
-        passes-append value_end (bytes_of what) (39 ∷ []) (quotes_in q.Single n) (quotes_in q.Single n) (within n) (single_passes (bytes_of what) n all) (refl, (within n, refl, refl)),
-      ))
+      subst (λ (t : List ℕ). Passes value_end (within n) t (within n)) (sym (code_text-quoted what all)) (
+        and_right (is_outside (within n)) (value_end 39) refl,
+        (
+          quotes_in q.Single n,
+          refl,
+          passes-append value_end (bytes_of what) (39 ∷ []) (quotes_in q.Single n) (quotes_in q.Single n) (within n) (single_passes (bytes_of what) n all) (refl, (within n, refl, refl)),
+        ),
+      )
   by_form false some =
       subst (λ (t : List ℕ). Passes value_end (within n) t (within n)) (sym (code_text-hex what some))
       (passes_spared is_word_byte spares_word (codes "0x" ++ flat_map hex_of (bytes_of what)) n (hex_words (bytes_of what) (small_bytes what)))
@@ -287,12 +289,14 @@ bytes_stay (b ∷ bytes) n all =
     passes-append value_end (quoted_byte b) (flat_map quoted_byte bytes) (quotes_in q.Double n) (quotes_in q.Double n) (quotes_in q.Double n) (byte_stays b n (All-head (λ b. 0 < b) b bytes all)) (bytes_stay bytes n (All-tail (λ b. 0 < b) b bytes all))
 
 pub quoted_passes : (bytes : List ℕ) (n : ℕ) → Positive bytes → Passes value_end (within n) (quoted bytes) (within n)
-quoted_passes bytes n all =
-    (and_right (is_outside (within n)) (value_end 34) refl, (
-      quotes_in q.Double n,
-      refl,
-      passes-append value_end (flat_map quoted_byte bytes) (34 ∷ []) (quotes_in q.Double n) (quotes_in q.Double n) (within n) (bytes_stay bytes n all) (refl, (within n, refl, refl)),
-    ))
+quoted_passes bytes n all = (
+  and_right (is_outside (within n)) (value_end 34) refl,
+  (
+    quotes_in q.Double n,
+    refl,
+    passes-append value_end (flat_map quoted_byte bytes) (34 ∷ []) (quotes_in q.Double n) (quotes_in q.Double n) (within n) (bytes_stay bytes n all) (refl, (within n, refl, refl)),
+  ),
+)
 
 -- ---- the letters of a kind, and a colon
 
@@ -325,9 +329,11 @@ closes n = let less : n + 1 - 1 ≡ n = omega arith in rw less refl
 
 -- a body in braces
 pub braced_passes : (body : List ℕ) (n : ℕ) → Passes value_end (within (n + 1)) body (within (n + 1)) → Passes value_end (within n) (123 ∷ body ++ 125 ∷ []) (within n)
-braced_passes body n h =
-    (and_right (is_outside (within n)) (value_end 123) refl, (
-      within (n + 1),
-      refl,
-      passes-append value_end body (125 ∷ []) (within (n + 1)) (within (n + 1)) (within n) h (and_right (is_outside (within (n + 1))) (value_end 125) refl, (within n, closes n, refl)),
-    ))
+braced_passes body n h = (
+  and_right (is_outside (within n)) (value_end 123) refl,
+  (
+    within (n + 1),
+    refl,
+    passes-append value_end body (125 ∷ []) (within (n + 1)) (within (n + 1)) (within n) h (and_right (is_outside (within (n + 1))) (value_end 125) refl, (within n, closes n, refl)),
+  ),
+)

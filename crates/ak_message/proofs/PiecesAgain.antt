@@ -1,13 +1,13 @@
 -- The text of a value closes what it opens, so values between commas and fields between blanks are the pieces of their text.
-use Rattle.std.proofs.Common.{◌≡◌, ℕ, zero, suc, ◌+◌, ◌<◌, true, false, ◌&&◌, List, [], ◌∷◌, ◌++◌, length, get_or, codes, Some, refl, sym, subst, arith}
-use Rattle.std.specs.Prelude.{All, Contains, nat_lt, nat_le}
+use Rattle.std.proofs.Common.{◌≡◌, ℕ, zero, suc, ◌+◌, ◌<◌, true, false, List, [], ◌∷◌, ◌++◌, get_or, codes, Some, refl, sym, subst, arith}
+use Rattle.std.specs.Prelude.{All, Contains}
 use Rattle.std.specs.Fmt.{decimal}
-use Rattle.std.specs.List.{list_all}
-use Rattle.std.proofs.lemmas.Bool.{and_left, and_right, and_parts}
+use Rattle.std.proofs.lemmas.Bool.{and_left, and_right}
 use Rattle.std.proofs.lemmas.List.{append-nil}
 use Rattle.std.proofs.lemmas.List.Elements.{All-nil, All-cons, All-head, All-tail}
 use Rattle.ak_base.specs.Code.{code_text}
 use Rattle.ak_base.specs.Word.{is_word_byte, is_word}
+use Rattle.ak_base.proofs.Surface.{word_parts}
 use Rattle.ak_message.specs.declared.address.Address.{Address}
 use Rattle.ak_message.specs.declared.address.Target.{Target}
 use Rattle.ak_message.specs.declared.address.Target.TheVariants as target
@@ -37,10 +37,6 @@ no_zeros (suc b ∷ bytes) none =
 pub raw_small : (bytes : List ℕ) → ((i : ℕ) → get_or bytes i 0 < 256) → All (λ b. b < 256) bytes
 raw_small [] small = All-nil (λ b. b < 256)
 raw_small (b ∷ bytes) small = All-cons (λ b. b < 256) b bytes (small 0) (raw_small bytes (λ i. small (suc i)))
-
--- a word's bytes
-pub word_bytes : (name : List ℕ) → is_word name ≡ true → list_all is_word_byte name ≡ true
-word_bytes name h = (and_parts (nat_lt 0 (length name) && nat_le (length name) 64) (list_all is_word_byte name) h).1
 
 -- ---- the text of a value
 
@@ -76,13 +72,15 @@ mutual
   -- commas stand in braces
   values_pass : (vs : NestedValues) (n : ℕ) → FitsValues vs → Passes value_end (within (n + 1)) (more_values_text vs) (within (n + 1))
   values_pass no_values n fits = refl
-  values_pass (then_value v vs) n fits =
-      (and_left (is_outside (within (n + 1))) (value_end 44) (inside n), (
-        within (n + 1),
-        refl,
-        passes-append value_end (kind_letters (kind_of v) ++ 58 ∷ payload_text v) (more_values_text vs) (within (n + 1)) (within (n + 1)) (within (n + 1))
-        (letters_pass (kind_of v) (payload_text v) (n + 1) (payload_passes v (n + 1) fits.0)) (values_pass vs n fits.1),
-      ))
+  values_pass (then_value v vs) n fits = (
+    and_left (is_outside (within (n + 1))) (value_end 44) (inside n),
+    (
+      within (n + 1),
+      refl,
+      passes-append value_end (kind_letters (kind_of v) ++ 58 ∷ payload_text v) (more_values_text vs) (within (n + 1)) (within (n + 1)) (within (n + 1))
+          (letters_pass (kind_of v) (payload_text v) (n + 1) (payload_passes v (n + 1) fits.0)) (values_pass vs n fits.1),
+    ),
+  )
 
   all_values_pass : (vs : NestedValues) (n : ℕ) → FitsValues vs → Passes value_end (within (n + 1)) (nested_values_text vs) (within (n + 1))
   all_values_pass no_values n fits = refl
@@ -95,15 +93,17 @@ mutual
   fields_pass (then_field name kind vs fs) n every fits =
       let field : FieldData = record { name = name; kind = kind; values = listed_values vs } in
       let first = All-head IsField field (listed_fields fs) every in
-      let later = All-tail IsField field (listed_fields fs) every in
-      (and_left (is_outside (within (n + 1))) (value_end 32) (inside n), (
-        within (n + 1),
-        refl,
-        passes-append value_end (name ++ 61 ∷ nested_values_text vs) (nested_fields_text fs) (within (n + 1)) (within (n + 1)) (within (n + 1))
-        (passes-append value_end name (61 ∷ nested_values_text vs) (within (n + 1)) (within (n + 1)) (within (n + 1)) (passes_spared is_word_byte spares_word name (n + 1) (word_bytes name first.word))
-        (and_right (is_outside (within (n + 1))) (value_end 61) refl, (within (n + 1), refl, all_values_pass vs n fits.0)))
-        (fields_pass fs n later fits.1),
-      ))
+      let later = All-tail IsField field (listed_fields fs) every in (
+        and_left (is_outside (within (n + 1))) (value_end 32) (inside n),
+        (
+          within (n + 1),
+          refl,
+          passes-append value_end (name ++ 61 ∷ nested_values_text vs) (nested_fields_text fs) (within (n + 1)) (within (n + 1)) (within (n + 1))
+              (passes-append value_end name (61 ∷ nested_values_text vs) (within (n + 1)) (within (n + 1)) (within (n + 1)) (passes_spared is_word_byte spares_word name (n + 1) (word_parts name first.word).1)
+              (and_right (is_outside (within (n + 1))) (value_end 61) refl, (within (n + 1), refl, all_values_pass vs n fits.0)))
+              (fields_pass fs n later fits.1),
+        ),
+      )
 
 pub value_passes : (v : ValueData) (n : ℕ) → FitsValue v → Passes value_end (within n) (value_text v) (within n)
 value_passes v n fits = letters_pass (kind_of v) (payload_text v) n (payload_passes v n fits)
@@ -112,12 +112,14 @@ value_passes v n fits = letters_pass (kind_of v) (payload_text v) n (payload_pas
 
 more_pass : (vs : NestedValues) → FitsValues vs → Passes word_end start (more_values_text vs) start
 more_pass no_values fits = refl
-more_pass (then_value v vs) fits =
-    (refl, (
-      start,
-      refl,
-      passes-append word_end (value_text v) (more_values_text vs) start start start (passes_fewer value_end word_end fewer_words (value_text v) start start (value_passes v 0 fits.0)) (more_pass vs fits.1),
-    ))
+more_pass (then_value v vs) fits = (
+  refl,
+  (
+    start,
+    refl,
+    passes-append word_end (value_text v) (more_values_text vs) start start start (passes_fewer value_end word_end fewer_words (value_text v) start start (value_passes v 0 fits.0)) (more_pass vs fits.1),
+  ),
+)
 
 field_values_pass : (vs : NestedValues) → FitsValues vs → Passes word_end start (nested_values_text vs) start
 field_values_pass no_values fits = refl
@@ -126,7 +128,7 @@ field_values_pass (then_value v vs) fits =
 
 pub field_passes : (name : List ℕ) (vs : NestedValues) → is_word name ≡ true → FitsValues vs → Passes word_end start (name ++ 61 ∷ nested_values_text vs) start
 field_passes name vs word fits =
-    passes-append word_end name (61 ∷ nested_values_text vs) start start start (passes_fewer value_end word_end fewer_words name start start (passes_spared is_word_byte spares_word name 0 (word_bytes name word)))
+    passes-append word_end name (61 ∷ nested_values_text vs) start start start (passes_fewer value_end word_end fewer_words name start start (passes_spared is_word_byte spares_word name 0 (word_parts name word).1))
     (refl, (start, refl, field_values_pass vs fits))
 
 pub code_passes_word : (what : ℕ) → Passes word_end start (code_text what) start

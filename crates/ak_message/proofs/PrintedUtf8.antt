@@ -7,14 +7,14 @@ use Rattle.std.specs.Fmt.{decimal, signed_decimal}
 use Rattle.std.specs.List.{flat_map, list_all}
 use Rattle.std.specs.Str.{IsAscii}
 use Rattle.std.proofs.lemmas.Bool.{and_from, and_parts, ltb-true, leb-true, lt-ltb, le-ltb, le-leb, ne_eqb, cond_both, cases_lt}
-use Rattle.std.proofs.lemmas.Bool.Decides.{nat_tests}
 use Rattle.std.proofs.lemmas.List.{append-nil}
 use Rattle.std.proofs.lemmas.List.Concat.{flat_map-append}
 use Rattle.std.proofs.lemmas.List.Elements.{All-head, All-tail}
 use Rattle.std.proofs.lemmas.Str.{IsUtf8-append, IsUtf8-nil, IsUtf8-from_ascii, encode_ascii}
 use Rattle.ak_base.specs.Code.{bytes_of, hex_of, may_be_quoted, may_all_be_quoted, code_text}
-use Rattle.ak_base.specs.Word.{is_word_byte, is_word}
+use Rattle.ak_base.specs.Word.{is_word_byte}
 use Rattle.ak_base.proofs.Codes.{code_text-quoted, code_text-hex}
+use Rattle.ak_base.proofs.Surface.{word_byte, word_parts}
 use Rattle.ak_message.specs.declared.address.Address.{Address}
 use Rattle.ak_message.specs.declared.address.Target.{Target}
 use Rattle.ak_message.specs.declared.address.Target.TheVariants as target
@@ -28,7 +28,7 @@ use Rattle.ak_message.specs.MessageText.{quoted_byte, quoted, target_text, paylo
 use Rattle.ak_message.specs.Whole.{FitsTarget, FitsAddress, FitsValue, FitsValues, FitsFields}
 use Rattle.ak_message.proofs.CodeLaws.{small_bytes}
 use Rattle.ak_message.proofs.Passing.{is_digit, decimal_digits, hex_words, letters_are_words, small_8, small_16, small_32, small_64}
-use Rattle.ak_message.proofs.PiecesAgain.{raw_small, word_bytes}
+use Rattle.ak_message.proofs.PiecesAgain.{raw_small}
 use Rattle.ak_message.proofs.QuotedLaws.{plain_byte}
 
 -- ---- ASCII
@@ -50,11 +50,8 @@ all_pass test other wider (b ∷ text) all =
     let parts = and_parts (test b) (list_all test text) all in
     and_from (other b) (list_all other text) (wider b parts.0) (all_pass test other wider text parts.1)
 
-word_below : (b : ℕ) → is_word_byte b ≡ true → b < 128
-word_below b h = grind (arith, nat_tests)
-
 word_ascii : (b : ℕ) → is_word_byte b ≡ true → is_ascii b ≡ true
-word_ascii b h = lt-ltb b 128 (word_below b h)
+word_ascii b h = lt-ltb b 128 (word_byte b h).1
 
 digit_ascii : (b : ℕ) → is_digit b ≡ true → is_ascii b ≡ true
 digit_ascii b h =
@@ -232,7 +229,7 @@ mutual
       let later = All-tail IsField field (listed_fields fs) every in
       front_utf8 32 (name ++ 61 ∷ nested_values_text vs ++ nested_fields_text fs) refl
       (IsUtf8-append (name ++ 61 ∷ nested_values_text vs) (nested_fields_text fs)
-      (IsUtf8-append name (61 ∷ nested_values_text vs) (words_utf8 name (word_bytes name first.word)) (front_utf8 61 (nested_values_text vs) refl (all_values_utf8 vs fits.0))) (fields_utf8 fs later fits.1))
+      (IsUtf8-append name (61 ∷ nested_values_text vs) (words_utf8 name (word_parts name first.word).1) (front_utf8 61 (nested_values_text vs) refl (all_values_utf8 vs fits.0))) (fields_utf8 fs later fits.1))
 
 pub printed_utf8 : PrintedTextsAreUtf8
 printed_utf8 m whole =

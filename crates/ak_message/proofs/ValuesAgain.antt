@@ -1,6 +1,6 @@
 -- A value that is no message is read from its text.
-use Rattle.std.proofs.Common.{◌≡◌, ℕ, zero, suc, ◌+◌, ◌^◌, ◌<◌, ◌≤◌, Bool, true, false, not, ◌&&◌, ◌||◌, cond, eqb, leb, ltb, List, [], ◌∷◌, ◌++◌, length, take, drop, codes, ℤ, pos, negsuc, Option, Some, None, refl, sym, ap, subst, ◌∙◌, arith}
-use Rattle.std.specs.Prelude.{All, FitsSigned, int_le, unsigned_abs}
+use Rattle.std.proofs.Common.{◌≡◌, ℕ, suc, ◌+◌, ◌^◌, ◌<◌, ◌≤◌, Bool, true, false, ◌||◌, cond, eqb, ltb, List, [], ◌∷◌, ◌++◌, length, drop, codes, ℤ, pos, negsuc, Option, Some, None, refl, ap, subst, ◌∙◌, arith}
+use Rattle.std.specs.Prelude.{FitsSigned, int_le, unsigned_abs}
 use Rattle.std.specs.Fmt.{decimal, signed_decimal}
 use Rattle.std.specs.Int.{w8, w16, w32, w64, from_be_bytes}
 use Rattle.std.specs.List.{flat_map, list_all, position, position_or_len}
@@ -16,13 +16,12 @@ use Rattle.ak_message.specs.declared.address.Target.TheVariants as target
 use Rattle.ak_message.specs.declared.kind.Kind.{Kind}
 use Rattle.ak_message.specs.declared.kind.Kind.TheVariants as k
 use Rattle.ak_message.specs.Kind.{kind_letters, kind_of_code, kind_of_code-code}
-use Rattle.ak_message.specs.Message.{ValueData, bool_value, int8_value, int16_value, int32_value, int64_value, uint8_value, uint16_value, uint32_value, uint64_value, text_value, messenger_value, raw_value}
+use Rattle.ak_message.specs.Message.{bool_value, int8_value, int16_value, int32_value, int64_value, uint8_value, uint16_value, uint32_value, uint64_value, text_value, messenger_value, raw_value}
 use Rattle.ak_message.specs.MessageText.{quoted, bool_text, target_text}
-use Rattle.ak_message.specs.Payload.{kind_before, int_within, uint_within, target_from, point_in, address_from, unquoted, raw_from}
-use Rattle.ak_message.specs.Reading.{Got, got, text_of, text_from, raw_value_from, small_from, payload_from, value_with}
+use Rattle.ak_message.specs.Payload.{kind_before, int_within, uint_within, target_from, address_from, unquoted}
+use Rattle.ak_message.specs.Reading.{Got, got, text_from, raw_value_from, small_from, payload_from, value_with}
 use Rattle.ak_message.specs.Whole.{FitsTarget, FitsAddress}
 use Rattle.ak_base.specs.Text.{IsText, IsRaw}
-use Rattle.ak_message.specs.Words.{◌>>=◌}
 use Rattle.ak_message.proofs.HexLaws.{raws_again}
 use Rattle.ak_message.proofs.Numbers.{ints_read}
 use Rattle.ak_message.proofs.Passing.{differs, is_digit, decimal_digits}
@@ -101,16 +100,16 @@ within_64 (negsuc x) fits = int_again (negsuc 9223372036854775807) (pos 92233720
 -- ---- the first place of a byte
 
 first_at : (test : ℕ → Bool) (c : ℕ) (front rest : List ℕ) → list_all test front ≡ true → test c ≡ false → position_or_len (λ b. eqb b c) (front ++ c ∷ rest) ≡ length front
-first_at test c [] rest all no = rw (eq-eqb c c refl) refl
-first_at test c (b ∷ front) rest all no =
+first_at test c [] rest all fails = rw (eq-eqb c c refl) refl
+first_at test c (b ∷ front) rest all fails =
     let parts = and_parts (test b) (list_all test front) all in
-    let next = first_at test c front rest parts.1 no in
-    rw (differs test b c parts.0 no, next) (omega arith)
+    let next = first_at test c front rest parts.1 fails in
+    rw (differs test b c parts.0 fails, next) (omega arith)
 
 pub position_again : (test : ℕ → Bool) (c : ℕ) (front rest : List ℕ) → list_all test front ≡ true → test c ≡ false → position (λ b. eqb b c) (front ++ c ∷ rest) ≡ Some (length front)
-position_again test c front rest all no =
+position_again test c front rest all fails =
     let less : ltb (length front) (length (front ++ c ∷ rest)) ≡ true = lt-ltb (length front) (length (front ++ c ∷ rest)) (omega (arith, length-append front (c ∷ rest))) in
-    rw (first_at test c front rest all no, less) refl
+    rw (first_at test c front rest all fails, less) refl
 
 pub drop_past : (front : List ℕ) (c : ℕ) (rest : List ℕ) → drop (length front + 1) (front ++ c ∷ rest) ≡ rest
 drop_past [] c rest = refl

@@ -21,9 +21,7 @@ pub(crate) fn kind_before(text: &[u8]) -> Option<Kind>
     if text.len() < LETTERS_LEN || text[4] != b':' {
         return None;
     }
-    Kind::from_code(Code(u32::from_be_bytes([
-        text[0], text[1], text[2], text[3],
-    ])))
+    Kind::from_code(Code(u32::from_be_bytes([text[0], text[1], text[2], text[3]])))
 }
 
 pub(crate) fn bool_from(text: &[u8]) -> Option<bool>
