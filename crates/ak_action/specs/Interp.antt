@@ -3,7 +3,7 @@ use Rattle.std.specs.Prelude.{◌≡◌, ℕ, ◌+◌, Bool, true, false, if◌t
 use Rattle.ak_base.specs.declared.error.KitError.{KitError}
 use Rattle.ak_base.specs.declared.error.KitError.TheVariants as error
 use Rattle.ak_flatten.specs.Laws.{Spells}
-use Rattle.ak_flatten.specs.Popped.{unpopped}
+use Rattle.ak_message.specs.Popped.{unpopped}
 use Rattle.ak_message.specs.Message.{MessageData}
 use Rattle.ak_action.specs.declared.action.Action.{Action}
 use Rattle.ak_action.specs.declared.action.Reaction.{Reaction}

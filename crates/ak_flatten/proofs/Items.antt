@@ -15,7 +15,7 @@ use Rattle.ak_flatten.specs.declared.fault.UnflattenFault.{UnflattenFault}
 use Rattle.ak_flatten.specs.declared.fault.UnflattenFault.TheVariants as unread
 use Rattle.ak_flatten.specs.Item.{ItemData, IsItem, IsItemFault, fault_behind, item_fault, message_or_empty, popped_fault, spelled, unread_fault}
 use Rattle.ak_flatten.specs.Laws.{Spells, IsFirstFault, first_fault}
-use Rattle.ak_flatten.specs.Popped.{unpopped, unpopped_field, unpopped_value}
+use Rattle.ak_message.specs.Popped.{unpopped, unpopped_field, unpopped_value}
 use Rattle.ak_flatten.specs.Reading.{read_message}
 use Rattle.ak_flatten.specs.Spelling.{spelling}
 use Rattle.ak_flatten.proofs.LawsHold.{spelled_is_read, written_is_read_holds}

@@ -9,7 +9,7 @@ use Rattle.ak_flatten.specs.declared.fault.FlatKind.TheVariants as fault
 use Rattle.ak_flatten.specs.declared.fault.UnflattenFault.{UnflattenFault}
 use Rattle.ak_flatten.specs.declared.fault.UnflattenFault.TheVariants as unflatten
 use Rattle.ak_flatten.specs.Laws.{Spells, IsFirstFault, first_fault, AreBytes, OneSpelling, SpelledOrFaulty, WrittenIsRead}
-use Rattle.ak_flatten.specs.Popped.{unpopped}
+use Rattle.ak_message.specs.Popped.{unpopped}
 use Rattle.ak_flatten.specs.Reading.{message_from, read_message}
 use Rattle.ak_flatten.specs.Seen.{Fails, Gives}
 use Rattle.ak_flatten.specs.Spelling.{spelling}

@@ -18,7 +18,7 @@ use Rattle.ak_flatten.specs.declared.fault.FlatFault.{FlatFault}
 use Rattle.ak_flatten.specs.declared.fault.FlatKind.TheVariants as fault
 use Rattle.ak_flatten.specs.Format.{is_length}
 use Rattle.ak_flatten.specs.Laws.{AreBytes}
-use Rattle.ak_flatten.specs.Popped.{IsUnpoppedValue, AreUnpoppedValues, AreUnpoppedFields, IsUnpopped}
+use Rattle.ak_message.specs.Popped.{IsUnpoppedValue, AreUnpoppedValues, AreUnpoppedFields, IsUnpopped}
 use Rattle.ak_flatten.specs.Reading.{Left, ◌>>=◌, where_true, bytes_at, number_at, kind_at, name_at, value_count_at, value_len_at, value_from, value_at, values_at, field_at, fields_at, opening_at, message_from}
 use Rattle.ak_flatten.specs.Spelling.{value_bytes, sized_bytes, values_bytes, fields_bytes, field_bytes, value_count, field_count, opening_bytes, spelling}
 use Rattle.ak_flatten.proofs.Parts.{bind_ok, test_ok, ok_is, at, Takes, Takes-then, bytes_take, bytes_again, front_of}

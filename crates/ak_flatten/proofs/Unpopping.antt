@@ -8,7 +8,7 @@ use Rattle.ak_message.specs.Kind.{kind_letters}
 use Rattle.ak_message.specs.Message.{ValueData, bool_value, int8_value, int16_value, int32_value, int64_value, uint8_value, uint16_value, uint32_value, uint64_value, text_value, message_value, messenger_value, raw_value, NestedValues, no_values, then_value, NestedFields, no_fields, then_field, FieldData, MessageData, kind_of, depth_of, depth_of_value, depth_of_nested_values, depth_of_nested_fields, nested_values, nested_fields, listed_values, listed_fields, message_of_nested}
 use Rattle.ak_message.specs.Fields.{IsField, IsMessage}
 use Rattle.ak_message.specs.Whole.{FitsValue, FitsValues, FitsFields, IsWhole}
-use Rattle.ak_flatten.specs.Popped.{IsUnpoppedValue, AreUnpoppedValues, AreUnpoppedFields, IsUnpopped, unpopped_value, unpopped_values, unpopped_fields, unpopped_field, unpopped}
+use Rattle.ak_message.specs.Popped.{IsUnpoppedValue, AreUnpoppedValues, AreUnpoppedFields, IsUnpopped, unpopped_value, unpopped_values, unpopped_fields, unpopped_field, unpopped}
 use Rattle.ak_flatten.specs.Spelling.{value_bytes, values_bytes, fields_bytes, value_count, field_count, opening_bytes, spelling}
 
 kind-unpopped : (v : ValueData) → kind_of (unpopped_value v) ≡ kind_of v

@@ -24,7 +24,7 @@ use Rattle.ak_flatten.specs.declared.fault.FlatFault.{FlatFault}
 use Rattle.ak_flatten.specs.declared.fault.FlatKind.TheVariants as fault
 use Rattle.ak_flatten.specs.Format.{is_length}
 use Rattle.ak_flatten.specs.Laws.{AreBytes}
-use Rattle.ak_flatten.specs.Popped.{IsUnpoppedValue, AreUnpoppedFields, IsUnpopped}
+use Rattle.ak_message.specs.Popped.{IsUnpoppedValue, AreUnpoppedFields, IsUnpopped}
 use Rattle.ak_flatten.specs.Reading.{Left, ◌>>=◌, where_true, number_at, is_text, bool_from, text_from, target_from, is_target, address_from, value_from}
 use Rattle.ak_flatten.specs.Spelling.{bool_bytes, target_bytes, address_bytes, value_bytes, spelling}
 use Rattle.ak_flatten.proofs.Parts.{bind_ok, test_ok, ok_is, at, Takes, Takes-then, IsWide, wide16, wide32, wide64, number_takes, number_again, byte_takes, byte_again, one_byte}

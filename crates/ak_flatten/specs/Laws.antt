@@ -6,7 +6,7 @@ use Rattle.ak_message.specs.Whole.{IsWhole}
 use Rattle.ak_flatten.specs.declared.fault.FlatFault.{FlatFault}
 use Rattle.ak_flatten.specs.declared.fault.UnflattenFault.{UnflattenFault}
 use Rattle.ak_flatten.specs.declared.fault.UnflattenFault.TheVariants as fault
-use Rattle.ak_flatten.specs.Popped.{IsUnpopped, unpopped}
+use Rattle.ak_message.specs.Popped.{IsUnpopped, unpopped}
 use Rattle.ak_flatten.specs.Reading.{read_message}
 use Rattle.ak_flatten.specs.Spelling.{spelling}
 use Rattle.ak_flatten.specs.Limits.{flat_limit}

@@ -2,7 +2,6 @@ pub mod Building
 pub mod Format
 pub mod Laws
 pub mod Limits
-pub mod Popped
 pub mod Reading
 pub mod Seen
 pub mod Spelling

@@ -2,7 +2,7 @@ ghost use Rattle.std.specs.Prelude.{◌≡◌, ◌<◌, ◌≤◌, ◌↔◌, No
 ghost use Rattle.ak_message.specs.Fields.{specifier_count};
 ghost use Rattle.ak_flatten.specs.Laws.{first_fault};
 ghost use Rattle.ak_flatten.specs.Item.{message_of, item_fault, IsItem, IsItemFault, spelled};
-ghost use Rattle.ak_flatten.specs.Popped.{unpopped};
+ghost use Rattle.ak_message.specs.Popped.{unpopped};
 ghost use Rattle.ak_flatten.specs.Spelling.{spelling};
 ghost use Rattle.ak_flatten.specs.Limits.{flat_limit};
 

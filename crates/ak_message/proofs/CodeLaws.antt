@@ -20,7 +20,7 @@ four_small (a ∷ b ∷ c ∷ d ∷ []) size p q r s =
     All-cons (λ b. b < 256) a (b ∷ c ∷ d ∷ []) p (All-cons (λ b. b < 256) b (c ∷ d ∷ []) q (All-cons (λ b. b < 256) c (d ∷ []) r (All-cons (λ b. b < 256) d [] s (All-nil (λ b. b < 256)))))
 four_small bytes size p q r s = absurd (omega arith)
 
-small_bytes : (n : ℕ) → All (λ b. b < 256) (bytes_of n)
+pub small_bytes : (n : ℕ) → All (λ b. b < 256) (bytes_of n)
 small_bytes n = four_small (bytes_of n) refl (omega arith) (omega arith) (omega arith) (omega arith)
 
 -- a code's text is read

@@ -21,7 +21,7 @@ differs : (a b : List ℕ) (t : Bool) → bytes_eq a b ≡ t → a ≢ b → t �
 differs a b true e h = absurd (h ((bytes_eq-Decides a b).0 e))
 differs a b false e h = refl
 
-names_differ : (a b : List ℕ) → a ≢ b → bytes_eq a b ≡ false
+pub names_differ : (a b : List ℕ) → a ≢ b → bytes_eq a b ≡ false
 names_differ a b h = differs a b (bytes_eq a b) refl h
 
 -- ---- the field of a name after an addition
@@ -63,7 +63,7 @@ get_earlier (x ∷ vs) v zero h = refl
 get_earlier (x ∷ vs) v (suc i) h = get_earlier vs v i (omega (arith, h))
 
 -- ---- what is found
-same_kind-refl : (kind : Kind) → is_same_kind kind kind ≡ true
+pub same_kind-refl : (kind : Kind) → is_same_kind kind kind ≡ true
 same_kind-refl kind = grind (arith, tests)
 
 last-grown : (count : ℕ) (o : Option FieldData) (name : List ℕ) (value : ValueData) → place_fault count o (kind_of value) ≡ None → value_in (Some (grown o name value)) (kind_of value) (value_count_in o) ≡ Ok value

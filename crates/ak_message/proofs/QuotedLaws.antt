@@ -19,21 +19,21 @@ use Rattle.ak_base.proofs.Surface.{bind_some, some_is, cond_some}
 abbrev body : List ℕ → List ℕ
 body bytes = flat_map quoted_byte bytes ++ 34 ∷ []
 
-abbrev Positive : List ℕ → Type 0
+abbrev pub Positive : List ℕ → Type 0
 Positive bytes = All (λ b. 0 < b) bytes
 
 -- ---- what is printed of a byte
 
-plain_byte : (b : ℕ) → eqb b 34 ≡ false → eqb b 92 ≡ false → ltb b 32 ≡ false → eqb b 127 ≡ false → quoted_byte b ≡ b ∷ []
+pub plain_byte : (b : ℕ) → eqb b 34 ≡ false → eqb b 92 ≡ false → ltb b 32 ≡ false → eqb b 127 ≡ false → quoted_byte b ≡ b ∷ []
 plain_byte b e34 e92 e32 e127 = rw (e34, e92, and_right (leb 1 b) (ltb b 32) e32, e127) refl
 
-low_byte : (l : ℕ) → 0 < l → l < 16 → quoted_byte l ≡ 92 ∷ 120 ∷ 48 ∷ digit_char l ∷ []
+pub low_byte : (l : ℕ) → 0 < l → l < 16 → quoted_byte l ≡ 92 ∷ 120 ∷ 48 ∷ digit_char l ∷ []
 low_byte l positive lt =
     let high : l / 16 ≡ 0 = omega arith in
     let low : l % 16 ≡ l = omega arith in
     rw (ne_eqb l 34 (λ e. omega arith), ne_eqb l 92 (λ e. omega arith), le-leb 1 l (omega arith), lt-ltb l 32 (omega arith), high, low) refl
 
-one_byte : (l : ℕ) → l < 16 → quoted_byte (16 + l) ≡ 92 ∷ 120 ∷ 49 ∷ digit_char l ∷ []
+pub one_byte : (l : ℕ) → l < 16 → quoted_byte (16 + l) ≡ 92 ∷ 120 ∷ 49 ∷ digit_char l ∷ []
 one_byte l lt =
     let high : (16 + l) / 16 ≡ 1 = omega arith in
     let low : (16 + l) % 16 ≡ l = omega arith in

@@ -4,6 +4,7 @@ pub mod Finds
 pub mod InputText
 pub mod Inside
 pub mod Kind
+pub mod Laws
 pub mod Limits
 pub mod LineSeen
 pub mod Lines
@@ -13,6 +14,7 @@ pub mod MessageCode
 pub mod MessageText
 pub mod Payload
 pub mod Pieces
+pub mod Popped
 pub mod ReadSeen
 pub mod Reading
 pub mod Seen

@@ -21,16 +21,16 @@ quoted_byte b =
 abbrev pub quoted : List ℕ → List ℕ
 quoted bytes = 34 ∷ flat_map quoted_byte bytes ++ 34 ∷ []
 
-abbrev bool_text : Bool → List ℕ
+abbrev pub bool_text : Bool → List ℕ
 bool_text true = codes "true"
 bool_text false = codes "false"
 
 -- the looper, a point, and `p` for the preferred handler or the token
-abbrev target_text : Target → List ℕ
+abbrev pub target_text : Target → List ℕ
 target_text target.Preferred = codes "p"
 target_text (target.Token n) = decimal n
 
-abbrev address_text : Address → List ℕ
+abbrev pub address_text : Address → List ℕ
 address_text a = decimal a.looper ++ 46 ∷ target_text a.target
 
 -- ---- a value is its kind's letters, a colon and its payload
@@ -71,6 +71,16 @@ value_text v = kind_letters (kind_of v) ++ 58 ∷ payload_text v
 -- the code, and each field
 abbrev pub message_text : MessageData → List ℕ
 message_text m = code_text m.what ++ nested_fields_text (nested_fields m.fields)
+
+-- ---- the words of that text
+-- each field's name, `=` and values
+abbrev pub field_texts : NestedFields → List (List ℕ)
+field_texts no_fields = []
+field_texts (then_field name _ vs fs) = (name ++ 61 ∷ nested_values_text vs) ∷ field_texts fs
+
+-- the code, and each field
+abbrev pub message_words : MessageData → List (List ℕ)
+message_words m = code_text m.what ∷ field_texts (nested_fields m.fields)
 
 -- ---- two messages as they are printed
 pub reply_text

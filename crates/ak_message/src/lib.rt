@@ -8,6 +8,7 @@ mod address;
 mod fault;
 mod field_ref;
 mod kind;
+mod laws;
 mod line;
 mod lines;
 mod marks;
@@ -24,6 +25,7 @@ pub use address::{Address, Target};
 pub use fault::{AddFault, FindFault, RemoveFault, ReplaceFault};
 pub use field_ref::FieldRef;
 pub use kind::Kind;
+pub use laws::printed_messages_are_read;
 pub use line::{Line, Word};
 pub use lines::{
     INPUT_LIMIT, InputLines, LineFault, LinesFault, pieces_are_the_input, split_lines,

@@ -4,7 +4,7 @@ use Rattle.std.specs.Prelude.{Result, Ok, Err}
 use Rattle.ak_message.specs.Message.{MessageData}
 use Rattle.ak_message.specs.Fields.{specifier_count}
 use Rattle.ak_flatten.specs.Item.{ItemData, message_of}
-use Rattle.ak_flatten.specs.Popped.{unpopped}
+use Rattle.ak_message.specs.Popped.{unpopped}
 use Rattle.ak_flatten.proofs.Surface.{specifiers-unpopped}
 use Rattle.ak_turn.specs.declared.clock.Clock.{Clock}
 use Rattle.ak_port.specs.declared.port_entry.WriteAnswer.{WriteAnswer}

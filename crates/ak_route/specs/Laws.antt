@@ -1,5 +1,5 @@
 -- What holds of all routes.
-use Rattle.std.specs.Prelude.{◌≡◌, ◌≢◌, ◌<◌, ◌≤◌, ℕ, zero, suc, if◌then◌else◌, List, [], ◌∷◌, ◌++◌, length, reverse, All, AllPairs, Contains, Option, None, Some, IfSome, option_and_then}
+use Rattle.std.specs.Prelude.{◌≡◌, ◌≢◌, ◌<◌, ◌≤◌, ◌+◌, ℕ, zero, suc, if◌then◌else◌, List, [], ◌∷◌, ◌++◌, length, reverse, All, AllPairs, Contains, Option, None, Some, IfSome, option_and_then}
 use Rattle.ak_filter.specs.declared.filter.Filter.{Filter}
 use Rattle.ak_message.specs.declared.address.Target.{Target}
 use Rattle.ak_message.specs.Fields.{specifier_count}
@@ -100,6 +100,17 @@ TakerLiesWithin =
     (as_what : Taker) → (route_of s loopers o common m t).route ≡ route.Deliver token as_what → LiesWithin (row_of s token) as_what
 
 -- ---- what is popped
+-- it is the same message but for how many of its specifiers are popped: as many as before or more, and at most those that were left
+pub record OnlyPops (m after : MessageData) : Type 0 where
+  pub same : after ≡ record m { popped = after.popped }
+  pub at_least : m.popped ≤ after.popped
+  pub at_most : after.popped ≤ m.popped + left_of m
+
+-- following the specifiers of a message only pops some of them
+abbrev pub ResolvingOnlyPops : Type 0
+ResolvingOnlyPops =
+    (s : HandlersData RowData) (loopers : List (List ℕ)) (m : MessageData) (t : Target) (first : ℕ) → OnlyPops m (resolve s loopers m t first).message
+
 -- it is the same message as to its fields, with as many of its specifiers popped or more, and no more than it has
 pub record PopsWithin (m after : MessageData) : Type 0 where
   pub fields : after.fields ≡ m.fields

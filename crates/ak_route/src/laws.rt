@@ -36,6 +36,12 @@ pub fn takers_lie_within()
     ensures { law.TakerLiesWithin }
 {}
 
+/// Following the specifiers of a message changes nothing of it but how many of them are popped: as many as before
+/// or more, and none but those that were left.
+pub fn following_only_pops()
+    ensures { law.ResolvingOnlyPops }
+{}
+
 /// Routing changes nothing of a message but its code, and pops some of its specifiers: never more than it
 /// has, and none is put back.
 pub fn routes_pop_within()

@@ -14,8 +14,9 @@ mod routing;
 
 pub use ak_property::HandlerRow;
 pub use laws::{
-    filters_run_at_most_once, forwards_are_to_later_loopers, no_specifiers_no_steps,
-    resolved_handlers_are_there, routes_pop_within, takers_are_there, takers_lie_within,
+    filters_run_at_most_once, following_only_pops, forwards_are_to_later_loopers,
+    no_specifiers_no_steps, resolved_handlers_are_there, routes_pop_within, takers_are_there,
+    takers_lie_within,
 };
 pub use matching::is_built_in_name;
 pub use outcome::{Place, Route, Taker};

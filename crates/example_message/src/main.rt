@@ -3,7 +3,7 @@
 #![tactic(auto)]
 
 ghost use Rattle.std.specs.Prelude.{◌≡◌, IfOk};
-ghost use Rattle.ak_flatten.specs.Popped.{unpopped};
+ghost use Rattle.ak_message.specs.Popped.{unpopped};
 
 use ak_base::{Code, Text};
 use ak_flatten::{UnflattenFault, flatten, one_spelling, unflatten, written_is_read};

@@ -1,7 +1,7 @@
 -- What is read and the message with nothing popped have one flat text.
 use Rattle.std.proofs.Common.{◌∙◌, subst}
 use Rattle.ak_flatten.specs.Laws.{Spells}
-use Rattle.ak_flatten.specs.Popped.{unpopped}
+use Rattle.ak_message.specs.Popped.{unpopped}
 use Rattle.ak_flatten.specs.Spelling.{spelling}
 use Rattle.example_message.proofs.received.Goals as goal
 

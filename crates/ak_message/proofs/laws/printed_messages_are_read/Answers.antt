@@ -1,0 +1,19 @@
+use Rattle.ak_message.proofs.LineAgain.{words_are_there}
+use Rattle.ak_message.proofs.MessagesAgain.{values_are_read, fields_are_read, messages_are_read}
+use Rattle.ak_message.proofs.PrintedUtf8.{printed_utf8}
+use Rattle.ak_message.proofs.laws.printed_messages_are_read.Goals as goal
+
+pub returns-clause-values : goal.returns-clause-values
+returns-clause-values c = values_are_read
+
+pub returns-clause-fields : goal.returns-clause-fields
+returns-clause-fields c = fields_are_read
+
+pub returns-clause-messages : goal.returns-clause-messages
+returns-clause-messages c = messages_are_read
+
+pub returns-clause-words : goal.returns-clause-words
+returns-clause-words c = words_are_there
+
+pub returns-clause-utf8 : goal.returns-clause-utf8
+returns-clause-utf8 c = printed_utf8

@@ -1,0 +1,14 @@
+//! What holds of all messages and their texts.
+
+ghost use Rattle.ak_message.specs.Laws as law;
+
+/// What is printed of a value, of a field's values or of a message, with nothing popped at any depth, is read back as
+/// that value, those values or that message. It is so for all that are within the limits at every depth, as all that
+/// exist are. A message is read from the words of its text, which the text, as a line, is split into.
+pub fn printed_messages_are_read()
+    ensures values { law.PrintedValuesAreRead }
+    ensures fields { law.PrintedFieldsAreRead }
+    ensures messages { law.PrintedMessagesAreRead }
+    ensures words { law.PrintedWordsAreThere }
+    ensures utf8 { law.PrintedTextsAreUtf8 }
+{}
