@@ -16,7 +16,8 @@ use Rattle.ak_flatten.specs.Spelling.{spelling}
 use Rattle.ak_flatten.proofs.Parts.{at, ok_is}
 use Rattle.ak_flatten.proofs.Values.{IsReadMessage}
 use Rattle.ak_flatten.proofs.Messages.{message_takes, message_again}
-use Rattle.ak_flatten.proofs.Unpopping.{whole-unpopped, is_unpopped, spelling-unpopped}
+use Rattle.ak_message.proofs.Surface.{whole-unpopped, is_unpopped}
+use Rattle.ak_flatten.proofs.Unpopping.{spelling-unpopped}
 
 -- what is spelled is read, and what is read is spelled so
 pub spelled_is_read : (bytes : List ℕ) (m : MessageData) → Spells bytes m → read_message bytes ≡ Ok m

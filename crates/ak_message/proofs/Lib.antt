@@ -22,6 +22,7 @@ pub mod Remaining
 pub mod Specifiers
 pub mod TextKept
 pub mod TextLoop
+pub mod Unpopping
 pub mod ValuesAgain
 pub mod WordLaws
 pub mod WordLoop

@@ -8,16 +8,17 @@ use Rattle.ak_base.specs.Code.{bytes_of, hex_of, may_all_be_quoted, code_text}
 use Rattle.ak_base.proofs.Codes.{code_text-quoted, code_text-hex}
 use Rattle.ak_message.specs.declared.pieces.Separator.TheVariants as by
 use Rattle.ak_message.specs.Fields.{IsMessage}
-use Rattle.ak_message.specs.Laws.{PrintedValuesAreRead, PrintedFieldsAreRead, PrintedMessagesAreRead}
+use Rattle.ak_message.specs.Laws.{PrintedValuesAreRead, PrintedFieldsAreRead, PrintedMessagesAreRead, PrintedWithoutPopped}
 use Rattle.ak_message.specs.Message.{ValueData, bool_value, int8_value, int16_value, int32_value, int64_value, uint8_value, uint16_value, uint32_value, uint64_value, text_value, message_value, messenger_value, raw_value, NestedValues, no_values, then_value, NestedFields, no_fields, then_field, MessageData, kind_of, depth_of_value, depth_of_nested_values, depth_of_nested_fields, nested_values, listed_values, nested_fields, listed_fields, message_of_nested}
 use Rattle.ak_message.specs.MessageCode.{listed_values-nested, listed_fields-nested}
 use Rattle.ak_message.specs.MessageText.{payload_text, nested_values_text, nested_fields_text, value_text, field_texts}
 use Rattle.ak_message.specs.Pieces.{pieces_of, braced}
-use Rattle.ak_message.specs.Popped.{IsUnpoppedValue, AreUnpoppedValues, AreUnpoppedFields}
-use Rattle.ak_message.specs.Reading.{Got, got, payload_from, value_with, is_some_bytes, is_missing, words_of, message_from}
+use Rattle.ak_message.specs.Popped.{IsUnpoppedValue, AreUnpoppedValues, AreUnpoppedFields, unpopped}
+use Rattle.ak_message.specs.Reading.{Got, got, payload_from, value_with, is_some_bytes, is_missing, words_of, message_from, read_message}
 use Rattle.ak_message.specs.Whole.{FitsValue, FitsValues, FitsFields}
 use Rattle.ak_message.proofs.FieldsAgain.{AreRead, FieldsAreRead, values_of_kind, values_alone, message_is_read}
 use Rattle.ak_message.proofs.PiecesAgain.{code_passes_word, words_again}
+use Rattle.ak_message.proofs.Unpopping.{is_unpopped, whole-unpopped, words-unpopped}
 use Rattle.ak_message.proofs.ValuesAgain.{value_is, bool_again, int8_again, int16_again, int32_again, int64_again, uint8_again, uint16_again, uint32_again, uint64_again, text_again, messenger_again, raw_again}
 
 -- ---- what stands in braces
@@ -167,3 +168,7 @@ messages_are_read m whole unpopped =
     let shallow : depth_of_nested_fields (nested_fields m.fields) ≤ 15 = omega (arith, whole.0.depth_within) in
     let read = each_is_read (message_from 15) 15 (message_again 15 (omega arith)) (nested_fields m.fields) whole.1 unpopped.1 shallow in
     message_is_read (message_from 15) m.what (nested_fields m.fields) is whole.1 read shallow ∙ ap found same
+
+pub read_without_popped : PrintedWithoutPopped
+read_without_popped m whole =
+    subst (λ (ws : List (List ℕ)). read_message ws ≡ found (unpopped m)) (words-unpopped m) (messages_are_read (unpopped m) (whole-unpopped m whole) (is_unpopped m))

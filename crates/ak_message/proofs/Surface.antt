@@ -4,3 +4,4 @@ pub use Rattle.ak_message.proofs.Finding.{added_values_are_found-proof}
 pub use Rattle.ak_message.proofs.HexLaws.{raws_take}
 pub use Rattle.ak_message.proofs.Keeping.{depth-added, sound_after}
 pub use Rattle.ak_message.proofs.Numbers.{int_found, int_none, int_value-text, ints_read}
+pub use Rattle.ak_message.proofs.Unpopping.{is_unpopped, nested-unpopped_fields, whole-unpopped}

@@ -5,7 +5,7 @@ use Rattle.ak_message.specs.Fields.{IsField}
 use Rattle.ak_message.specs.Limits.{depth_limit}
 use Rattle.ak_message.specs.Message.{ValueData, FieldData, MessageData, nested_values, depth_of_nested_values}
 use Rattle.ak_message.specs.MessageText.{value_text, nested_values_text, message_text, message_words}
-use Rattle.ak_message.specs.Popped.{IsUnpoppedValue, AreUnpoppedValues, IsUnpopped}
+use Rattle.ak_message.specs.Popped.{IsUnpoppedValue, AreUnpoppedValues, IsUnpopped, unpopped}
 use Rattle.ak_message.specs.Reading.{got, read_value, read_values, read_message}
 use Rattle.ak_message.specs.Whole.{FitsValue, FitsValues, IsWhole}
 use Rattle.ak_message.specs.Words.{IsLine}
@@ -28,7 +28,11 @@ PrintedFieldsAreRead =
 abbrev pub PrintedMessagesAreRead : Type 0
 PrintedMessagesAreRead = (m : MessageData) → IsWhole m → IsUnpopped m → read_message (message_words m) ≡ Some (Some m)
 
--- and these are the words of its text, as a line has them
+-- whatever is popped of it, at any depth, it is read with nothing popped
+abbrev pub PrintedWithoutPopped : Type 0
+PrintedWithoutPopped = (m : MessageData) → IsWhole m → read_message (message_words m) ≡ Some (Some (unpopped m))
+
+-- the words of a message are those of its text, as a line has them
 abbrev pub PrintedWordsAreThere : Type 0
 PrintedWordsAreThere =
     (m : MessageData)
