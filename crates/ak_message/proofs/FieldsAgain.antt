@@ -9,8 +9,7 @@ use Rattle.std.proofs.lemmas.List.Elements.{All-head, All-tail}
 use Rattle.std.proofs.lemmas.Slice.Eq.{bytes_eq-Decides}
 use Rattle.ak_base.specs.Code.{code_text}
 use Rattle.ak_base.specs.Word.{is_word_byte, is_word}
-use Rattle.ak_base.proofs.Codes.{printed_codes_are_read}
-use Rattle.ak_base.proofs.Surface.{word_parts}
+use Rattle.ak_base.proofs.Surface.{printed_codes_are_read, word_parts}
 use Rattle.ak_message.specs.declared.kind.Kind.{Kind}
 use Rattle.ak_message.specs.Fields.{field_named, added, add_fault, new_field, IsField, IsMessage}
 use Rattle.ak_message.specs.Kind.{is_same_kind}

@@ -5,7 +5,7 @@ use Rattle.std.specs.List.{flat_map, slice_get}
 use Rattle.std.proofs.lemmas.Bool.{ne_eqb, le-ltb}
 use Rattle.std.proofs.lemmas.List.{length-append, take_at, get_or_at}
 use Rattle.ak_base.specs.Code.{bytes_of, hex_of, may_all_be_quoted, code_text}
-use Rattle.ak_base.proofs.Codes.{code_text-quoted, code_text-hex}
+use Rattle.ak_base.proofs.Surface.{code_text-quoted, code_text-hex}
 use Rattle.ak_message.specs.declared.pieces.Separator.TheVariants as by
 use Rattle.ak_message.specs.Fields.{IsMessage}
 use Rattle.ak_message.specs.Laws.{PrintedValuesAreRead, PrintedFieldsAreRead, PrintedMessagesAreRead, PrintedWithoutPopped}

@@ -11,8 +11,7 @@ use Rattle.std.proofs.lemmas.List.Elements.{All-head, All-tail}
 use Rattle.std.proofs.lemmas.Str.Parse.{digit_from_value}
 use Rattle.ak_base.specs.Code.{bytes_of, hex_of, may_be_quoted, may_all_be_quoted, code_text}
 use Rattle.ak_base.specs.Word.{is_word_byte}
-use Rattle.ak_base.proofs.Codes.{code_text-quoted, code_text-hex}
-use Rattle.ak_base.proofs.Surface.{IsForm-decimal, short_from_below}
+use Rattle.ak_base.proofs.Surface.{code_text-hex, code_text-quoted, IsForm-decimal, short_from_below}
 use Rattle.ak_message.specs.declared.kind.Kind.{Kind}
 use Rattle.ak_message.specs.declared.kind.Kind.TheVariants as k
 use Rattle.ak_message.specs.declared.marks.Marks.{Marks}

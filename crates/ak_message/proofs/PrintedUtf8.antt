@@ -13,8 +13,7 @@ use Rattle.std.proofs.lemmas.List.Elements.{All-head, All-tail}
 use Rattle.std.proofs.lemmas.Str.{IsUtf8-append, IsUtf8-nil, IsUtf8-from_ascii, encode_ascii}
 use Rattle.ak_base.specs.Code.{bytes_of, hex_of, may_be_quoted, may_all_be_quoted, code_text}
 use Rattle.ak_base.specs.Word.{is_word_byte}
-use Rattle.ak_base.proofs.Codes.{code_text-quoted, code_text-hex}
-use Rattle.ak_base.proofs.Surface.{word_byte, word_parts}
+use Rattle.ak_base.proofs.Surface.{code_text-hex, code_text-quoted, word_byte, word_parts}
 use Rattle.ak_message.specs.declared.address.Address.{Address}
 use Rattle.ak_message.specs.declared.address.Target.{Target}
 use Rattle.ak_message.specs.declared.address.Target.TheVariants as target
