@@ -12,17 +12,13 @@
 //! - `port CAPACITY WRITERS N` has so many threads write N items in all to a port that holds so many at a time, while another
 //!   one takes them, which are counted. `ask N` has one thread ask another N times, and the replies are counted.
 //!   `bench/ports` times both.
-//! - `describe APPS N` reads N times the lines of so many applications, each with 8 loopers of 64 handlers and 64 KiB long,
-//!   and counts the loopers that were read. `bench/descriptions` times it.
 //!
 //! NAME is `ask`, `reply`, `deep` or `raw`, HANDLERS is 1 to 64, FILTERS is 0 to 32, THREADS and WRITERS are 1 to 8,
-//! CAPACITY is 1 to 1,000, APPS is 1 to 16, and N is 1 to 10,000,000. The first order that is none ends it with status 1, and
-//! it prints how it is used. The status is 4 where a line cannot be written, 5 where a message or a handler is refused, which
-//! happens to none of these, and 6 where memory runs out.
+//! CAPACITY is 1 to 1,000, and N is 1 to 10,000,000. The first order that is none ends it with status 1, and it prints how it
+//! is used. The status is 4 where the words cannot be read, a line cannot be written, or memory runs out.
 #![tactic(auto)]
 
 mod asks;
-mod descriptions;
 mod digits;
 mod fault;
 mod held;
@@ -37,31 +33,24 @@ mod turns;
 use fault::BenchFault;
 use orders::count_of;
 use std::env::Env;
-use std::io::ErrorKind;
 use std::process::ExitCode;
 use std::sync::Wait;
 use std::thread::Threads;
 use std::time::Clock;
 use std::{env, io};
 
-/// The words of the command line, or none where they are no text.
+/// The words of the command line behind the program's name.
 fn given_words(rt: &(impl Env + AllocGlobal)) -> Result<Vec<String>, BenchFault> {
     let mut words = Vec::new(rt.alloc());
-    match env::args(rt) {
-        Ok(args) => {
-            for arg in args.skip(1) {
-                words.push(arg)?;
-            }
-            Ok(words)
-        }
-        Err(error) if error.kind() == ErrorKind::OutOfMemory => Err(BenchFault::NoMemory),
-        Err(_) => Ok(words),
+    for word in env::args(rt)?.skip(1) {
+        words.push(word)?;
     }
+    Ok(words)
 }
 
 fn print_usage(rt: &impl Print) -> io::Result<()> {
     println!(rt;
-        "usage: kit_bench flat ask|reply|deep|raw N\n       kit_bench route HANDLERS FILTERS N\n       kit_bench turn THREADS|wait N\n       kit_bench port CAPACITY WRITERS N\n       kit_bench ask N\n       kit_bench describe APPS N\n       several of these with the word then between them"
+        "usage: kit_bench flat ask|reply|deep|raw N\n       kit_bench route HANDLERS FILTERS N\n       kit_bench turn THREADS|wait N\n       kit_bench port CAPACITY WRITERS N\n       kit_bench ask N\n       several of these with the word then between them"
     )
 }
 

@@ -3,13 +3,11 @@ ghost use Rattle.std.specs.Prelude.{◌≤◌, IfOk};
 ghost use Rattle.kit_bench.specs.Ports.{IsPortShape};
 
 use crate::asks::count_replies;
-use crate::descriptions::loopers_read;
 use crate::fault::BenchFault;
 use crate::ports::{PortShape, count_taken};
 use crate::routes::{Shape, deliveries};
 use crate::samples::{checksum, message};
 use crate::turns::{count_after_wait, count_turns};
-use ak_describe::APP_LIMIT;
 use ak_filter::FILTER_LIMIT;
 use ak_handler::HANDLER_LIMIT;
 use ak_port::CAPACITY_LIMIT;
@@ -38,19 +36,34 @@ pub fn count_of<R: AllocGlobal + Threads + Wait + Clock + Sync>(
         "turn" => Ok(("entries", count_entries(rt, sizes, rounds)?)),
         "port" => Ok(("taken", count_items(rt, sizes, rounds)?)),
         "ask" => Ok(("replies", count_asks(rt, sizes, rounds)?)),
-        "describe" => Ok(("loopers", count_loopers(rt.alloc(), sizes, rounds)?)),
         _ => Err(BenchFault::Usage),
     }
 }
 
+/// The number that the word says, which is one of these.
 fn read_number(word: &String, least: u32, most: u32) -> Result<u32, BenchFault>
     ensures { IfOk result (λ number. (least ≤ number) × (number ≤ most)) }
 {
-    let Ok(number) = word.parse::<u32>() else {
-        return Err(BenchFault::Usage);
-    };
+    let number = decimal(word.as_bytes())?;
     if number < least || number > most {
         return Err(BenchFault::Usage);
+    }
+    Ok(number)
+}
+
+// The number that the digits say, or one that no order has where it is too great. Digit by digit: the reader of std, with all
+// that it promises, costs the check five times as much.
+fn decimal(digits: &[u8]) -> Result<u32, BenchFault> {
+    if digits.is_empty() {
+        return Err(BenchFault::Usage);
+    }
+    let mut number: u32 = 0;
+    for digit in digits {
+        let value = digit.wrapping_sub(b'0');
+        if value > 9 {
+            return Err(BenchFault::Usage);
+        }
+        number = number.saturating_mul(10).saturating_add(u32::from(value));
     }
     Ok(number)
 }
@@ -121,11 +134,4 @@ fn count_asks<R: AllocGlobal + Threads + Wait + Sync>(
         return Err(BenchFault::Usage);
     }
     count_replies(rt, rt.alloc(), rounds)
-}
-
-fn count_loopers(alloc: Global, sizes: &[String], rounds: u32) -> Result<u64, BenchFault> {
-    let [apps] = sizes else {
-        return Err(BenchFault::Usage);
-    };
-    loopers_read(alloc, read_number(apps, 1, APP_LIMIT as u32)?, rounds)
 }
