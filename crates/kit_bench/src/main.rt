@@ -18,17 +18,17 @@
 //! is used. The status is 4 where the words cannot be read, a line cannot be written, or memory runs out.
 #![tactic(auto)]
 
-mod asks;
-mod digits;
 mod fault;
 mod held;
 mod orders;
-mod port_seats;
-mod ports;
+mod rounds;
 mod routes;
 mod samples;
+mod taker;
 mod tally;
 mod turns;
+mod work;
+mod worker;
 
 use fault::BenchFault;
 use orders::count_of;

@@ -1,10 +1,8 @@
 //! What the words of an order ask for.
 ghost use Rattle.std.specs.Prelude.{◌≤◌, IfOk};
-ghost use Rattle.kit_bench.specs.Ports.{IsPortShape};
 
-use crate::asks::count_replies;
 use crate::fault::BenchFault;
-use crate::ports::{PortShape, count_taken};
+use crate::rounds::{Sending, count_items};
 use crate::routes::{Shape, deliveries};
 use crate::samples::{checksum, message};
 use crate::turns::{count_after_wait, count_turns};
@@ -22,6 +20,9 @@ const ROUND_LIMIT: u32 = 10_000_000;
 /// The most threads that take turns, or write to a port.
 const THREAD_LIMIT: u32 = 8;
 
+/// How many items the port holds at a time to which asks are written.
+const ASK_CAPACITY: u32 = 100;
+
 /// Does what the words say, and tells what is counted and how many there were.
 pub fn count_of<R: AllocGlobal + Threads + Wait + Clock + Sync>(
     rt: &R,
@@ -34,8 +35,8 @@ pub fn count_of<R: AllocGlobal + Threads + Wait + Clock + Sync>(
         "flat" => Ok(("checksum", count_flat(rt.alloc(), sizes, rounds)?)),
         "route" => Ok(("delivered", count_routes(rt.alloc(), sizes, rounds)?)),
         "turn" => Ok(("entries", count_entries(rt, sizes, rounds)?)),
-        "port" => Ok(("taken", count_items(rt, sizes, rounds)?)),
-        "ask" => Ok(("replies", count_asks(rt, sizes, rounds)?)),
+        "port" => Ok(("taken", count_taken(rt, sizes, rounds)?)),
+        "ask" => Ok(("replies", count_replies(rt, sizes, rounds)?)),
         _ => Err(BenchFault::Usage),
     }
 }
@@ -105,33 +106,34 @@ fn count_entries<R: AllocGlobal + Threads + Wait + Clock + Sync>(
     )
 }
 
-fn read_port(capacity: &String, writers: &String) -> Result<PortShape, BenchFault>
-    ensures { IfOk result IsPortShape }
-{
-    Ok(PortShape {
-        capacity: read_number(capacity, 1, CAPACITY_LIMIT)?,
-        writers: read_number(writers, 1, THREAD_LIMIT)?,
-    })
-}
-
-fn count_items<R: AllocGlobal + Threads + Wait + Sync>(
+fn count_taken<R: AllocGlobal + Threads + Wait + Sync>(
     rt: &R,
     sizes: &[String],
-    rounds: u32,
+    items: u32,
 ) -> Result<u64, BenchFault> {
     let [capacity, writers] = sizes else {
         return Err(BenchFault::Usage);
     };
-    count_taken(rt, rt.alloc(), read_port(capacity, writers)?, rounds)
+    let sending = Sending {
+        capacity: read_number(capacity, 1, CAPACITY_LIMIT)?,
+        workers: read_number(writers, 1, THREAD_LIMIT)?,
+        asks: false,
+    };
+    count_items(rt, rt.alloc(), sending, items)
 }
 
-fn count_asks<R: AllocGlobal + Threads + Wait + Sync>(
+fn count_replies<R: AllocGlobal + Threads + Wait + Sync>(
     rt: &R,
     sizes: &[String],
-    rounds: u32,
+    asks: u32,
 ) -> Result<u64, BenchFault> {
     if !sizes.is_empty() {
         return Err(BenchFault::Usage);
     }
-    count_replies(rt, rt.alloc(), rounds)
+    let sending = Sending {
+        capacity: ASK_CAPACITY,
+        workers: 1,
+        asks: true,
+    };
+    count_items(rt, rt.alloc(), sending, asks)
 }

@@ -1,6 +1,5 @@
 //! The handlers through which a message goes, so that a route can be timed.
 
-use crate::digits::last_digit;
 use crate::fault::BenchFault;
 use crate::held::Held;
 use ak_base::{Code, Items, Text};
@@ -88,6 +87,11 @@ fn link_handler(set: &mut HandlerSet<Held>, token: u64) -> Result<(), BenchFault
     set.set_next(token, token.checked_sub(1))?;
     set.set_preferred(Some(token))?;
     Ok(())
+}
+
+// The last digit of the number.
+fn last_digit(number: u32) -> u8 {
+    b'0' + (number % 10) as u8
 }
 
 // Two digits for the place.

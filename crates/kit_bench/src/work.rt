@@ -1,0 +1,78 @@
+//! The threads that send, so that a write and an ask can be timed.
+
+use crate::fault::BenchFault;
+use crate::worker::Worker;
+use ak_base::{Bytes, NoMemory};
+use ak_flatten::{Duty, Item};
+use ak_port::{CloseAnswer, WriteAnswer, close, open_ask, wait_for, write};
+use std::alloc::Global;
+use std::sync::Wait;
+use std::thread::{Threads, map_vec};
+
+/// The workers send so many items each, in threads of their own; then the port is shut. Answers how many were sent.
+pub fn work_all<R: Threads + Wait + Sync>(
+    rt: &R,
+    alloc: Global,
+    workers: Vec<Worker>,
+    mut closer: Worker,
+    asks: bool,
+    each: u32,
+) -> Result<u64, BenchFault> {
+    let done = map_vec(rt, workers, &|worker: Worker| -> Result<u64, NoMemory> {
+        work(rt, alloc, worker, asks, each)
+    });
+    let _ = shut(rt, &mut closer);
+    let mut count = 0u64;
+    for sent in done? {
+        count = count.wrapping_add(sent?);
+    }
+    Ok(count)
+}
+
+/// Sends so many items, and waits for the reply to each where it asks. Answers how many that were.
+fn work<R: Wait>(
+    rt: &R,
+    alloc: Global,
+    mut worker: Worker,
+    asks: bool,
+    each: u32,
+) -> Result<u64, NoMemory> {
+    for _ in 0..each {
+        let item = worker.item.try_clone(alloc)?;
+        if asks {
+            let _ = ask(rt, &mut worker, item)?;
+        } else {
+            write_one(rt, &mut worker, item)?;
+        }
+    }
+    Ok(u64::from(each))
+}
+
+/// Writes the item once there is room.
+fn write_one<R: Wait>(rt: &R, worker: &mut Worker, item: Item) -> Result<(), NoMemory> {
+    match write(&worker.port, rt, &mut worker.at_port, &mut worker.clock, item) {
+        WriteAnswer::Wrote(_) => Ok(()),
+        _ => Err(NoMemory),
+    }
+}
+
+/// One round trip: opens a slot, writes the item with the duty to fill it, and waits for the reply.
+fn ask<R: Wait>(rt: &R, worker: &mut Worker, item: Item) -> Result<Bytes, NoMemory> {
+    let slot = open_ask(&worker.book, rt, &mut worker.at_book, &mut worker.clock)?;
+    let owed = item.with_duty(Duty::Slot(slot));
+    match write(&worker.port, rt, &mut worker.at_port, &mut worker.clock, owed) {
+        WriteAnswer::Wrote(_) => Ok(wait_for(
+            &worker.book,
+            rt,
+            &mut worker.at_book,
+            &mut worker.clock,
+            slot,
+        )),
+        _ => Err(NoMemory),
+    }
+}
+
+/// Shuts the port.
+fn shut<R: Wait>(rt: &R, closer: &mut Worker) -> CloseAnswer {
+    close(&closer.port, rt, &mut closer.at_port, &mut closer.clock)
+}

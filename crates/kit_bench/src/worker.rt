@@ -1,0 +1,127 @@
+//! The threads at a port and a reply book that are timed: what each holds.
+ghost use Rattle.std.specs.Prelude.{◌≡◌, ◌≤◌, ◌+◌, ◌∷◌, [], false, Some, IfOk};
+ghost use Rattle.std.specs.Arc.{arc_value};
+ghost use Rattle.ak_base.specs.Limits.{capacity_limit};
+ghost use Rattle.ak_port.specs.PortCalls.{CanTake};
+ghost use Rattle.kit_bench.specs.Turns.{AreNamesBelow};
+
+use crate::fault::BenchFault;
+use crate::samples::ask;
+use ak_base::{Code, ThreadId};
+use ak_flatten::{Duty, Item};
+use ak_message::{Message, Target, Value};
+use ak_port::{LIFE_LIMIT, Port, PortBook, ReplyBook, make};
+use ak_turn::{Clock, Seat, TurnLock};
+use std::alloc::Global;
+use std::sync::Arc;
+
+/// The thread that takes, and that answers where one asks.
+const TAKER: ThreadId = ThreadId(0);
+
+/// A thread's clock, its seats at a port and at a reply book, and the item of which it sends copies.
+#[derive(Drop)]
+pub struct Worker {
+    pub clock: Clock,
+    pub port: Arc<Port>,
+    pub at_port: Seat<PortBook>,
+    pub book: Arc<TurnLock<ReplyBook>>,
+    pub at_book: Seat<ReplyBook>,
+    pub item: Item,
+    ghost of_port: { at_port.lock ≡ arc_value port },
+    ghost port_idle: { at_port.turn ≡ false },
+    ghost port_thread: { at_port.thread ≡ clock.thread.0 },
+    ghost of_book: { at_book.lock ≡ arc_value book },
+    ghost book_idle: { at_book.turn ≡ false },
+    ghost book_thread: { at_book.thread ≡ clock.thread.0 },
+}
+
+fn item_of(alloc: Global, message: &Message) -> Result<Item, BenchFault> {
+    Ok(Item::new(alloc, Target::Preferred, 0, false, Duty::None, message)?)
+}
+
+/// A small reply: an error number.
+fn reply(alloc: Global) -> Result<Item, BenchFault> {
+    let mut message = Message::new(alloc, Code::REPLY);
+    message.add(b"error", Value::Int32(0))?;
+    item_of(alloc, &message)
+}
+
+/// The thread that takes from a new port, which holds so many items at a time, with a new reply book.
+pub fn new_taker(alloc: Global, room: u32) -> Result<Worker, BenchFault>
+    requires holds { 1 ≤ room }
+    requires fits { room ≤ capacity_limit }
+    ensures taking { IfOk result (λ taker. CanTake taker.clock.thread room taker.at_port) }
+    ensures port_names { IfOk result (λ taker. taker.at_port.names ≡ Some (0 ∷ [])) }
+    ensures book_names { IfOk result (λ taker. taker.at_book.names ≡ Some (0 ∷ [])) }
+{
+    let item = reply(alloc)?;
+    let mut first = Clock {
+        thread: TAKER,
+        time: 0,
+    };
+    let (port, at_port) = make(alloc, room, LIFE_LIMIT, TAKER, &mut first)?;
+    let (book, at_book) = TurnLock::new(alloc, ReplyBook::new(alloc)?, TAKER)?;
+    Ok(Worker {
+        clock: Clock {
+            thread: TAKER,
+            time: 0,
+        },
+        port,
+        at_port,
+        book,
+        at_book,
+        item,
+    })
+}
+
+/// A new thread with that number, at the same port and book.
+#[tactic(auto, using(crate::proofs::Naming::naming, crate::proofs::Taking::can_still))]
+fn split_off(
+    alloc: Global,
+    head: &mut Worker,
+    room: u32,
+    number: u32,
+) -> Result<Worker, BenchFault>
+    requires taking { CanTake head.old.clock.thread room head.old.at_port }
+    requires port_names { AreNamesBelow number head.old.at_port.names }
+    requires book_names { AreNamesBelow number head.old.at_book.names }
+    ensures taking { CanTake head.new.clock.thread room head.new.at_port }
+    ensures port_names { IfOk result (λ _. AreNamesBelow (number + 1) head.new.at_port.names) }
+    ensures book_names { IfOk result (λ _. AreNamesBelow (number + 1) head.new.at_book.names) }
+{
+    let item = item_of(alloc, &ask(alloc)?)?;
+    let port = Arc::try_clone(&head.port)?;
+    let book = Arc::try_clone(&head.book)?;
+    let thread = ThreadId(number);
+    let at_port = port.split(&mut head.at_port, thread);
+    let at_book = book.split(&mut head.at_book, thread);
+    Ok(Worker {
+        clock: Clock { thread, time: 0 },
+        port,
+        at_port,
+        book,
+        at_book,
+        item,
+    })
+}
+
+/// That many new threads. The taker stays at its port, and takes as many items at a time.
+#[tactic(auto, using(crate::proofs::Naming::naming))]
+pub fn split_workers(
+    alloc: Global,
+    head: &mut Worker,
+    room: u32,
+    count: u32,
+) -> Result<Vec<Worker>, BenchFault>
+    requires few { count ≤ 9 }
+    requires taking { CanTake head.old.clock.thread room head.old.at_port }
+    requires port_names { head.old.at_port.names ≡ Some (0 ∷ []) }
+    requires book_names { head.old.at_book.names ≡ Some (0 ∷ []) }
+    ensures taking { CanTake head.new.clock.thread room head.new.at_port }
+{
+    let mut workers = Vec::new(alloc);
+    for place in 0..count {
+        workers.push(split_off(alloc, head, room, place + 1)?)?;
+    }
+    Ok(workers)
+}
