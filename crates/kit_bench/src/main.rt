@@ -19,6 +19,7 @@
 #![tactic(auto)]
 
 mod fault;
+mod hands;
 mod held;
 mod orders;
 mod rounds;
@@ -28,7 +29,6 @@ mod taker;
 mod tally;
 mod turns;
 mod work;
-mod worker;
 
 use fault::BenchFault;
 use orders::count_of;

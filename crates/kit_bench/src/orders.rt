@@ -5,7 +5,7 @@ use crate::fault::BenchFault;
 use crate::rounds::{Sending, count_items};
 use crate::routes::{Shape, deliveries};
 use crate::samples::{checksum, message};
-use crate::turns::{count_after_wait, count_turns};
+use crate::turns::{Turns, count_turns};
 use ak_filter::FILTER_LIMIT;
 use ak_handler::HANDLER_LIMIT;
 use ak_port::CAPACITY_LIMIT;
@@ -96,14 +96,10 @@ fn count_entries<R: AllocGlobal + Threads + Wait + Clock + Sync>(
         return Err(BenchFault::Usage);
     };
     if threads.as_str() == "wait" {
-        return count_after_wait(rt, rt.alloc(), rounds);
+        return count_turns(rt, rt.alloc(), 2, Turns::Wait(rounds));
     }
-    count_turns(
-        rt,
-        rt.alloc(),
-        read_number(threads, 1, THREAD_LIMIT)?,
-        rounds,
-    )
+    let threads = read_number(threads, 1, THREAD_LIMIT)?;
+    count_turns(rt, rt.alloc(), threads, Turns::Enter(rounds))
 }
 
 fn count_taken<R: AllocGlobal + Threads + Wait + Sync>(

@@ -7,7 +7,7 @@ ghost use Rattle.ak_port.specs.PortCalls.{CanTake};
 use crate::fault::BenchFault;
 use crate::taker::take_all;
 use crate::work::work_all;
-use crate::worker::{Worker, new_taker, split_workers};
+use crate::hands::{Hands, new_taker, split_all};
 use ak_port::LIFE_LIMIT;
 use std::alloc::Global;
 use std::collections::VecDeque;
@@ -51,7 +51,7 @@ fn round<R: Threads + Wait + Sync>(
     each: u32,
 ) -> Result<u64, BenchFault> {
     let mut taker = new_taker(alloc, sending.capacity)?;
-    let mut workers = split_workers(alloc, &mut taker, sending.capacity, sending.workers + 1)?;
+    let mut workers = split_all(alloc, &mut taker, sending.capacity, sending.workers + 1)?;
     let Some(closer) = workers.pop() else {
         return Err(BenchFault::Stopped);
     };
@@ -71,10 +71,10 @@ fn round<R: Threads + Wait + Sync>(
 fn side_by_side<R: Threads + Wait + Sync>(
     rt: &R,
     alloc: Global,
-    taker: Worker,
+    taker: Hands,
     most: u32,
-    workers: Vec<Worker>,
-    closer: Worker,
+    workers: Vec<Hands>,
+    closer: Hands,
     asks: bool,
     each: u32,
 ) -> Result<u64, BenchFault>

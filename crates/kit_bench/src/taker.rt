@@ -4,7 +4,7 @@ ghost use Rattle.std.specs.VecDeque.{deque_capacity};
 ghost use Rattle.ak_port.specs.PortCalls.{CanTake, IfTook};
 ghost use Rattle.ak_port.specs.Reply.{IsFlatText};
 
-use crate::worker::Worker;
+use crate::hands::Hands;
 use ak_base::{Bytes, NoMemory};
 use ak_flatten::{Duty, Item, Taken};
 use ak_port::{FillAnswer, TakeAnswer, fill, fill_none, take};
@@ -18,7 +18,7 @@ use std::sync::Wait;
 pub fn take_all<R: Wait>(
     rt: &R,
     alloc: Global,
-    mut taker: Worker,
+    mut taker: Hands,
     room: VecDeque<Taken>,
     most: u32,
 ) -> u64
@@ -44,7 +44,7 @@ pub fn take_all<R: Wait>(
 #[tactic(auto, using(crate::proofs::Taking::took_again))]
 fn take_next<R: Wait>(
     rt: &R,
-    taker: &mut Worker,
+    taker: &mut Hands,
     taken: &mut VecDeque<Taken>,
     most: u32,
 ) -> TakeAnswer
@@ -62,7 +62,7 @@ fn take_next<R: Wait>(
 fn answer_each<R: Wait>(
     rt: &R,
     alloc: Global,
-    taker: &mut Worker,
+    taker: &mut Hands,
     taken: &mut VecDeque<Taken>,
 )
     ensures port { taker.new.at_port ≡ taker.old.at_port }
@@ -78,7 +78,7 @@ fn answer_each<R: Wait>(
 }
 
 /// Fills the slot with the taker's item, or with none where there is no memory for it.
-fn answer<R: Wait>(rt: &R, alloc: Global, taker: &mut Worker, slot: u64) -> FillAnswer
+fn answer<R: Wait>(rt: &R, alloc: Global, taker: &mut Hands, slot: u64) -> FillAnswer
     ensures port { taker.new.at_port ≡ taker.old.at_port }
     ensures clock { taker.new.clock.thread ≡ taker.old.clock.thread }
 {

@@ -9,7 +9,7 @@ use ak_base::{NoMemory, ThreadId};
 use ak_turn::{Book, Clock, Seat, TurnLock};
 use std::alloc::Global;
 use std::sync::Wait;
-use std::thread::{Threads, join, map_vec, sleep};
+use std::thread::{Threads, map_vec, sleep};
 use std::time;
 use std::time::Duration;
 
@@ -23,12 +23,21 @@ pub struct Worker {
     thread: ThreadId,
 }
 
-/// That many threads enter so many numbers each, a turn for each number. Answers how many entries there are.
-pub fn count_turns<R: Threads + Wait + Sync>(
+/// What each thread does.
+#[derive(Clone, Copy)]
+pub enum Turns {
+    /// It enters so many numbers, a turn for each number.
+    Enter(u32),
+    /// The first one waits for its turn and makes an entry, since another has the turn for so many milliseconds.
+    Wait(u32),
+}
+
+/// So many threads take their turns. Answers how many entries there are then.
+pub fn count_turns<R: Threads + Wait + time::Clock + Sync>(
     rt: &R,
     alloc: Global,
     threads: u32,
-    each: u32,
+    turns: Turns,
 ) -> Result<u64, BenchFault> {
     let (shared, mut seat) = TurnLock::new(alloc, Tally::new(alloc), ThreadId(0))?;
     let lock: &TurnLock<Tally> = &shared;
@@ -38,40 +47,12 @@ pub fn count_turns<R: Threads + Wait + Sync>(
         jobs,
         &|worker: Worker| -> Result<(), NoMemory>
             requires { IsReady lock.now worker.thread.0 worker.seat }
-        { work(rt, lock, worker, each) },
+        { work(rt, lock, worker, turns) },
     )?;
     for worked in done {
         worked?;
     }
     Ok(count_entries(rt, lock, seat))
-}
-
-/// One thread has the turn for so many milliseconds, and another one waits for it and makes an entry. Answers
-/// how many entries there are.
-pub fn count_after_wait<R: Threads + Wait + time::Clock + Sync>(
-    rt: &R,
-    alloc: Global,
-    milliseconds: u32,
-) -> Result<u64, BenchFault> {
-    let (shared, mut seat) = TurnLock::new(alloc, Tally::new(alloc), ThreadId(0))?;
-    let lock: &TurnLock<Tally> = &shared;
-    let thread = ThreadId(1);
-    let other = Worker {
-        seat: lock.split(&mut seat, thread),
-        thread,
-    };
-    let (waited, held) = join(
-        rt,
-        || -> Result<(), NoMemory>
-            requires { IsReady lock.now other.thread.0 other.seat }
-        { work_later(rt, lock, other) },
-        || -> Seat<Tally>
-            requires { IsIdleAt lock.now seat }
-            ensures { IsIdleAt lock.entry.now result }
-        { hold(rt, lock, seat, milliseconds) },
-    );
-    waited?;
-    Ok(count_entries(rt, lock, held))
 }
 
 /// Seats for that many new threads, with the numbers from 1 on.
@@ -98,8 +79,45 @@ fn workers(
     Ok(workers)
 }
 
+/// Takes the turns of one thread.
+fn work<R: Wait + time::Clock>(
+    rt: &R,
+    lock: &TurnLock<Tally>,
+    worker: Worker,
+    turns: Turns,
+) -> Result<(), NoMemory>
+    requires { IsReady lock.now worker.thread.0 worker.seat }
+{
+    match turns {
+        Turns::Enter(each) => enter_all(rt, lock, worker, each),
+        Turns::Wait(milliseconds) => wait_or_hold(rt, lock, worker, milliseconds),
+    }
+}
+
+/// The first thread enters one number, a moment later, and another has its turn for so long.
+fn wait_or_hold<R: Wait + time::Clock>(
+    rt: &R,
+    lock: &TurnLock<Tally>,
+    worker: Worker,
+    milliseconds: u32,
+) -> Result<(), NoMemory>
+    requires { IsReady lock.now worker.thread.0 worker.seat }
+{
+    if worker.thread.0 == 1 {
+        sleep(rt, Duration::from_millis(LATER));
+        return enter_all(rt, lock, worker, 1);
+    }
+    hold(rt, lock, worker, milliseconds);
+    Ok(())
+}
+
 /// Enters the numbers from 0 on, so many.
-fn work<R: Wait>(rt: &R, lock: &TurnLock<Tally>, worker: Worker, each: u32) -> Result<(), NoMemory>
+fn enter_all<R: Wait>(
+    rt: &R,
+    lock: &TurnLock<Tally>,
+    worker: Worker,
+    each: u32,
+) -> Result<(), NoMemory>
     requires { IsReady lock.now worker.thread.0 worker.seat }
 {
     let Worker { mut seat, thread } = worker;
@@ -108,18 +126,6 @@ fn work<R: Wait>(rt: &R, lock: &TurnLock<Tally>, worker: Worker, each: u32) -> R
         enter(rt, lock, &mut seat, &mut clock, number)?;
     }
     Ok(())
-}
-
-/// Enters one number, a moment later.
-fn work_later<R: Wait + time::Clock>(
-    rt: &R,
-    lock: &TurnLock<Tally>,
-    worker: Worker,
-) -> Result<(), NoMemory>
-    requires { IsReady lock.now worker.thread.0 worker.seat }
-{
-    sleep(rt, Duration::from_millis(LATER));
-    work(rt, lock, worker, 1)
 }
 
 /// A turn in which that number is entered, by the seat's thread.
@@ -151,19 +157,16 @@ fn enter(
 }
 
 /// A turn that takes so many milliseconds, and leaves the list as it is.
-fn hold<R: Wait + time::Clock>(
-    rt: &R,
-    lock: &TurnLock<Tally>,
-    mut seat: Seat<Tally>,
-    milliseconds: u32,
-) -> Seat<Tally>
-    requires { IsIdleAt lock.now seat }
-    ensures { HasSeen (λ c. c.by.0) seat result }
+fn hold<R: Wait + time::Clock>(rt: &R, lock: &TurnLock<Tally>, worker: Worker, milliseconds: u32)
+    requires { IsReady lock.now worker.thread.0 worker.seat }
 {
+    let Worker {
+        mut seat,
+        thread: _,
+    } = worker;
     let turn = lock.lock(rt, &mut seat);
     sleep(rt, Duration::from_millis(u64::from(milliseconds)));
     turn.finish(&mut seat);
-    seat
 }
 
 /// How many entries there are. No turn comes after it.

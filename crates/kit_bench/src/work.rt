@@ -1,7 +1,7 @@
 //! The threads that send, so that a write and an ask can be timed.
 
 use crate::fault::BenchFault;
-use crate::worker::Worker;
+use crate::hands::Hands;
 use ak_base::{Bytes, NoMemory};
 use ak_flatten::{Duty, Item};
 use ak_port::{CloseAnswer, WriteAnswer, close, open_ask, wait_for, write};
@@ -13,13 +13,13 @@ use std::thread::{Threads, map_vec};
 pub fn work_all<R: Threads + Wait + Sync>(
     rt: &R,
     alloc: Global,
-    workers: Vec<Worker>,
-    mut closer: Worker,
+    workers: Vec<Hands>,
+    mut closer: Hands,
     asks: bool,
     each: u32,
 ) -> Result<u64, BenchFault> {
-    let done = map_vec(rt, workers, &|worker: Worker| -> Result<u64, NoMemory> {
-        work(rt, alloc, worker, asks, each)
+    let done = map_vec(rt, workers, &|hands: Hands| -> Result<u64, NoMemory> {
+        work(rt, alloc, hands, asks, each)
     });
     let _ = shut(rt, &mut closer);
     let mut count = 0u64;
@@ -33,39 +33,39 @@ pub fn work_all<R: Threads + Wait + Sync>(
 fn work<R: Wait>(
     rt: &R,
     alloc: Global,
-    mut worker: Worker,
+    mut hands: Hands,
     asks: bool,
     each: u32,
 ) -> Result<u64, NoMemory> {
     for _ in 0..each {
-        let item = worker.item.try_clone(alloc)?;
+        let item = hands.item.try_clone(alloc)?;
         if asks {
-            let _ = ask(rt, &mut worker, item)?;
+            let _ = ask(rt, &mut hands, item)?;
         } else {
-            write_one(rt, &mut worker, item)?;
+            write_one(rt, &mut hands, item)?;
         }
     }
     Ok(u64::from(each))
 }
 
 /// Writes the item once there is room.
-fn write_one<R: Wait>(rt: &R, worker: &mut Worker, item: Item) -> Result<(), NoMemory> {
-    match write(&worker.port, rt, &mut worker.at_port, &mut worker.clock, item) {
+fn write_one<R: Wait>(rt: &R, hands: &mut Hands, item: Item) -> Result<(), NoMemory> {
+    match write(&hands.port, rt, &mut hands.at_port, &mut hands.clock, item) {
         WriteAnswer::Wrote(_) => Ok(()),
         _ => Err(NoMemory),
     }
 }
 
 /// One round trip: opens a slot, writes the item with the duty to fill it, and waits for the reply.
-fn ask<R: Wait>(rt: &R, worker: &mut Worker, item: Item) -> Result<Bytes, NoMemory> {
-    let slot = open_ask(&worker.book, rt, &mut worker.at_book, &mut worker.clock)?;
+fn ask<R: Wait>(rt: &R, hands: &mut Hands, item: Item) -> Result<Bytes, NoMemory> {
+    let slot = open_ask(&hands.book, rt, &mut hands.at_book, &mut hands.clock)?;
     let owed = item.with_duty(Duty::Slot(slot));
-    match write(&worker.port, rt, &mut worker.at_port, &mut worker.clock, owed) {
+    match write(&hands.port, rt, &mut hands.at_port, &mut hands.clock, owed) {
         WriteAnswer::Wrote(_) => Ok(wait_for(
-            &worker.book,
+            &hands.book,
             rt,
-            &mut worker.at_book,
-            &mut worker.clock,
+            &mut hands.at_book,
+            &mut hands.clock,
             slot,
         )),
         _ => Err(NoMemory),
@@ -73,6 +73,6 @@ fn ask<R: Wait>(rt: &R, worker: &mut Worker, item: Item) -> Result<Bytes, NoMemo
 }
 
 /// Shuts the port.
-fn shut<R: Wait>(rt: &R, closer: &mut Worker) -> CloseAnswer {
+fn shut<R: Wait>(rt: &R, closer: &mut Hands) -> CloseAnswer {
     close(&closer.port, rt, &mut closer.at_port, &mut closer.clock)
 }

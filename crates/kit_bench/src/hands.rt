@@ -1,4 +1,4 @@
-//! The threads at a port and a reply book that are timed: what each holds.
+//! What the threads hold that are timed at a port and at a reply book.
 ghost use Rattle.std.specs.Prelude.{◌≡◌, ◌≤◌, ◌+◌, ◌∷◌, [], false, Some, IfOk};
 ghost use Rattle.std.specs.Arc.{arc_value};
 ghost use Rattle.ak_base.specs.Limits.{capacity_limit};
@@ -18,9 +18,9 @@ use std::sync::Arc;
 /// The thread that takes, and that answers where one asks.
 const TAKER: ThreadId = ThreadId(0);
 
-/// A thread's clock, its seats at a port and at a reply book, and the item of which it sends copies.
+/// What one thread holds: its clock, its seats at a port and at a reply book, and the item of which it sends copies.
 #[derive(Drop)]
-pub struct Worker {
+pub struct Hands {
     pub clock: Clock,
     pub port: Arc<Port>,
     pub at_port: Seat<PortBook>,
@@ -39,15 +39,15 @@ fn item_of(alloc: Global, message: &Message) -> Result<Item, BenchFault> {
     Ok(Item::new(alloc, Target::Preferred, 0, false, Duty::None, message)?)
 }
 
-/// A small reply: an error number.
+// A small reply: an error number.
 fn reply(alloc: Global) -> Result<Item, BenchFault> {
     let mut message = Message::new(alloc, Code::REPLY);
     message.add(b"error", Value::Int32(0))?;
     item_of(alloc, &message)
 }
 
-/// The thread that takes from a new port, which holds so many items at a time, with a new reply book.
-pub fn new_taker(alloc: Global, room: u32) -> Result<Worker, BenchFault>
+/// The hands of the thread that takes from a new port, which holds so many items at a time, with a new reply book.
+pub fn new_taker(alloc: Global, room: u32) -> Result<Hands, BenchFault>
     requires holds { 1 ≤ room }
     requires fits { room ≤ capacity_limit }
     ensures taking { IfOk result (λ taker. CanTake taker.clock.thread room taker.at_port) }
@@ -61,7 +61,7 @@ pub fn new_taker(alloc: Global, room: u32) -> Result<Worker, BenchFault>
     };
     let (port, at_port) = make(alloc, room, LIFE_LIMIT, TAKER, &mut first)?;
     let (book, at_book) = TurnLock::new(alloc, ReplyBook::new(alloc)?, TAKER)?;
-    Ok(Worker {
+    Ok(Hands {
         clock: Clock {
             thread: TAKER,
             time: 0,
@@ -74,14 +74,14 @@ pub fn new_taker(alloc: Global, room: u32) -> Result<Worker, BenchFault>
     })
 }
 
-/// A new thread with that number, at the same port and book.
+/// The hands of a new thread with that number, at the same port and book.
 #[tactic(auto, using(crate::proofs::Naming::naming, crate::proofs::Taking::can_still))]
 fn split_off(
     alloc: Global,
-    head: &mut Worker,
+    head: &mut Hands,
     room: u32,
     number: u32,
-) -> Result<Worker, BenchFault>
+) -> Result<Hands, BenchFault>
     requires taking { CanTake head.old.clock.thread room head.old.at_port }
     requires port_names { AreNamesBelow number head.old.at_port.names }
     requires book_names { AreNamesBelow number head.old.at_book.names }
@@ -95,7 +95,7 @@ fn split_off(
     let thread = ThreadId(number);
     let at_port = port.split(&mut head.at_port, thread);
     let at_book = book.split(&mut head.at_book, thread);
-    Ok(Worker {
+    Ok(Hands {
         clock: Clock { thread, time: 0 },
         port,
         at_port,
@@ -105,23 +105,23 @@ fn split_off(
     })
 }
 
-/// That many new threads. The taker stays at its port, and takes as many items at a time.
+/// The hands of that many new threads. The taker stays at its port, and takes as many items at a time.
 #[tactic(auto, using(crate::proofs::Naming::naming))]
-pub fn split_workers(
+pub fn split_all(
     alloc: Global,
-    head: &mut Worker,
+    head: &mut Hands,
     room: u32,
     count: u32,
-) -> Result<Vec<Worker>, BenchFault>
+) -> Result<Vec<Hands>, BenchFault>
     requires few { count ≤ 9 }
     requires taking { CanTake head.old.clock.thread room head.old.at_port }
     requires port_names { head.old.at_port.names ≡ Some (0 ∷ []) }
     requires book_names { head.old.at_book.names ≡ Some (0 ∷ []) }
     ensures taking { CanTake head.new.clock.thread room head.new.at_port }
 {
-    let mut workers = Vec::new(alloc);
+    let mut hands = Vec::new(alloc);
     for place in 0..count {
-        workers.push(split_off(alloc, head, room, place + 1)?)?;
+        hands.push(split_off(alloc, head, room, place + 1)?)?;
     }
-    Ok(workers)
+    Ok(hands)
 }

@@ -2,7 +2,7 @@
 use Rattle.std.proofs.Common.{◌+◌}
 use Rattle.ak_port.specs.PortCalls.{CanTake}
 use Rattle.kit_bench.specs.Turns.{AreNamesBelow}
-use Rattle.kit_bench.proofs.worker.split_workers.Given as goal
+use Rattle.kit_bench.proofs.hands.split_all.Given as goal
 
 abbrev pub invariant-loop-place : goal.invariant-loop-place
 invariant-loop-place l = record {
