@@ -6,10 +6,10 @@ ghost use Rattle.ak_port.specs.PortCalls.{CanTake};
 ghost use Rattle.kit_bench.specs.Turns.{AreNamesBelow};
 
 use crate::fault::BenchFault;
-use crate::samples::ask;
-use ak_base::{Code, ThreadId};
+use crate::samples::{ASK, message_of};
+use ak_base::ThreadId;
 use ak_flatten::{Duty, Item};
-use ak_message::{Message, Target, Value};
+use ak_message::Target;
 use ak_port::{LIFE_LIMIT, Port, PortBook, ReplyBook, make};
 use ak_turn::{Clock, Seat, TurnLock};
 use std::alloc::Global;
@@ -17,6 +17,9 @@ use std::sync::Arc;
 
 /// The thread that takes, and that answers where one asks.
 const TAKER: ThreadId = ThreadId(0);
+
+/// A small reply: an error number.
+const REPLY: &[u8] = b"'RPLY' error=LONG:0";
 
 /// What one thread holds: its clock, its seats at a port and at a reply book, and the item of which it sends copies.
 #[derive(Drop)]
@@ -35,15 +38,10 @@ pub struct Hands {
     ghost book_thread: { at_book.thread ≡ clock.thread.0 },
 }
 
-fn item_of(alloc: Global, message: &Message) -> Result<Item, BenchFault> {
-    Ok(Item::new(alloc, Target::Preferred, 0, false, Duty::None, message)?)
-}
-
-// A small reply: an error number.
-fn reply(alloc: Global) -> Result<Item, BenchFault> {
-    let mut message = Message::new(alloc, Code::REPLY);
-    message.add(b"error", Value::Int32(0))?;
-    item_of(alloc, &message)
+/// The item of the message that the text writes.
+fn item_of(alloc: Global, text: &[u8]) -> Result<Item, BenchFault> {
+    let message = message_of(alloc, text)?;
+    Ok(Item::new(alloc, Target::Preferred, 0, false, Duty::None, &message)?)
 }
 
 /// The hands of the thread that takes from a new port, which holds so many items at a time, with a new reply book.
@@ -54,7 +52,7 @@ pub fn new_taker(alloc: Global, room: u32) -> Result<Hands, BenchFault>
     ensures port_names { IfOk result (λ taker. taker.at_port.names ≡ Some (0 ∷ [])) }
     ensures book_names { IfOk result (λ taker. taker.at_book.names ≡ Some (0 ∷ [])) }
 {
-    let item = reply(alloc)?;
+    let item = item_of(alloc, REPLY)?;
     let mut first = Clock {
         thread: TAKER,
         time: 0,
@@ -89,7 +87,7 @@ fn split_off(
     ensures port_names { IfOk result (λ _. AreNamesBelow (number + 1) head.new.at_port.names) }
     ensures book_names { IfOk result (λ _. AreNamesBelow (number + 1) head.new.at_book.names) }
 {
-    let item = item_of(alloc, &ask(alloc)?)?;
+    let item = item_of(alloc, ASK)?;
     let port = Arc::try_clone(&head.port)?;
     let book = Arc::try_clone(&head.book)?;
     let thread = ThreadId(number);

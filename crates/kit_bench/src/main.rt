@@ -32,12 +32,12 @@ mod work;
 
 use fault::BenchFault;
 use orders::count_of;
+use std::env;
 use std::env::Env;
 use std::process::ExitCode;
 use std::sync::Wait;
 use std::thread::Threads;
 use std::time::Clock;
-use std::{env, io};
 
 /// The words of the command line behind the program's name.
 fn given_words(rt: &(impl Env + AllocGlobal)) -> Result<Vec<String>, BenchFault> {
@@ -48,49 +48,28 @@ fn given_words(rt: &(impl Env + AllocGlobal)) -> Result<Vec<String>, BenchFault>
     Ok(words)
 }
 
-fn print_usage(rt: &impl Print) -> io::Result<()> {
-    println!(rt;
-        "usage: kit_bench flat ask|reply|deep|raw N\n       kit_bench route HANDLERS FILTERS N\n       kit_bench turn THREADS|wait N\n       kit_bench port CAPACITY WRITERS N\n       kit_bench ask N\n       several of these with the word then between them"
-    )
-}
-
-fn print_line(
-    rt: &impl Print,
-    words: &[String],
-    counted: &'static str,
-    count: u64,
-) -> io::Result<()> {
-    for word in words {
-        print!(rt; "{word} ")?;
-    }
-    println!(rt; "{counted} {count}")
-}
-
 /// Carries out one order, and prints its line.
 fn carry_out<R: Print + AllocGlobal + Threads + Wait + Clock + Sync>(
     rt: &R,
     words: &[String],
 ) -> Result<(), BenchFault> {
     let (counted, count) = count_of(rt, words)?;
-    Ok(print_line(rt, words, counted, count)?)
-}
-
-/// Carries out the orders in turn, up to the first that fails.
-fn carry_out_all<R: Print + AllocGlobal + Threads + Wait + Clock + Sync>(
-    rt: &R,
-    words: &[String],
-) -> Result<(), BenchFault> {
-    for order in words.split(|word| word.as_str() == "then") {
-        carry_out(rt, order)?;
+    for word in words {
+        print!(rt; "{word} ")?;
     }
+    println!(rt; "{counted} {count}")?;
     Ok(())
 }
 
+/// Carries out the orders of the command line in turn, up to the first that fails.
 fn run<R: Print + AllocGlobal + Env + Threads + Wait + Clock + Sync>(
     rt: &R,
 ) -> Result<(), BenchFault> {
     let words = given_words(rt)?;
-    carry_out_all(rt, &words)
+    for order in words.split(|word| word.as_str() == "then") {
+        carry_out(rt, order)?;
+    }
+    Ok(())
 }
 
 fn main(rt: HostRuntime) -> ExitCode {
@@ -99,7 +78,9 @@ fn main(rt: HostRuntime) -> ExitCode {
         Err(fault) => fault.status(),
     };
     if status == 1 {
-        let _ = print_usage(&rt);
+        let _ = println!(rt;
+            "usage: kit_bench flat ask|reply|deep|raw N\n       kit_bench route HANDLERS FILTERS N\n       kit_bench turn THREADS|wait N\n       kit_bench port CAPACITY WRITERS N\n       kit_bench ask N\n       several of these with the word then between them"
+        );
     }
     ExitCode::from(status)
 }

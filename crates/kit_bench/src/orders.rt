@@ -41,30 +41,21 @@ pub fn count_of<R: AllocGlobal + Threads + Wait + Clock + Sync>(
     }
 }
 
-/// The number that the word says, which is one of these.
+// The number that the word says in decimal, which is one of these. Digit by digit: the reader of std, with all that it promises,
+// costs the check five times as much. What is too great for a `u32` is read as the greatest one, which no order has.
 fn read_number(word: &String, least: u32, most: u32) -> Result<u32, BenchFault>
     ensures { IfOk result (λ number. (least ≤ number) × (number ≤ most)) }
 {
-    let number = decimal(word.as_bytes())?;
-    if number < least || number > most {
-        return Err(BenchFault::Usage);
-    }
-    Ok(number)
-}
-
-// The number that the digits say, or one that no order has where it is too great. Digit by digit: the reader of std, with all
-// that it promises, costs the check five times as much.
-fn decimal(digits: &[u8]) -> Result<u32, BenchFault> {
-    if digits.is_empty() {
-        return Err(BenchFault::Usage);
-    }
     let mut number: u32 = 0;
-    for digit in digits {
+    for digit in word.as_bytes() {
         let value = digit.wrapping_sub(b'0');
         if value > 9 {
             return Err(BenchFault::Usage);
         }
         number = number.saturating_mul(10).saturating_add(u32::from(value));
+    }
+    if word.is_empty() || number < least || number > most {
+        return Err(BenchFault::Usage);
     }
     Ok(number)
 }

@@ -5,9 +5,9 @@ ghost use Rattle.ak_base.specs.Limits.{capacity_limit};
 ghost use Rattle.ak_port.specs.PortCalls.{CanTake};
 
 use crate::fault::BenchFault;
+use crate::hands::{Hands, new_taker, split_all};
 use crate::taker::take_all;
 use crate::work::work_all;
-use crate::hands::{Hands, new_taker, split_all};
 use ak_port::LIFE_LIMIT;
 use std::alloc::Global;
 use std::collections::VecDeque;

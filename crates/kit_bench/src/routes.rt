@@ -2,11 +2,11 @@
 
 use crate::fault::BenchFault;
 use crate::held::Held;
-use ak_base::{Code, Items, Text};
+use ak_base::{Code, Text};
 use ak_filter::{DeliveryIs, Filter, FilterList, SourceIs};
 use ak_handler::{HandlerSet, LOOPER};
-use ak_message::{Kind, Message, Target};
-use ak_property::{PropertyRow, PropertyTable};
+use ak_message::{Message, Target};
+use ak_property::PropertyTable;
 use ak_route::{Place, Route, Taker, route};
 use std::alloc::Global;
 
@@ -89,14 +89,9 @@ fn link_handler(set: &mut HandlerSet<Held>, token: u64) -> Result<(), BenchFault
     Ok(())
 }
 
-// The last digit of the number.
-fn last_digit(number: u32) -> u8 {
-    b'0' + (number % 10) as u8
-}
-
 // Two digits for the place.
 fn name(alloc: Global, place: u32) -> Result<Text, BenchFault> {
-    let name = [last_digit(place / 10), last_digit(place)];
+    let name = [b'0' + (place / 10 % 10) as u8, b'0' + (place % 10) as u8];
     Ok(Text::from_bytes(alloc, name.as_slice())?)
 }
 
@@ -109,25 +104,12 @@ fn name_after(alloc: Global, shape: Shape, place: u32) -> Result<Option<Text>, B
     Ok(None)
 }
 
-/// A table of the one property `Count`.
-fn table(alloc: Global) -> Result<PropertyTable, BenchFault> {
-    let mut table = PropertyTable::new(alloc);
-    table.add_row(PropertyRow {
-        name: Text::from_bytes(alloc, b"Count")?,
-        kind: Kind::Int32,
-        commands: Items::from_vec(Vec::new(alloc)),
-        forms: Items::from_vec(Vec::new(alloc)),
-        usage: Text::from_bytes(alloc, b"")?,
-    })?;
-    Ok(table)
-}
-
-/// What the handler at that place holds: the property `Count`, its filters, and a reaction to another code.
+/// What the handler at that place holds: no property, its filters, and a reaction to another code.
 fn held(alloc: Global, shape: Shape, place: u32) -> Result<Held, BenchFault> {
     let to = name_after(alloc, shape, place)?;
     Ok(Held {
         filters: filters(alloc, shape.filters, to)?,
-        table: table(alloc)?,
+        table: PropertyTable::new(alloc),
         reaction: Code::REPLY,
     })
 }

@@ -1,22 +1,48 @@
 //! The messages that are timed.
 use crate::fault::BenchFault;
-use ak_base::{Bytes, Code, RAW_LIMIT, Raw, Text};
+use ak_base::{Bytes, Code, RAW_LIMIT, Raw};
 use ak_flatten::{flatten, unflatten};
-use ak_message::{Message, Value};
+use ak_message::{Message, Value, read_message, split_words};
 use std::alloc::Global;
 
-/// How many messages stand in one another in the one that is deepest.
-const DEEPEST: u32 = 16;
+/// A question: one specifier, which names a property.
+pub const ASK: &[u8] = b"'PGET' specifiers=MSGG:{0x00000001 property=CSTR:\"Count\"}";
+
+/// An answer: three texts of 80 bytes, and an error number.
+const REPLY: &[u8] = b"'RPLY' text=\
+CSTR:\"The window of the first view was moved to the workspace that a script had named.\",\
+CSTR:\"The property is found by its name, and what stands there is a number of 32 bits.\",\
+CSTR:\"Of the replies that had been asked for the last came before its time had passed.\" \
+error=LONG:0";
+
+/// 16 messages in one another, and a number in the innermost.
+const DEEP: &[u8] = b"\
+'NEST' inner=MSGG:{'NEST' inner=MSGG:{'NEST' inner=MSGG:{'NEST' inner=MSGG:{'NEST' inner=MSGG:{\
+'NEST' inner=MSGG:{'NEST' inner=MSGG:{'NEST' inner=MSGG:{'NEST' inner=MSGG:{'NEST' inner=MSGG:{\
+'NEST' inner=MSGG:{'NEST' inner=MSGG:{'NEST' inner=MSGG:{'NEST' inner=MSGG:{'NEST' inner=MSGG:{\
+'NEST' inner=LONG:16}}}}}}}}}}}}}}}";
+
+/// No message here has a longer text, in bytes.
+const LONGEST: usize = 1024;
 
 /// The message of that name.
 pub fn message(alloc: Global, name: &str) -> Result<Message, BenchFault> {
     match name {
-        "ask" => ask(alloc),
-        "reply" => reply(alloc),
-        "deep" => deep(alloc),
+        "ask" => message_of(alloc, ASK),
+        "reply" => message_of(alloc, REPLY),
+        "deep" => message_of(alloc, DEEP),
         "raw" => raw(alloc),
         _ => Err(BenchFault::Usage),
     }
+}
+
+/// The message that the text writes.
+pub fn message_of(alloc: Global, text: &[u8]) -> Result<Message, BenchFault> {
+    if text.len() > LONGEST {
+        return Err(BenchFault::Stopped);
+    }
+    let words = split_words(alloc, text)?;
+    Ok(read_message(alloc, words.as_slice())?)
 }
 
 /// What one round adds to the sum: the flat text's length, first byte and last byte, and the code and the
@@ -42,50 +68,6 @@ pub fn checksum(alloc: Global, message: &Message, rounds: u32) -> Result<u64, Be
     Ok(sum)
 }
 
-fn code(letters: &[u8; 4]) -> Code {
-    Code(u32::from_be_bytes(*letters))
-}
-
-fn text_value(alloc: Global, text: &[u8]) -> Result<Value, BenchFault> {
-    Ok(Value::Text(Text::from_bytes(alloc, text)?))
-}
-
-/// A question: one specifier, which names a property.
-pub fn ask(alloc: Global) -> Result<Message, BenchFault> {
-    let mut specifier = Message::new(alloc, Code(1));
-    specifier.add(b"property", text_value(alloc, b"Count")?)?;
-    let mut message = Message::new(alloc, code(b"PGET"));
-    message.add(b"specifiers", Value::from_message(alloc, specifier)?)?;
-    Ok(message)
-}
-
-/// An answer: three texts of 80 bytes, and an error number.
-fn reply(alloc: Global) -> Result<Message, BenchFault> {
-    let texts: [&[u8]; 3] = [
-        b"The window of the first view was moved to the workspace that a script had named.",
-        b"The property is found by its name, and what stands there is a number of 32 bits.",
-        b"Of the replies that had been asked for the last came before its time had passed.",
-    ];
-    let mut message = Message::new(alloc, code(b"RPLY"));
-    for text in texts {
-        message.add(b"text", text_value(alloc, text)?)?;
-    }
-    message.add(b"error", Value::Int32(0))?;
-    Ok(message)
-}
-
-/// Messages in one another, and a number in the innermost.
-fn deep(alloc: Global) -> Result<Message, BenchFault> {
-    let mut message = Message::new(alloc, code(b"NEST"));
-    message.add(b"inner", Value::Int32(16))?;
-    for _ in 1..DEEPEST {
-        let mut outer = Message::new(alloc, code(b"NEST"));
-        outer.add(b"inner", Value::from_message(alloc, message)?)?;
-        message = outer;
-    }
-    Ok(message)
-}
-
 /// The longest raw value, whose bytes count up to 250 and begin again.
 fn longest_raw(alloc: Global) -> Result<Raw, BenchFault> {
     let mut bytes = Bytes::new(alloc);
@@ -97,7 +79,7 @@ fn longest_raw(alloc: Global) -> Result<Raw, BenchFault> {
 
 /// Three raw values of 1,024 bytes.
 fn raw(alloc: Global) -> Result<Message, BenchFault> {
-    let mut message = Message::new(alloc, code(b"BLOB"));
+    let mut message = Message::new(alloc, Code(u32::from_be_bytes(*b"BLOB")));
     for _ in 0..3 {
         message.add(b"data", Value::Raw(longest_raw(alloc)?))?;
     }
