@@ -89,9 +89,14 @@ fn link_handler(set: &mut HandlerSet<Held>, token: u64) -> Result<(), BenchFault
     Ok(())
 }
 
+// The last digit of the number.
+fn last_digit(number: u32) -> u8 {
+    b'0' + (number % 10) as u8
+}
+
 // Two digits for the place.
 fn name(alloc: Global, place: u32) -> Result<Text, BenchFault> {
-    let name = [b'0' + (place / 10 % 10) as u8, b'0' + (place % 10) as u8];
+    let name = [last_digit(place / 10), last_digit(place)];
     Ok(Text::from_bytes(alloc, name.as_slice())?)
 }
 

@@ -73,6 +73,6 @@ fn ask<R: Wait>(rt: &R, hands: &mut Hands, item: Item) -> Result<Bytes, NoMemory
 }
 
 /// Shuts the port.
-fn shut<R: Wait>(rt: &R, closer: &mut Hands) -> CloseAnswer {
-    close(&closer.port, rt, &mut closer.at_port, &mut closer.clock)
+fn shut<R: Wait>(rt: &R, hands: &mut Hands) -> CloseAnswer {
+    close(&hands.port, rt, &mut hands.at_port, &mut hands.clock)
 }
