@@ -55,16 +55,18 @@ fn take_next<R: Wait>(
     ensures taking { IfTook result (λ _. CanTake taker.new.clock.thread most taker.new.at_port) }
     ensures room { deque_capacity taken.new ≡ most }
 {
-    take(&taker.port, rt, &mut taker.at_port, &mut taker.clock, taken, most)
+    take(
+        &taker.port,
+        rt,
+        &mut taker.at_port,
+        &mut taker.clock,
+        taken,
+        most,
+    )
 }
 
 /// Answers what was taken, and lets it go.
-fn answer_each<R: Wait>(
-    rt: &R,
-    alloc: Global,
-    taker: &mut Hands,
-    taken: &mut VecDeque<Taken>,
-)
+fn answer_each<R: Wait>(rt: &R, alloc: Global, taker: &mut Hands, taken: &mut VecDeque<Taken>)
     ensures port { taker.new.at_port ≡ taker.old.at_port }
     ensures clock { taker.new.clock.thread ≡ taker.old.clock.thread }
     ensures empty { taken.new.items ≡ [] }
@@ -83,7 +85,14 @@ fn answer<R: Wait>(rt: &R, alloc: Global, taker: &mut Hands, slot: u64) -> FillA
     ensures clock { taker.new.clock.thread ≡ taker.old.clock.thread }
 {
     match text_of(alloc, &taker.item) {
-        Ok(text) => fill(&taker.book, rt, &mut taker.at_book, &mut taker.clock, slot, text),
+        Ok(text) => fill(
+            &taker.book,
+            rt,
+            &mut taker.at_book,
+            &mut taker.clock,
+            slot,
+            text,
+        ),
         Err(_) => fill_none(&taker.book, rt, &mut taker.at_book, &mut taker.clock, slot),
     }
 }

@@ -18,9 +18,11 @@ pub fn work_all<R: Threads + Wait + Sync>(
     asks: bool,
     each: u32,
 ) -> Result<u64, BenchFault> {
-    let done = map_vec(rt, workers, &|hands: Hands| -> Result<u64, NoMemory> {
-        work(rt, alloc, hands, asks, each)
-    });
+    let done = map_vec(
+        rt,
+        workers,
+        &|hands: Hands| -> Result<u64, NoMemory> { work(rt, alloc, hands, asks, each) },
+    );
     let _ = shut(rt, &mut closer);
     let mut count = 0u64;
     for sent in done? {
