@@ -1,5 +1,5 @@
 -- A turn at a desk leaves the seat at what the machine allows.
-use Rattle.std.proofs.Common.{◌≡◌, Bool, List, [], ◌∷◌, ◌++◌, Option, None, Some, IsSomeAnd, sym, ap, subst, ◌∙◌}
+use Rattle.std.proofs.Common.{◌≡◌, Bool, false, List, [], ◌∷◌, ◌++◌, Option, None, Some, IsSomeAnd, sym, ap, subst, ◌∙◌}
 use Rattle.ak_turn.specs.declared.clock.Clock.{Clock}
 use Rattle.ak_turn.specs.Seats.{HasCalled, IsGiven, at_leisure, entered_by, with_own}
 use Rattle.ak_action.specs.declared.state.DeskState.{DeskState}
