@@ -13,8 +13,8 @@ finish-answers-requires c =
     let inside : c.self.inside.begun ≡ Some c.in-Some.begun = grind (arith, common_steps) in
     task_done c.self.inside.opening.value c.self.inside.entries.items c.self.inside.begun c.in-Some.begun c.self.inside.state c.args.self.now inside c.self.view_is c.self.invariant.stands c.requires.done
 
-pub invariant_of-self-2 : goal.invariant_of-self-2
-invariant_of-self-2 c =
+pub invariant_of-self : goal.invariant_of-self
+invariant_of-self c =
     let inside : c.self.inside.begun ≡ Some c.in-Some.begun = grind (arith, common_steps) in
     let places : vec_len c.self.inside.entries + 1 < vec_capacity c.self.inside.entries =
     subst (λ (o : Option Begun). HasPlaces c.self.inside.entries.items o (vec_len c.self.inside.entries) (vec_capacity c.self.inside.entries)) inside c.self.invariant.places in
