@@ -1,3 +1,4 @@
 pub mod Counts
 pub mod Joins
+pub mod Starts
 pub mod Surface

@@ -1,4 +1,4 @@
--- The calls of a source or a sink in memory.
+-- The calls of a source, a sink or a spawner in memory.
 use Rattle.std.specs.Prelude.{ℕ, List, Contains}
 use Rattle.ak_outside.specs.Faults.{raised}
 

@@ -4,5 +4,6 @@ pub mod ListSink
 pub mod ReadFault
 pub mod Sink
 pub mod Source
+pub mod Spawner
 pub mod Standard
 pub mod TextSource

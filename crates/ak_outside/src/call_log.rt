@@ -4,7 +4,7 @@ ghost use Rattle.ak_outside.specs.Faults.{raised};
 
 use std::marker::Model;
 
-/// The calls of a source or a sink in memory. A call has a number, counted from 1, and is refused
+/// The calls of a source, a sink or a spawner in memory. A call has a number, counted from 1, and is refused
 /// where its number is among those that the log was made with.
 #[derive(Debug, Drop)]
 pub(crate) struct CallLog {
@@ -30,6 +30,13 @@ impl CallLog {
             count: 0,
             failed: 0,
         }
+    }
+
+    /// How many calls were made.
+    pub(crate) fn made(&self) -> u64
+        ensures { result ≡ self.now.made }
+    {
+        self.count
     }
 
     /// Counts one more call, and says whether it is refused. A call that is refused has failed.

@@ -6,6 +6,7 @@ ghost use Rattle.ak_outside.specs.Standard.{not_failed};
 
 use crate::sink::{Sink, SinkWrite};
 use crate::source::{Source, SourceRead};
+use crate::spawner::{NotStarted, Spawner};
 use std::io::{Read, Write};
 use std::marker::Model;
 
@@ -103,5 +104,45 @@ impl<W: Write> Sink for StdSink<W> {
                 SinkWrite::Failed
             }
         }
+    }
+}
+
+/// The spawner of the system's threads: it refuses none by itself, and counts those that the system refuses. It is
+/// seen as that count, which stands still at the end of a `u64`.
+#[derive(Debug, Drop)]
+pub struct StdSpawner {
+    refused: u64,
+}
+
+impl Model for StdSpawner {
+    ghost use Rattle.std.specs.Prelude.{ℕ};
+
+    ghost Value = { ℕ };
+
+    ghost view = { λ s. s.refused };
+}
+
+impl StdSpawner {
+    /// A spawner that has counted none yet. Takes no memory.
+    pub fn new() -> StdSpawner
+        ensures { result ≡ 0 }
+    {
+        StdSpawner { refused: 0 }
+    }
+}
+
+impl Spawner for StdSpawner {
+    ghost faults = { λ s. s };
+
+    fn refuses(&mut self) -> bool {
+        false
+    }
+
+    fn failed(&mut self, _start: NotStarted)
+        ensures never_falls { self.old ≤ self.new }
+        ensures cause { Rose self.old self.new }
+        ensures counted { self.new ≡ raised self.old }
+    {
+        self.refused = self.refused.saturating_add(1);
     }
 }
