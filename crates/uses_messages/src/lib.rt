@@ -1,6 +1,6 @@
 //! The public calls of the lower crates, made as a program above would make them: texts and codes, sources and sinks,
-//! messages and their flat texts, filters, handlers, specifiers, property tables and elements. There is nothing here but
-//! tests. They stand apart from those crates, since a crate with tests of its own is proved twice.
+//! starts of threads, messages and their flat texts, filters, handlers, specifiers, property tables and elements. There
+//! is nothing here but tests. They stand apart from those crates, since a crate with tests of its own is proved twice.
 #![tactic(auto)]
 
 #[cfg(test)]
@@ -33,5 +33,7 @@ mod plain;
 mod properties;
 #[cfg(test)]
 mod specifiers;
+#[cfg(test)]
+mod starts;
 #[cfg(test)]
 mod words;
