@@ -1,7 +1,7 @@
 -- Whose filters run: no handler's twice, and those of each handler that a message is passed to.
-use Rattle.std.proofs.Common.{◌≡◌, ◌≢◌, ℕ, zero, suc, ◌+◌, ◌≤◌, ◌==◌, ◌||◌, Bool, true, false, cond, List, [], ◌∷◌, ◌++◌, length, reverse, get_or, All, AllPairs, Contains, Option, None, Some, IfSome, option_and_then, refl, sym, ap, ◌∙◌, eq-eqb, eqb-true, append_assoc, arith}
+use Rattle.std.proofs.Common.{◌≡◌, ◌≢◌, ℕ, zero, suc, ◌+◌, ◌≤◌, ◌==◌, ◌||◌, Bool, true, false, cond, List, [], ◌∷◌, ◌++◌, length, reverse, get_or, All, AllPairs, Contains, Option, None, Some, IfSome, option_and_then, refl, sym, ap, ◌∙◌, eqb-true, append_assoc, arith}
 use mathlib.Core.List.{reverse-cons}
-use Rattle.std.proofs.lemmas.Bool.{cond_both}
+use Rattle.std.proofs.lemmas.Bool.{cond_both, eqb-false, or_parts}
 use Rattle.std.proofs.lemmas.List.{length-map}
 use Rattle.std.proofs.lemmas.List.Elements.{All-nil, All-cons, All-weaker, All-contains}
 use Rattle.std.proofs.lemmas.List.Kept.{AllPairs-cons}
@@ -12,14 +12,6 @@ use Rattle.ak_route.specs.Handlers.{row_of}
 use Rattle.ak_route.specs.Filtering.{Passing, Origin, Settled, settled, passing_after, run_list, settle_from, asked_already}
 use Rattle.ak_route.specs.Laws.{FiltersRunAtMostOnce, AllFiltersRun, StepsAreEnough, run_lists, after_run, passed_to}
 use Rattle.ak_route.proofs.Targets.{IsKept, list_kept, then_kept}
-
-neither : (a b : Bool) → (a || b) ≡ false → (a ≡ false) × (b ≡ false)
-neither true b e = absurd cc
-neither false true e = absurd cc
-neither false false e = (refl, refl)
-
-differs : (a b : ℕ) → a == b ≡ false → a ≢ b
-differs a b e same = let yes = eq-eqb a b same in absurd cc
 
 AllPairs-nil : {A : Type 0} (P : A → A → Type 0) → AllPairs P []
 AllPairs-nil P = λ i j d lt within. absurd (omega arith)
@@ -38,7 +30,7 @@ module _ (s : HandlersData RowData) (o : Origin) where
       (λ new. All-cons (λ t. asked_already asked t ≡ false) p.target (after_run (run_list s o (row_of s p.target).filters p) (passed_to s o n (p.target ∷ asked))) new
       (after_both (All (λ t. asked_already asked t ≡ false)) (run_list s o (row_of s p.target).filters p) (passed_to s o n (p.target ∷ asked))
       (All-nil (λ t. asked_already asked t ≡ false))
-      (λ q k d lt. (neither (p.target == get_or (passed_to s o n (p.target ∷ asked) q) k d) (asked_already asked (get_or (passed_to s o n (p.target ∷ asked) q) k d)) (asked_new n (p.target ∷ asked) q k d lt)).1)))
+      (λ q k d lt. (or_parts (p.target == get_or (passed_to s o n (p.target ∷ asked) q) k d) (asked_already asked (get_or (passed_to s o n (p.target ∷ asked) q) k d)) (asked_new n (p.target ∷ asked) q k d lt)).1)))
 
   asked_once : (n : ℕ) (asked : List ℕ) (p : Passing) → AllPairs (λ a b. a ≢ b) (passed_to s o n asked p)
   asked_once zero asked p = AllPairs-nil (λ a b. a ≢ b)
@@ -48,7 +40,7 @@ module _ (s : HandlersData RowData) (o : Origin) where
       (λ _. AllPairs-cons (λ a b. a ≢ b) p.target (after_run (run_list s o (row_of s p.target).filters p) (passed_to s o n (p.target ∷ asked)))
       (after_both (All (λ t. p.target ≢ t)) (run_list s o (row_of s p.target).filters p) (passed_to s o n (p.target ∷ asked))
       (All-nil (λ t. p.target ≢ t))
-      (λ q k d lt. differs p.target (get_or (passed_to s o n (p.target ∷ asked) q) k d) (neither (p.target == get_or (passed_to s o n (p.target ∷ asked) q) k d) (asked_already asked (get_or (passed_to s o n (p.target ∷ asked) q) k d)) (asked_new n (p.target ∷ asked) q k d lt)).0))
+      (λ q k d lt. eqb-false p.target (get_or (passed_to s o n (p.target ∷ asked) q) k d) (or_parts (p.target == get_or (passed_to s o n (p.target ∷ asked) q) k d) (asked_already asked (get_or (passed_to s o n (p.target ∷ asked) q) k d)) (asked_new n (p.target ∷ asked) q k d lt)).0))
       (after_both (AllPairs (λ a b. a ≢ b)) (run_list s o (row_of s p.target).filters p) (passed_to s o n (p.target ∷ asked))
       (AllPairs-nil (λ a b. a ≢ b))
       (λ q. asked_once n (p.target ∷ asked) q)))
@@ -87,8 +79,8 @@ module _ (s : HandlersData RowData) (o : Origin) where
 others : (asked : List ℕ) (t : ℕ) → asked_already asked t ≡ false → All (λ x. t ≢ x) asked
 others [] t e = All-nil (λ x. t ≢ x)
 others (x ∷ asked) t e =
-    let apart = neither (x == t) (asked_already asked t) e in
-    All-cons (λ x. t ≢ x) x asked (λ same. differs x t apart.0 (sym same)) (others asked t apart.1)
+    let apart = or_parts (x == t) (asked_already asked t) e in
+    All-cons (λ x. t ≢ x) x asked (λ same. eqb-false x t apart.0 (sym same)) (others asked t apart.1)
 
 not_asked : (asked : List ℕ) (t : ℕ) → asked_already asked t ≡ false → ¬ Contains asked t
 not_asked asked t e = λ has. All-contains (λ x. t ≢ x) asked t (others asked t e) has refl
