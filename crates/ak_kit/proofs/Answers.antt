@@ -8,7 +8,7 @@ use Rattle.ak_message.specs.declared.kind.Kind.TheVariants as k
 use Rattle.ak_message.specs.Message.{MessageData}
 use Rattle.ak_message.specs.Fields.{found_in}
 use Rattle.ak_message.specs.MessageText.{message_text}
-use Rattle.ak_kit.specs.Messages.{value_reply, no_reply, not_understood}
+use Rattle.ak_kit.specs.Messages.{value_reply, none_reply, not_understood}
 use Rattle.ak_kit.specs.Reply.{IsAnswer, number_text}
 
 -- after what was there, the code, and the two fields where they have a number
@@ -31,5 +31,5 @@ printed_bare old what = simp (append-nil, append_assoc)
 
 pub printed_answer : (old : List ℕ) (m : MessageData) → IsAnswer m → printed old m ≡ old ++ message_text m
 printed_answer old m (inl (n, e)) = subst (λ (x : MessageData). printed old x ≡ old ++ message_text x) (sym e) (printed_value old n)
-printed_answer old m (inr (inl e)) = subst (λ (x : MessageData). printed old x ≡ old ++ message_text x) (sym e) (printed_bare old no_reply.what)
+printed_answer old m (inr (inl e)) = subst (λ (x : MessageData). printed old x ≡ old ++ message_text x) (sym e) (printed_bare old none_reply.what)
 printed_answer old m (inr (inr e)) = subst (λ (x : MessageData). printed old x ≡ old ++ message_text x) (sym e) (printed_bare old not_understood.what)

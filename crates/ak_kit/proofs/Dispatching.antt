@@ -22,7 +22,6 @@ use Rattle.ak_desk.specs.Properties.{property_replied}
 use Rattle.ak_desk.specs.Replies.{none_reply, not_understood}
 use Rattle.ak_desk.proofs.Surface.{counted_push}
 use Rattle.ak_kit.specs.Dispatched.{IsAlone, IsQuiet, IsResting}
-use Rattle.ak_kit.specs.Messages.{no_reply}
 use Rattle.ak_kit.specs.Run.{came, line_of, reply_of}
 
 -- ---- the last stamp
@@ -94,7 +93,7 @@ module _ (d : DeskData) (clock : Clock) (item : ItemData) (position : ℕ) (rest
 
   reply_told : reply_of d.state item ≡ fitting a.reply_is
   unfolding reply_of
-  reply_told = ap (λ (o : Option MessageData). unwrap_or (option_map fitting o) no_reply) a.told
+  reply_told = ap (λ (o : Option MessageData). unwrap_or (option_map fitting o) none_reply) a.told
 
   module _ (c : Came) (v : DeskState) (is : came d.state item ≡ came_to [] c v) where
     abbrev added : EntryData

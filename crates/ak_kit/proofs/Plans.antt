@@ -19,9 +19,6 @@ use Rattle.ak_kit.specs.Dispatched.{IsResting}
 use Rattle.ak_kit.specs.Opening.{elements_of, plan_of, property_named, table_of}
 use Rattle.ak_kit.specs.Rows.{IsRows, names_differ}
 
-same_bytes : (name : List ℕ) → bytes_eq name name ≡ true
-same_bytes name = (bytes_eq-Decides name name).1 refl
-
 le_true : (a b : ℕ) → a ≤ b → nat_le a b ≡ true
 le_true a b le = grind (arith, nat_tests)
 
@@ -42,7 +39,8 @@ elements_fit (row ∷ rows) = elements_fit rows
 
 pub no_fault : (name : List ℕ) (capacity : ℕ) (rows : List (List ℕ × ℤ)) → is_word name ≡ true → 1 ≤ capacity → capacity ≤ 1000 → IsRows rows → plan_fault (plan_of name capacity rows) ≡ None
 no_fault name capacity rows word low high h =
-    rw (same_bytes name, le_true 1 capacity low, le_true capacity 1000 high, word, table_differs rows h.differ, elements_fit rows) refl
+    let same : bytes_eq name name ≡ true = (bytes_eq-Decides name name).1 refl in
+    rw (same, le_true 1 capacity low, le_true capacity 1000 high, word, table_differs rows h.differ, elements_fit rows) refl
 
 pub is_plan
     : {A E : Type 0} (r : Result A E) (parts : PlanParts) (name : List ℕ) (capacity : ℕ) (rows : List (List ℕ × ℤ)) → parts ≡ plan_of name capacity rows → is_word name ≡ true → 1 ≤ capacity → capacity ≤ 1000 → IsRows rows

@@ -3,7 +3,7 @@ use Rattle.std.proofs.Common.{◌≡◌, ◌⊎◌, inl, inr, ℕ, suc, ℤ, ◌
 use Rattle.std.specs.Prelude.{codes, if◌then◌else◌, is_some, nat_lt, option_map, ◌&&◌}
 use Rattle.std.specs.List.{position, position_or_len, slice_set}
 use Rattle.std.specs.Str.{bytes_eq}
-use Rattle.std.proofs.lemmas.Bool.{cases_Bool, not-true, and_parts}
+use Rattle.std.proofs.lemmas.Bool.{cases_Bool, not-true, and_parts, or_parts}
 use Rattle.std.proofs.lemmas.Bool.Decides.{nat_tests}
 use Rattle.std.proofs.lemmas.List.{set-get_or}
 use Rattle.std.proofs.lemmas.Option.{get_or_from_slice_get}
@@ -44,7 +44,7 @@ use Rattle.ak_desk.specs.Properties.{Accessed, accessed, property_accessed, refu
 use Rattle.ak_kit.specs.Dispatched.{IsAlone}
 use Rattle.ak_kit.specs.FirstInput.{is_askable, is_reserved}
 use Rattle.ak_kit.specs.Laws.{route_to}
-use Rattle.ak_kit.specs.Messages.{answer, get_of, no_reply, not_understood, ready_to_run, value_reply}
+use Rattle.ak_kit.specs.Messages.{answer, get_of, none_reply, not_understood, ready_to_run, value_reply}
 use Rattle.ak_kit.specs.Opening.{OpensAs, elements_of, one_number, plan_of, table_of}
 use Rattle.ak_kit.specs.Rows.{value_of_row}
 use Rattle.ak_kit.specs.Run.{came, get_item, ready_item}
@@ -139,16 +139,12 @@ record IsPlain (word : List ℕ) : Type 0 where
   messenger : bytes_eq word (codes "Messenger") ≡ false
   name : bytes_eq word (codes "InternalName") ≡ false
 
-or_false : (a b : Bool) → (a || b) ≡ false → (a ≡ false) × (b ≡ false)
-or_false true b h = absurd cc
-or_false false b h = (refl, h)
-
 is_plain : (word : List ℕ) → is_askable word ≡ true → IsPlain word
 is_plain word h =
     let free : is_reserved word ≡ false = not-true (is_reserved word) (and_parts _ (not (is_reserved word)) h).1 in
-    let built_in = or_false _ _ free in
-    let a = or_false _ _ built_in.1 in
-    let b = or_false _ _ a.1 in
+    let built_in = or_parts _ _ free in
+    let a = or_parts _ _ built_in.1 in
+    let b = or_parts _ _ a.1 in
     record { suites = a.0; messenger = b.0; name = b.1 }
 
 -- it asks for no handler and no looper, whatever its property
@@ -217,9 +213,9 @@ came_by s item r reply is alone dispatch fits =
       fits = fits;
     }
 
-pub launch_came : (name : List ℕ) (capacity : ℕ) (rows : List (List ℕ × ℤ)) (s : DeskState) → OpensAs name capacity rows s → Came s ready_item (entry.To 0) no_reply
+pub launch_came : (name : List ℕ) (capacity : ℕ) (rows : List (List ℕ × ℤ)) (s : DeskState) → OpensAs name capacity rows s → Came s ready_item (entry.To 0) none_reply
 launch_came name capacity rows s opens =
-    came_by s ready_item (routed (route.Deliver 0 taker.BuiltIn) ready_to_run) no_reply
+    came_by s ready_item (routed (route.Deliver 0 taker.BuiltIn) ready_to_run) none_reply
     (routed_opened name capacity rows s ready_item ready_to_run opens (ready_read duty.None) ∙ ready_route name capacity rows (record { local = is_local s ready_item; dropped = false }))
     tt refl refl
 

@@ -27,7 +27,7 @@ use Rattle.ak_desk.specs.Place.{routed_of}
 use Rattle.ak_kit.specs.Dispatched.{IsQuiet}
 use Rattle.ak_kit.specs.FirstInput.{is_askable}
 use Rattle.ak_kit.specs.Laws.{AreLines, StepsMatch, entry_at, lines_from, lines_told, reply_words, route_to}
-use Rattle.ak_kit.specs.Messages.{answer, no_reply}
+use Rattle.ak_kit.specs.Messages.{answer, none_reply}
 use Rattle.ak_kit.specs.Opening.{IsOpening, OpensWith}
 use Rattle.ak_kit.specs.Rows.{value_of_row}
 use Rattle.ak_kit.specs.Run.{came, get_item, hey_steps, line_of, lines_of, ready_item, reply_of, reply_text_line, steps_of, text_of}
@@ -46,17 +46,17 @@ line_from s position item r reply c =
 
 reply_from : (s : DeskState) (item : ItemData) (r : EntryRoute) (reply : MessageData) → Came s item r reply → reply_of s item ≡ reply
 unfolding reply_of
-reply_from s item r reply c = ap (λ (d : Dispatch). unwrap_or (option_map fitting d.reply) no_reply) c.dispatch_is ∙ c.fits
+reply_from s item r reply c = ap (λ (d : Dispatch). unwrap_or (option_map fitting d.reply) none_reply) c.dispatch_is ∙ c.fits
 
 -- ---- at a looper that begins with these properties
 pub launch_quiet : (s : DeskState) → IsOpening s → IsQuiet s ready_item
-launch_quiet s (rows, (name, capacity, opens)) = quiet_from s ready_item (entry.To 0) no_reply (launch_came name capacity rows s opens)
+launch_quiet s (rows, (name, capacity, opens)) = quiet_from s ready_item (entry.To 0) none_reply (launch_came name capacity rows s opens)
 
 pub word_quiet : (s : DeskState) (slot : ℕ) (word : List ℕ) → IsOpening s → is_askable word ≡ true → IsQuiet s (get_item slot word)
 word_quiet s slot word (rows, (name, capacity, opens)) askable = quiet_from s (get_item slot word) _ _ (word_came name capacity rows s slot word opens askable)
 
-pub launch_reply : (rows : List (List ℕ × ℤ)) (s : DeskState) → OpensWith rows s → reply_of s ready_item ≡ no_reply
-launch_reply rows s (name, capacity, opens) = reply_from s ready_item (entry.To 0) no_reply (launch_came name capacity rows s opens)
+pub launch_reply : (rows : List (List ℕ × ℤ)) (s : DeskState) → OpensWith rows s → reply_of s ready_item ≡ none_reply
+launch_reply rows s (name, capacity, opens) = reply_from s ready_item (entry.To 0) none_reply (launch_came name capacity rows s opens)
 
 pub word_reply : (rows : List (List ℕ × ℤ)) (s : DeskState) (slot : ℕ) (word : List ℕ) → OpensWith rows s → is_askable word ≡ true → reply_of s (get_item slot word) ≡ answer (value_of_row rows word)
 word_reply rows s slot word (name, capacity, opens) askable = reply_from s (get_item slot word) _ _ (word_came name capacity rows s slot word opens askable)
@@ -72,7 +72,7 @@ hey_lines_told rows s slot (word ∷ asked) opens askable =
 
 all_lines_told : (rows : List (List ℕ × ℤ)) (s : DeskState) (asked : List (List ℕ)) → OpensWith rows s → list_all is_askable asked ≡ true → lines_of (steps_of s asked) ≡ lines_told rows asked
 all_lines_told rows s asked opens askable =
-    ap (λ (line : EntryData). line ∷ lines_of (hey_steps s 0 asked)) (line_from s 0 ready_item (entry.To 0) no_reply (launch_came opens.0 opens.1 rows s opens.2))
+    ap (λ (line : EntryData). line ∷ lines_of (hey_steps s 0 asked)) (line_from s 0 ready_item (entry.To 0) none_reply (launch_came opens.0 opens.1 rows s opens.2))
     ∙ ap (λ (lines : List EntryData). (record { plain = entry_at 0 (entry.To 0); item = Some ready_item }) ∷ lines) (hey_lines_told rows s 0 asked opens askable)
 
 -- ---- the machine
@@ -138,7 +138,7 @@ told_history rows s asked (line ∷ front) opens askable (rest, e) =
     let head = same_head told line (lines_from rows 0 asked) (front ++ rest) e in
     let tail = same_tail told line (lines_from rows 0 asked) (front ++ rest) e in
     let later = hey_replays rows s 0 asked front opens askable (rest, tail) in
-    let step = desk_step s ready_item (entry.To 0) no_reply 0 opens.2.looper_is (launch_came opens.0 opens.1 rows s opens.2) in
+    let step = desk_step s ready_item (entry.To 0) none_reply 0 opens.2.looper_is (launch_came opens.0 opens.1 rows s opens.2) in
     subst (λ (l : EntryData). IsHistory s (l ∷ front) s) head (record { replays = (s, (step, later.0)); stamps = (omega arith, later.1) })
 
 -- ---- the text

@@ -12,7 +12,7 @@ use Rattle.ak_desk.specs.declared.entry.EntryRoute.TheVariants as entry
 use Rattle.ak_desk.specs.Entry.{EntryData}
 use Rattle.ak_desk.specs.Machine.{IsHistory}
 use Rattle.ak_kit.specs.FirstInput.{Script, IsFirstInput, is_askable}
-use Rattle.ak_kit.specs.Messages.{get_of, ready_to_run, no_reply, not_understood, value_reply, answer}
+use Rattle.ak_kit.specs.Messages.{get_of, ready_to_run, none_reply, not_understood, value_reply, answer}
 use Rattle.ak_kit.specs.Opening.{OpensWith}
 use Rattle.ak_kit.specs.Rows.{IsRows, value_of_row}
 use Rattle.ak_kit.specs.Run.{get_item, ready_item, reply_of, steps_of, lines_of, text_of}
@@ -47,7 +47,7 @@ lines_told rows asked = (record { plain = entry_at 0 (entry.To 0); item = Some r
 -- of a looper that begins with these properties: its reply to the launch is none, and to a word it is the property's value, or that the
 -- message is not understood
 pub record Replies (rows : List (List ℕ × ℤ)) (s : DeskState) : Type 0 where
-  pub launch : reply_of s ready_item ≡ no_reply
+  pub launch : reply_of s ready_item ≡ none_reply
   pub words : (slot : ℕ) (word : List ℕ) → is_askable word ≡ true → reply_of s (get_item slot word) ≡ answer (value_of_row rows word)
 
 -- ---- the text

@@ -1,16 +1,14 @@
 -- The messages of a run: what the looper gets, and what it replies.
-use Rattle.std.specs.Prelude.{ℕ, ℤ, pos, List, [], ◌∷◌, codes, Option, None, Some}
+use Rattle.std.specs.Prelude.{ℕ, ℤ, List, [], ◌∷◌, codes, Option, None, Some}
 use Rattle.ak_base.specs.Code.{code_of}
 use Rattle.ak_message.specs.declared.kind.Kind.{Kind}
 use Rattle.ak_message.specs.declared.kind.Kind.TheVariants as k
 use Rattle.ak_message.specs.Message.{ValueData, FieldData, MessageData, int32_value, text_value, value_of_message}
+use Rattle.ak_desk.specs.Replies as reply
+pub use Rattle.ak_desk.specs.Replies.{none_reply, not_understood}
 
 abbrev field_of : List ℕ → Kind → ValueData → FieldData
 field_of name kind value = record { name = name; kind = kind; values = value ∷ [] }
-
--- a message without fields
-abbrev pub bare : ℕ → MessageData
-bare what = record { what = what; fields = []; popped = 0 }
 
 -- the direct specifier of a property: its code is the number of its form
 abbrev pub specifier_of : List ℕ → MessageData
@@ -23,22 +21,11 @@ get_of property =
 
 -- the first message that a looper gets
 abbrev pub ready_to_run : MessageData
-ready_to_run = bare (code_of (codes "_RTR"))
+ready_to_run = reply.bare (codes "_RTR")
 
 -- a reply with a value, and with no error
 abbrev pub value_reply : ℤ → MessageData
-value_reply n =
-    record {
-      what = code_of (codes "RPLY");
-      fields = field_of (codes "result") k.Int32 (int32_value n) ∷ field_of (codes "error") k.Int32 (int32_value (pos 0)) ∷ [];
-      popped = 0;
-    }
-
-abbrev pub no_reply : MessageData
-no_reply = bare (code_of (codes "NONE"))
-
-abbrev pub not_understood : MessageData
-not_understood = bare (code_of (codes "MNOT"))
+value_reply n = reply.value_reply (int32_value n)
 
 -- the reply with a value, or that the message is not understood
 abbrev pub answer : Option ℤ → MessageData

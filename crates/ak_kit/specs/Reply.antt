@@ -3,11 +3,11 @@ use Rattle.std.specs.Prelude.{◌≡◌, ◌⊎◌, ℕ, ℤ, List, [], ◌++◌
 use Rattle.std.specs.Fmt.{signed_decimal}
 use Rattle.ak_message.specs.declared.fault.FindFault.{FindFault}
 use Rattle.ak_message.specs.Message.{ValueData, MessageData, int32_value}
-use Rattle.ak_kit.specs.Messages.{value_reply, no_reply, not_understood}
+use Rattle.ak_kit.specs.Messages.{value_reply, none_reply, not_understood}
 
 -- with a value, or without a field
 abbrev pub IsAnswer : MessageData → Type 0
-IsAnswer m = ((n : ℤ) × (m ≡ value_reply n)) ⊎ ((m ≡ no_reply) ⊎ (m ≡ not_understood))
+IsAnswer m = ((n : ℤ) × (m ≡ value_reply n)) ⊎ ((m ≡ none_reply) ⊎ (m ≡ not_understood))
 
 -- the text of a field, where a number was found
 abbrev pub number_text : List ℕ → Result ValueData FindFault → List ℕ

@@ -14,7 +14,7 @@ use Rattle.ak_desk.specs.declared.entry.DeskEvent.TheVariants as event
 use Rattle.ak_desk.specs.Dispatch.{Dispatch, dispatch_of, entry_route, fitting}
 use Rattle.ak_desk.specs.Entry.{EntryData}
 use Rattle.ak_desk.specs.Place.{routed_of}
-use Rattle.ak_kit.specs.Messages.{get_of, no_reply, ready_to_run}
+use Rattle.ak_kit.specs.Messages.{get_of, none_reply, ready_to_run}
 
 -- ---- what the looper gets
 -- for the preferred handler, from no team, dropped by nobody, and with all its specifiers
@@ -48,7 +48,7 @@ line_of s position item =
 
 -- and its reply
 unfoldable pub reply_of : DeskState → ItemData → MessageData
-reply_of s item = unwrap_or (option_map fitting (came s item).reply) no_reply
+reply_of s item = unwrap_or (option_map fitting (came s item).reply) none_reply
 
 -- ---- the steps
 pub record Step : Type 0 where

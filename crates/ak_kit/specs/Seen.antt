@@ -1,17 +1,12 @@
 -- What a reader's answer is seen as.
 use Rattle.std.specs.Prelude.{◌≡◌, ℕ, ℤ, List, Option, Some, None, Result, Ok, Err}
 use Rattle.std.specs.Borrow.{Bor}
+pub use Rattle.ak_message.specs.ReadSeen.{seen, pair_of}
 use Rattle.ak_kit.specs.declared.fault.ScriptFault.{ScriptFault}
 use Rattle.ak_kit.specs.declared.script.FirstScript.{FirstScript}
 use Rattle.ak_kit.specs.FirstInput.{Script}
 use Rattle.ak_kit.specs.Reading.{App}
 use Rattle.ak_kit.specs.declared.fault.ScriptFault.TheVariants as fault
-
-abbrev pub seen : Bor (List ℕ) → List ℕ
-seen bytes = bytes.now
-
-abbrev pub pair_of : Bor (List ℕ) × Bor (List ℕ) → List ℕ × List ℕ
-pair_of x = (x.0.now, x.1.now)
 
 -- the path, the looper's name and capacity, and the rest
 abbrev pub opening_seen : Bor (List ℕ) × Bor (List ℕ) × ℕ × Bor (List ℕ) → List ℕ × List ℕ × ℕ × List ℕ
