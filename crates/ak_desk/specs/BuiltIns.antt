@@ -6,7 +6,9 @@ use Rattle.ak_message.specs.declared.address.Target.TheVariants as target
 use Rattle.ak_message.specs.declared.specifier.Specifier.{Specifier}
 use Rattle.ak_message.specs.Message.{MessageData, bool_value, text_value, int32_value, messenger_value}
 use Rattle.ak_property.specs.Suites.{suites_reply}
-use Rattle.ak_route.specs.Matching.{is_code}
+use Rattle.ak_route.specs.declared.matching.BuiltInName.{BuiltInName}
+use Rattle.ak_route.specs.declared.matching.BuiltInName.TheVariants as built_in
+use Rattle.ak_route.specs.Matching.{built_in_of, is_code}
 use Rattle.ak_specifier.specs.Current.{current_of}
 use Rattle.ak_action.specs.declared.state.DeskState.{DeskState}
 use Rattle.ak_action.specs.Doing.{row_of}
@@ -39,12 +41,12 @@ name_told s token = value_reply (text_value (name_of s token))
 abbrev pub count_told : ℕ → MessageData
 count_told n = value_reply (int32_value (pos n))
 
--- the property that the specifier names: the suites, the messenger, or else the name
-abbrev pub asked_told : DeskState → ℕ → List ℕ → MessageData
-asked_told s token property =
-    if bytes_eq property (codes "Suites") then suites_told s token
-    else if bytes_eq property (codes "Messenger") then messenger_told s token
-    else name_told s token
+-- what the specifier names: the suites, the messenger, or else the name
+abbrev pub asked_told : DeskState → ℕ → Option BuiltInName → MessageData
+asked_told s token (Some built_in.Suites) = suites_told s token
+asked_told s token (Some built_in.Messenger) = messenger_told s token
+asked_told s token (Some built_in.InternalName) = name_told s token
+asked_told s token None = name_told s token
 
 -- the handlers, or else the loopers
 abbrev pub counted_told : DeskState → List ℕ → MessageData
@@ -58,7 +60,7 @@ property_asked (Some sp) = sp.property
 -- the reply to a message that is taken as something built in
 abbrev pub built_in_reply : DeskState → ℕ → MessageData → MessageData
 built_in_reply s token m =
-    if is_code m.what (codes "PGET") then asked_told s token (property_asked (current_of m))
+    if is_code m.what (codes "PGET") then asked_told s token (built_in_of (property_asked (current_of m)))
     else if is_code m.what (codes "SUIT") then suites_told s token
     else if is_code m.what (codes "PCNT") then counted_told s (property_asked (current_of m))
     else if is_code m.what (codes "_QRQ") then value_reply (bool_value (not s.quit_refused))

@@ -16,6 +16,7 @@ use ak_base::{Code, NoMemory, Text};
 use ak_handler::LOOPER;
 use ak_message::{Address, Message, Target, Value};
 use ak_property::suite_message;
+use ak_route::{BuiltInName, built_in_of};
 use ak_specifier::current;
 use std::alloc::Global;
 
@@ -36,7 +37,7 @@ pub(crate) fn built_in_reply(
     ensures { IfOk result (λ reply. reply ≡ built_in_reply state.now token m.now) }
 {
     match m.what() {
-        Code::GET => asked_told(alloc, state, token, property_asked(m)),
+        Code::GET => asked_told(alloc, state, token, built_in_of(property_asked(m))),
         Code::SUITES => suites_told(alloc, state, token),
         Code::COUNT => counted_told(alloc, state, property_asked(m)),
         Code::QUIT_REQUESTED => value_reply(alloc, Value::Bool(!state.quit_refused)),
@@ -66,16 +67,16 @@ fn asked_told(
     alloc: Global,
     state: &DeskState,
     token: u64,
-    property: &[u8],
+    asked: Option<BuiltInName>,
 ) -> Result<Message, NoMemory>
-    ensures { IfOk result (λ reply. reply ≡ asked_told state.now token property.now) }
+    ensures { IfOk result (λ reply. reply ≡ asked_told state.now token asked) }
 {
-    if property == b"Suites".as_slice() {
-        suites_told(alloc, state, token)
-    } else if property == b"Messenger".as_slice() {
-        messenger_told(alloc, state, token)
-    } else {
-        name_told(alloc, state, token)
+    match asked {
+        Some(BuiltInName::Suites) => suites_told(alloc, state, token),
+        Some(BuiltInName::Messenger) => messenger_told(alloc, state, token),
+        Some(BuiltInName::InternalName) => name_told(alloc, state, token),
+        // None of another name is taken as something built in.
+        None => name_told(alloc, state, token),
     }
 }
 

@@ -27,7 +27,7 @@ use Rattle.ak_route.specs.declared.outcome.Taker.{Taker}
 use Rattle.ak_route.specs.declared.outcome.Taker.TheVariants as taker
 use Rattle.ak_route.specs.Filtering.{Origin}
 use Rattle.ak_route.specs.Handlers.{handlers_seen, row_of}
-use Rattle.ak_route.specs.Matching.{gets_built_in, matches}
+use Rattle.ak_route.specs.Matching.{gets_built_in, is_built_in_name, matches}
 use Rattle.ak_route.specs.Receiving.{or_else, reaction_taker, received, taker_of, takes_built_in, when}
 use Rattle.ak_route.specs.Resolving.{Resolved, Step, first_asked, go_on, looper_knows, lost, resolve, resolve_from, stay, step}
 use Rattle.ak_route.specs.Routing.{Routed, filtered, route_of, route_received, routed}
@@ -134,18 +134,13 @@ module _ (name : List ℕ) (capacity : ℕ) (rows : List (List ℕ × ℤ)) (o :
       ∙ ap (λ (t : Option Taker). routed (route_received (or_else (option_map (received 0) t) None)) (get_of word)) taken
 
 -- it is none of the properties that every handler has
-record IsPlain (word : List ℕ) : Type 0 where
-  suites : bytes_eq word (codes "Suites") ≡ false
-  messenger : bytes_eq word (codes "Messenger") ≡ false
-  name : bytes_eq word (codes "InternalName") ≡ false
+abbrev IsPlain : List ℕ → Type 0
+IsPlain word = is_built_in_name word ≡ false
 
 is_plain : (word : List ℕ) → is_askable word ≡ true → IsPlain word
 is_plain word h =
     let free : is_reserved word ≡ false = not-true (is_reserved word) (and_parts _ (not (is_reserved word)) h).1 in
-    let built_in = or_parts _ _ free in
-    let a = or_parts _ _ built_in.1 in
-    let b = or_parts _ _ a.1 in
-    record { suites = a.0; messenger = b.0; name = b.1 }
+    (or_parts _ _ free).1
 
 -- it asks for no handler and no looper, whatever its property
 same_step : (a b : Bool) → (if a then lost else if b then lost else lost) ≡ lost
@@ -153,18 +148,12 @@ same_step true b = refl
 same_step false true = refl
 same_step false false = refl
 
-not_built_in : (word : List ℕ) → IsPlain word → gets_built_in (get_of word) (direct word) ≡ false
-not_built_in word plain =
-    ap (λ (b : Bool). b || (bytes_eq word (codes "Messenger") || bytes_eq word (codes "InternalName"))) plain.suites
-    ∙ ap (λ (b : Bool). b || bytes_eq word (codes "InternalName")) plain.messenger
-    ∙ plain.name
-
 lost_route
     : (name : List ℕ) (capacity : ℕ) (rows : List (List ℕ × ℤ)) (o : Origin) (word : List ℕ) → IsPlain word → position (asks word) (table_of rows) ≡ None
     → route_of (seen name capacity rows) (name ∷ []) o [] (get_of word) target.Preferred ≡ routed route.NotUnderstood (get_of word)
 lost_route name capacity rows o word plain none =
     let has : matches (row_of (seen name capacity rows) 0) (get_of word) (direct word) ≡ false =
-    ap (λ (x : Option ℕ). is_some x || gets_built_in (get_of word) (direct word)) none ∙ not_built_in word plain
+    ap (λ (x : Option ℕ). is_some x || gets_built_in (get_of word) (direct word)) none ∙ plain
     in
     let knows : looper_knows (seen name capacity rows) (name ∷ []) (get_of word) (direct word) ≡ lost = same_step (bytes_eq word (codes "Handler")) (bytes_eq word (codes "Looper") && true) in
     let goes : step (seen name capacity rows) (name ∷ []) (get_of word) 0 ≡ lost = ap (step_by name capacity rows o word) has ∙ knows in

@@ -1,5 +1,5 @@
 -- Which handler has a match for the current specifier of a message.
-use Rattle.std.specs.Prelude.{ℕ, ◌-◌, ◌==◌, ◌&&◌, ◌||◌, Bool, true, false, List, codes, Option, is_some}
+use Rattle.std.specs.Prelude.{ℕ, ◌-◌, ◌==◌, ◌&&◌, ◌||◌, Bool, true, false, if◌then◌else◌, List, codes, Option, Some, None, is_some}
 use Rattle.std.specs.Str.{bytes_eq}
 use Rattle.ak_base.specs.Code.{code_of}
 use Rattle.ak_message.specs.declared.specifier.At.{At}
@@ -11,6 +11,8 @@ use Rattle.ak_specifier.specs.Current.{left_of}
 use Rattle.ak_property.specs.declared.table.PropertyRow.{PropertyRow}
 use Rattle.ak_property.specs.Table.{match_of}
 use Rattle.ak_property.specs.HandlerRow.{RowData}
+use Rattle.ak_route.specs.declared.matching.BuiltInName.{BuiltInName}
+use Rattle.ak_route.specs.declared.matching.BuiltInName.TheVariants as built_in
 
 abbrev pub is_code : ℕ → List ℕ → Bool
 is_code what letters = what == code_of letters
@@ -28,9 +30,15 @@ abbrev pub row_match : List PropertyRow → MessageData → Specifier → Option
 row_match table m s = match_of table m.what (left_of m - 1) (form_of s.at) s.property
 
 -- what every handler can be asked for: its suites, its messenger and its name
+abbrev pub built_in_of : List ℕ → Option BuiltInName
+built_in_of name =
+    if bytes_eq name (codes "Suites") then Some built_in.Suites
+    else if bytes_eq name (codes "Messenger") then Some built_in.Messenger
+    else if bytes_eq name (codes "InternalName") then Some built_in.InternalName
+    else None
+
 abbrev pub is_built_in_name : List ℕ → Bool
-is_built_in_name name =
-    bytes_eq name (codes "Suites") || (bytes_eq name (codes "Messenger") || bytes_eq name (codes "InternalName"))
+is_built_in_name name = is_some (built_in_of name)
 
 abbrev pub gets_built_in : MessageData → Specifier → Bool
 gets_built_in m s = is_code m.what (codes "PGET") && (is_last_direct m s && is_built_in_name s.property)

@@ -18,6 +18,6 @@ pub use laws::{
     no_specifiers_no_steps, resolved_handlers_are_there, routes_pop_within, takers_are_there,
     takers_lie_within,
 };
-pub use matching::is_built_in_name;
+pub use matching::{BuiltInName, built_in_of, is_built_in_name};
 pub use outcome::{Place, Route, Taker};
 pub use routing::route;

@@ -3,12 +3,24 @@
 ghost use Rattle.std.specs.Prelude.{◌≡◌, ◌<◌, IfSome};
 ghost use Rattle.ak_message.specs.Specifier.{specifier_of};
 ghost use Rattle.ak_property.specs.Limits.{row_limit};
-ghost use Rattle.ak_route.specs.Matching.{row_match, is_last_direct, gets_built_in, counts_built_in, is_built_in_name, table_matches};
+ghost use Rattle.ak_route.specs.Matching.{row_match, is_last_direct, gets_built_in, counts_built_in, built_in_of, is_built_in_name, table_matches};
 
 use ak_base::Code;
 use ak_message::{AtRef, Message, SpecifierRef};
 use ak_property::PropertyTable;
 use ak_specifier::left;
+
+/// What every handler answers by itself, by the name of the property. (The Be Book, The Application Kit,
+/// BHandler.)
+#[derive(Clone, Copy, Debug, PartialEq, Eq)]
+pub enum BuiltInName {
+    /// Its suites, and what its properties are.
+    Suites,
+    /// Its address.
+    Messenger,
+    /// Its name.
+    InternalName,
+}
 
 /// The row of the table that fits the current specifier.
 pub(crate) fn row_match(table: &PropertyTable, m: &Message, s: SpecifierRef<'_>) -> Option<usize>
@@ -32,13 +44,26 @@ pub(crate) fn gets_built_in(m: &Message, s: SpecifierRef<'_>) -> bool
     m.what() == Code::GET && is_last_direct(m, s) && is_built_in_name(s.property.as_bytes())
 }
 
+/// What every handler can be asked for by that name. `None` by any other name.
+pub fn built_in_of(name: &[u8]) -> Option<BuiltInName>
+    ensures { result ≡ built_in_of name.now }
+{
+    if name == b"Suites".as_slice() {
+        Some(BuiltInName::Suites)
+    } else if name == b"Messenger".as_slice() {
+        Some(BuiltInName::Messenger)
+    } else if name == b"InternalName".as_slice() {
+        Some(BuiltInName::InternalName)
+    } else {
+        None
+    }
+}
+
 /// Whether every handler can be asked for it: its suites, its messenger or its name.
 pub fn is_built_in_name(name: &[u8]) -> bool
     ensures { result ≡ is_built_in_name name.now }
 {
-    name == b"Suites".as_slice()
-        || name == b"Messenger".as_slice()
-        || name == b"InternalName".as_slice()
+    built_in_of(name).is_some()
 }
 
 /// Whether it counts what this property names.
