@@ -1,5 +1,5 @@
 -- A list that begins with another.
-use Rattle.std.proofs.Common.{◌≡◌, ℕ, Bool, true, false, List, ◌++◌, length, drop, refl}
+use Rattle.std.proofs.Common.{◌≡◌, ℕ, true, List, ◌++◌, length, drop, refl}
 use Rattle.std.proofs.lemmas.Slice.Eq.{starts_is}
 use Rattle.std.proofs.lemmas.Bool.Decides.{Decides-eqb}
 use Rattle.ak_base.specs.AppName.{begins_with}
@@ -9,9 +9,3 @@ begins front bytes h = (starts_is Decides-eqb bytes front (begins_with front byt
 
 pub begins_again : (front rest : List ℕ) → begins_with front (front ++ rest) ≡ true
 begins_again front rest = (starts_is Decides-eqb (front ++ rest) front (begins_with front (front ++ rest)) refl).1 rest refl
-
-pub not_begins : (front bytes : List ℕ) → ((rest : List ℕ) → bytes ≡ front ++ rest → ⊥) → begins_with front bytes ≡ false
-not_begins front bytes none = by_test (begins_with front bytes) refl where
-  by_test : (b : Bool) → begins_with front bytes ≡ b → begins_with front bytes ≡ false
-  by_test true e = absurd (none _ (begins front bytes e))
-  by_test false e = e

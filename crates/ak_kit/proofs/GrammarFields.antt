@@ -1,5 +1,5 @@
 -- A field that is read is the field that was written, and what was written is read again.
-use Rattle.std.proofs.Common.{◌≡◌, ℕ, suc, ◌≤◌, true, false, ◌&&◌, List, [], ◌∷◌, ◌++◌, length, take, drop, ℤ, pos, negsuc, Some, None, refl, sym, ap, ◌∙◌, arith}
+use Rattle.std.proofs.Common.{◌≡◌, ℕ, suc, ◌≤◌, true, false, ◌&&◌, List, [], ◌∷◌, ◌++◌, length, take, drop, ℤ, pos, negsuc, Some, refl, sym, ap, ◌∙◌, arith}
 use Rattle.std.specs.Prelude.{FitsSigned, int_le, unsigned_abs}
 use Rattle.std.specs.Int.{w32}
 use Rattle.std.specs.List.{list_all}
@@ -14,7 +14,7 @@ use Rattle.ak_base.specs.Word.{is_word_byte, is_word}
 use Rattle.ak_base.specs.AppName.{begins_with}
 use Rattle.ak_base.specs.Option.{where_true}
 use Rattle.ak_kit.specs.Reading.{after, is_gap, field_len, field_at, is_int32, int32_of, capacity_of}
-use Rattle.ak_kit.proofs.Fronts.{begins, begins_again, not_begins}
+use Rattle.ak_kit.proofs.Fronts.{begins, begins_again}
 use Rattle.ak_kit.proofs.Numbers.{int32_takes, int32_found}
 
 -- ---- a front
@@ -28,10 +28,6 @@ after_takes front bytes rest e =
 pub after_again : (front rest : List ℕ) → after front (front ++ rest) ≡ Some rest
 unfolding after
 after_again front rest = rw (begins_again front rest, drop_at front rest (length front) refl) refl
-
-pub not_after : (front bytes : List ℕ) → ((rest : List ℕ) → bytes ≡ front ++ rest → ⊥) → after front bytes ≡ None
-unfolding after
-not_after front bytes none = rw (not_begins front bytes none) refl
 
 -- ---- a field and the gap after it
 

@@ -13,7 +13,7 @@ use Rattle.ak_kit.specs.Messages.{answer, get_of, ready_to_run}
 use Rattle.ak_kit.specs.Opening.{IsOpening}
 use Rattle.ak_kit.specs.Reply.{IsAnswer}
 use Rattle.ak_kit.specs.Rows.{value_of_row}
-use Rattle.ak_kit.specs.Run.{get_item, hey_step, item_of, launch_step, line_of, ready_item, reply_of, reply_text_line}
+use Rattle.ak_kit.specs.Run.{get_item, hey_step, item_of, line_of, ready_item, reply_of, reply_text_line}
 use Rattle.ak_kit.specs.Steps.{AddsLine}
 use Rattle.ak_kit.proofs.Items.{askable_word, get_is_short, ready_is_short}
 use Rattle.ak_kit.proofs.RunLaws.{launch_quiet, word_quiet, word_reply}
@@ -56,10 +56,6 @@ launch_item m item is made = made ∙ ap (λ (x : MessageData). item_of duty.Non
 
 pub launch_is_quiet : (s : DeskState) (item : ItemData) → item ≡ ready_item → IsOpening s → IsQuiet s item
 launch_is_quiet s item is opens = subst (λ (x : ItemData). IsQuiet s x) (sym is) (launch_quiet s opens)
-
-pub launch_line : (s : DeskState) (time : ℕ) (item : ItemData) (old new : List EntryData) → time ≡ 0 → item ≡ ready_item → new ≡ old ++ line_of s time item ∷ [] → AddsLine (launch_step s) old new
-launch_line s time item old new begins made added =
-    added ∙ ap (λ (x : ItemData). old ++ line_of s time x ∷ []) made ∙ ap (λ (n : ℕ). old ++ line_of s n ready_item ∷ []) begins
 
 -- ---- of a result
 pub if_ok : {A E : Type 0} (P Q : A → Type 0) (r : Result A E) → ((x : A) → P x → Q x) → IfOk r P → IfOk r Q
