@@ -1,11 +1,11 @@
 -- A turn at a desk leaves the seat at what the machine allows.
-use Rattle.std.proofs.Common.{◌≡◌, Bool, false, List, [], ◌∷◌, ◌++◌, Option, None, Some, IsSomeAnd, sym, ap, subst, ◌∙◌}
+use Rattle.std.proofs.Common.{◌≡◌, Bool, List, [], ◌∷◌, ◌++◌, Option, None, Some, IsSomeAnd, refl, sym, ap, subst, ◌∙◌}
 use Rattle.ak_turn.specs.declared.clock.Clock.{Clock}
 use Rattle.ak_turn.specs.Seats.{HasCalled, IsGiven, at_leisure, entered_by, with_own}
 use Rattle.ak_action.specs.declared.state.DeskState.{DeskState}
 use Rattle.ak_desk.specs.declared.entry.DeskEvent.{DeskEvent}
 use Rattle.ak_desk.specs.Desk.{DeskData, HasAdded, dispatched_entry, given_up_entry, entry_after}
-use Rattle.ak_desk.specs.Laws.{ATurnDispatches, ATurnGivesUp}
+use Rattle.ak_desk.specs.Laws.{ATurnDispatches, ATurnGivesUp, InATurn}
 use Rattle.ak_desk.specs.Entry.{EntryData}
 use Rattle.ak_desk.specs.Machine.{IsHistory}
 use Rattle.ak_desk.specs.Shared.{DeskSeat, IsAtDesk, LeadsOn, by_number}
@@ -36,8 +36,8 @@ record EntersThere (entry : EntryData) (opening : DeskState) (entries' : List En
   opens : seat'.opening ≡ Some opening
   called : HasCalled by_number entry seat seat'
 
-enters_there : (entry : EntryData) (opening : DeskState) (entries entries' : List EntryData) (seat given seat' : DeskSeat) → entries' ≡ entries ++ entry ∷ [] → by_number entry ≡ seat.thread → seat.turn ≡ false → seat.opening ≡ Some opening → IsGiven by_number seat given → entries ≡ given.front → ((l : EntryData) → entries' ≡ given.front ++ l ∷ [] → seat' ≡ at_leisure (entered_by given l)) → EntersThere entry opening entries' seat seat'
-enters_there entry opening entries entries' seat given seat' goes_on mine idle begins seen list entered =
+enters_there : (entry : EntryData) (clock : Clock) (opening : DeskState) (entries entries' : List EntryData) (seat given seat' : DeskSeat) → entries' ≡ entries ++ entry ∷ [] → by_number entry ≡ clock.thread.0 → InATurn clock opening entries entries' seat given seat' (EntersThere entry opening entries' seat seat')
+enters_there entry clock opening entries entries' seat given seat' goes_on by idle thread begins seen list entered =
     let grown : entries' ≡ given.front ++ entry ∷ [] = goes_on ∙ ap (λ (l : List EntryData). l ++ entry ∷ []) list in
     let left = entered entry grown in
     record {
@@ -46,7 +46,7 @@ enters_there entry opening entries entries' seat given seat' goes_on mine idle b
       called = record {
         between = seen.between;
         others = seen.others;
-        mine = mine;
+        mine = by ∙ sym thread;
         after =
             left ∙ ap (λ (g : DeskSeat). at_leisure (entered_by g entry)) seen.after
             ∙ ap (λ (b : Bool). record (with_own seat seen.between entry) { turn = b }) (sym idle);
@@ -59,7 +59,7 @@ desk_there opening after entries' seat' opens front h = at_front seat' (record {
 pub a_turn_dispatches : ATurnDispatches
 a_turn_dispatches clock clock' position item asked heard made opening before after entries entries' seat given seat' h idle thread begins seen list entered =
     let entry : EntryData = dispatched_entry entries clock position item before h.words h.quit in
-    let there = enters_there entry opening entries entries' seat given seat' h.grown (sym thread) idle begins seen list entered in (
+    let there = enters_there entry clock opening entries entries' seat given seat' h.grown refl idle thread begins seen list entered in (
       record {
         opening = opening;
         opening_is = there.opens;
@@ -89,7 +89,7 @@ a_turn_dispatches clock clock' position item asked heard made opening before aft
 
 pub a_turn_gives_up : ATurnGivesUp
 a_turn_gives_up clock clock' position item made opening state entries entries' seat given seat' h idle thread begins seen list entered =
-    let there = enters_there (given_up_entry entries clock position item) opening entries entries' seat given seat' h.grown (sym thread) idle begins seen list entered in (
+    let there = enters_there (given_up_entry entries clock position item) clock opening entries entries' seat given seat' h.grown refl idle thread begins seen list entered in (
       record {
         opening = opening;
         opening_is = there.opens;

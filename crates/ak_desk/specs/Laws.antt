@@ -123,31 +123,30 @@ DispatchesAreOwn =
     → (dispatches entries ≡ dispatches (made_by by_number (looper_thread looper) entries)) × (gave_up entries ≡ gave_up (made_by by_number (looper_thread looper) entries))
 
 -- ---- a turn of the looper's own thread
--- a message that is begun and ended between `lock` and `finish` is dispatched there, by what those two say of the seats
-abbrev pub ATurnDispatches : Type 0
-ATurnDispatches =
-    (clock clock' : Clock) (position : ℕ) (item : ItemData) (asked : List Want) (heard : List Answer) (made : Made) (opening before after : DeskState) (entries entries' : List EntryData) (seat given seat' : DeskSeat)
-    → HasDispatched clock clock' position item asked heard opening before after entries entries' made
-    → seat.turn ≡ false
+-- what holds by what `lock` and `finish` say of the seats, where the desk has the first list at the one and the second at the other
+abbrev pub InATurn : Clock → DeskState → List EntryData → List EntryData → DeskSeat → DeskSeat → DeskSeat → Type 0 → Type 0
+InATurn clock opening entries entries' seat given seat' Follows =
+    seat.turn ≡ false
     → seat.thread ≡ clock.thread.0
     → seat.opening ≡ Some opening
     → IsGiven by_number seat given
     → entries ≡ given.front
     → ((entry : EntryData) → entries' ≡ given.front ++ entry ∷ [] → seat' ≡ at_leisure (entered_by given entry))
-    → HasDispatchedThere clock clock' position item asked heard made seat seat' × IsAtDesk seat'
+    → Follows
+
+-- a message that is begun and ended between `lock` and `finish` is dispatched there, by what those two say of the seats
+abbrev pub ATurnDispatches : Type 0
+ATurnDispatches =
+    (clock clock' : Clock) (position : ℕ) (item : ItemData) (asked : List Want) (heard : List Answer) (made : Made) (opening before after : DeskState) (entries entries' : List EntryData) (seat given seat' : DeskSeat)
+    → HasDispatched clock clock' position item asked heard opening before after entries entries' made
+    → InATurn clock opening entries entries' seat given seat' (HasDispatchedThere clock clock' position item asked heard made seat seat' × IsAtDesk seat')
 
 -- so it is with a message that is given up there
 abbrev pub ATurnGivesUp : Type 0
 ATurnGivesUp =
     (clock clock' : Clock) (position : ℕ) (item : ItemData) (made : Made) (opening state : DeskState) (entries entries' : List EntryData) (seat given seat' : DeskSeat)
     → HasGivenUp clock clock' position item opening state entries entries' made
-    → seat.turn ≡ false
-    → seat.thread ≡ clock.thread.0
-    → seat.opening ≡ Some opening
-    → IsGiven by_number seat given
-    → entries ≡ given.front
-    → ((entry : EntryData) → entries' ≡ given.front ++ entry ∷ [] → seat' ≡ at_leisure (entered_by given entry))
-    → HasGivenUpThere clock clock' position item made seat seat' × IsAtDesk seat'
+    → InATurn clock opening entries entries' seat given seat' (HasGivenUpThere clock clock' position item made seat seat' × IsAtDesk seat')
 
 -- ---- nothing that fits is left out
 -- the field of these values, where there are any
