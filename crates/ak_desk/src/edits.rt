@@ -18,24 +18,24 @@ impl Desk {
     /// handler, another preferred one. The edit and its answer are one entry, by the clock's thread, with the
     /// clock's next stamp. A refusal changes nothing and is an entry too. `NoMemory` changes nothing, and there
     /// is no entry.
-    pub fn edit(&mut self, e: Edit, clock: &mut Clock) -> EditAnswer
+    pub fn edit(&mut self, edit: Edit, clock: &mut Clock) -> EditAnswer
         requires rest { self.old.begun ≡ None }
         requires time { clock.old.time < 2 ^ 63 }
         requires last { stamp_in self.old.entries < 2 ^ 63 }
-        ensures edits { Edits self.old clock.old e result self.new clock.new }
-        ensures added { HasAdded (edit_entry e result) clock.old clock.new self.old self.new }
+        ensures edits { Edits self.old clock.old edit result self.new clock.new }
+        ensures added { HasAdded (edit_entry edit result) clock.old clock.new self.old self.new }
     {
         if self.entries.reserve(2).is_err() {
             return EditAnswer::NoMemory;
         }
-        let answer = changed(*self.entries.allocator(), &mut self.state.handlers, &e);
+        let answer = changed(*self.entries.allocator(), &mut self.state.handlers, &edit);
         if is_no_memory(answer) {
             return answer;
         }
         add(
             &mut self.entries,
             clock,
-            DeskEvent::Edited { edit: e, answer },
+            DeskEvent::Edited { edit, answer },
             None,
         );
         answer
@@ -48,10 +48,10 @@ fn is_no_memory(answer: EditAnswer) -> bool
     matches!(answer, EditAnswer::NoMemory)
 }
 
-fn changed(alloc: Global, handlers: &mut HandlerSet<DeskRow>, e: &Edit) -> EditAnswer
-    ensures { EditsHandlers handlers.old e.now result handlers.new }
+fn changed(alloc: Global, handlers: &mut HandlerSet<DeskRow>, edit: &Edit) -> EditAnswer
+    ensures { EditsHandlers handlers.old edit.now result handlers.new }
 {
-    match e {
+    match edit {
         Edit::Add(name) => added(alloc, handlers, name),
         Edit::Remove(token) => removed(handlers, *token),
         Edit::Next(token, next) => linked(handlers, *token, *next),

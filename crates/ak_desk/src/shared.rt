@@ -19,32 +19,32 @@ pub fn edit_shared<R: Wait>(
     rt: &R,
     seat: &mut Seat<Desk>,
     clock: &mut Clock,
-    e: Edit,
+    edit: Edit,
 ) -> EditAnswer
     requires of { seat.old.lock ≡ desk.now }
     requires idle { seat.old.turn ≡ false }
     requires thread { seat.old.thread ≡ clock.old.thread.0 }
-    ensures answered { HasAnswered (edit_entry e result) clock.old clock.new seat.old seat.new }
+    ensures answered { HasAnswered (edit_entry edit result) clock.old clock.new seat.old seat.new }
     ensures desk { IsAtDesk seat.new }
     ensures known { KnowsWhole by_number seat.new }
 {
     let mut turn = desk.lock(rt, seat);
     clock.ready(rt);
-    let answer = edited(turn.book(), clock, e);
+    let answer = edited(turn.book(), clock, edit);
     turn.finish(seat);
     answer
 }
 
 // The edit in its turn; the list leads to the handlers then.
-fn edited(desk: &mut Desk, clock: &mut Clock, e: Edit) -> EditAnswer
+fn edited(desk: &mut Desk, clock: &mut Clock, edit: Edit) -> EditAnswer
     requires rest { desk.old.begun ≡ None }
     requires time { clock.old.time < 2 ^ 63 }
     requires last { stamp_in desk.old.entries < 2 ^ 63 }
-    ensures added { HasAdded (edit_entry e result) clock.old clock.new desk.old desk.new }
+    ensures added { HasAdded (edit_entry edit result) clock.old clock.new desk.old desk.new }
     ensures rest { desk.new.begun ≡ None }
     ensures history { IsHistory desk.new.opening desk.new.entries desk.new.state }
 {
-    let answer = desk.edit(e, clock);
+    let answer = desk.edit(edit, clock);
     // Reading the handlers shows that the list leads to them.
     let _state = desk.state();
     answer

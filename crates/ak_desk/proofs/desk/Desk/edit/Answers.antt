@@ -15,35 +15,35 @@ invariant_of-self-then-is_no_memory c =
     let without : is_no_memory c.changed-answer.result ≡ true = grind (arith, common_steps) in
     let room : vec_len c.reserve.new.self < vec_capacity c.reserve.new.self = grind (arith, common_steps) in
     record {
-      stands = kept_stands c.self.inside.opening.value c.self.inside.entries.items c.reserve.new.self.items c.self.inside.begun c.self.inside.state none c.self.invariant.stands c.args.e c.changed-answer.result c.changed-answer.new.handlers _ _ c.changed-answer.ensures without c.reserve.ensures.items;
+      stands = kept_stands c.self.inside.opening.value c.self.inside.entries.items c.reserve.new.self.items c.self.inside.begun c.self.inside.state none c.self.invariant.stands c.args.edit c.changed-answer.result c.changed-answer.new.handlers _ _ c.changed-answer.ensures without c.reserve.ensures.items;
       places = subst (λ (o : Option Begun). HasPlaces c.reserve.new.self.items o (vec_len c.reserve.new.self) (vec_capacity c.reserve.new.self)) (sym none) (λ _. room);
     }
 
 pub returns-then-is_no_memory-clause-edits : goal.returns-then-is_no_memory-clause-edits
 returns-then-is_no_memory-clause-edits c =
     let without : is_no_memory c.changed-answer.result ≡ true = grind (arith, common_steps) in
-    none_told_of c.args.self.now (desk_inside c.self.inside) c.self.view_is c.args.clock.now c.args.e c.changed-answer.result c.changed-answer.new.handlers _ _ c.reserve.new.self.items c.changed-answer.ensures without c.reserve.ensures.items
+    none_told_of c.args.self.now (desk_inside c.self.inside) c.self.view_is c.args.clock.now c.args.edit c.changed-answer.result c.changed-answer.new.handlers _ _ c.reserve.new.self.items c.changed-answer.ensures without c.reserve.ensures.items
 
 pub invariant_of-self-2 : goal.invariant_of-self-2
 invariant_of-self-2 c =
     let none : c.self.inside.begun ≡ None = none_inside c.self.inside.begun (ap (λ (d : DeskData). d.begun) c.self.view_is ∙ c.requires.rest) in
     let other : is_no_memory c.changed-answer.result ≡ false = grind (arith, common_steps) in
-    let grown : c.add.new.entries.items ≡ c.self.inside.entries.items ++ entry_after c.self.inside.entries.items c.args.clock.now (event.Edited c.args.e c.changed-answer.result) None ∷ [] = grind (arith, common_steps) in
+    let grown : c.add.new.entries.items ≡ c.self.inside.entries.items ++ entry_after c.self.inside.entries.items c.args.clock.now (event.Edited c.args.edit c.changed-answer.result) None ∷ [] = grind (arith, common_steps) in
     let room : vec_len c.add.new.entries < vec_capacity c.add.new.entries = grind (arith, common_steps) in
     record {
-      stands = edit_stands c.self.inside.opening.value c.self.inside.entries.items c.add.new.entries.items c.self.inside.begun c.self.inside.state none c.self.invariant.stands c.args.clock.now c.args.e c.changed-answer.result c.changed-answer.new.handlers _ _ c.changed-answer.ensures other grown;
+      stands = edit_stands c.self.inside.opening.value c.self.inside.entries.items c.add.new.entries.items c.self.inside.begun c.self.inside.state none c.self.invariant.stands c.args.clock.now c.args.edit c.changed-answer.result c.changed-answer.new.handlers _ _ c.changed-answer.ensures other grown;
       places = subst (λ (o : Option Begun). HasPlaces c.add.new.entries.items o (vec_len c.add.new.entries) (vec_capacity c.add.new.entries)) (sym none) (λ _. room);
     }
 
 pub returns-clause-edits : goal.returns-clause-edits
 returns-clause-edits c =
     let other : is_no_memory c.changed-answer.result ≡ false = grind (arith, common_steps) in
-    let grown : c.add.new.entries.items ≡ c.self.inside.entries.items ++ entry_after c.self.inside.entries.items c.args.clock.now (event.Edited c.args.e c.changed-answer.result) None ∷ [] = grind (arith, common_steps) in
+    let grown : c.add.new.entries.items ≡ c.self.inside.entries.items ++ entry_after c.self.inside.entries.items c.args.clock.now (event.Edited c.args.edit c.changed-answer.result) None ∷ [] = grind (arith, common_steps) in
     let clock : c.add.new.clock ≡ clock_after (desk_inside c.self.inside) c.args.clock.now = grind (arith, common_steps) in
-    edit_told_of c.args.self.now (desk_inside c.self.inside) c.self.view_is c.args.clock.now c.args.e c.changed-answer.result c.changed-answer.new.handlers _ _ c.add.new.entries.items c.changed-answer.ensures c.add.new.clock other grown clock
+    edit_told_of c.args.self.now (desk_inside c.self.inside) c.self.view_is c.args.clock.now c.args.edit c.changed-answer.result c.changed-answer.new.handlers _ _ c.add.new.entries.items c.changed-answer.ensures c.add.new.clock other grown clock
 
 pub returns-then-is_no_memory-clause-added : goal.returns-then-is_no_memory-clause-added
-returns-then-is_no_memory-clause-added c = edits_add c.args.self.now c.args.clock.now c.args.e c.changed-answer.result _ _ (returns-then-is_no_memory-clause-edits c)
+returns-then-is_no_memory-clause-added c = edits_add c.args.self.now c.args.clock.now c.args.edit c.changed-answer.result _ _ (returns-then-is_no_memory-clause-edits c)
 
 pub returns-clause-added : goal.returns-clause-added
-returns-clause-added c = edits_add c.args.self.now c.args.clock.now c.args.e c.changed-answer.result _ _ (returns-clause-edits c)
+returns-clause-added c = edits_add c.args.self.now c.args.clock.now c.args.edit c.changed-answer.result _ _ (returns-clause-edits c)
