@@ -5,4 +5,5 @@ pub mod Laws
 pub mod Limits
 pub mod Machine
 pub mod Roster
+pub mod RosterInside
 pub mod Told

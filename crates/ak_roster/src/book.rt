@@ -31,15 +31,15 @@ pub struct RosterBook<D: Grant> {
 }
 
 impl<D: Grant> Model for RosterBook<D> {
-    ghost use Rattle.std.specs.Prelude.{vec_capacity};
     ghost use Rattle.ak_roster.specs.Roster.{RosterData};
     ghost use Rattle.ak_roster.specs.Kept.{roster_seen, IsSound};
+    ghost use Rattle.ak_roster.specs.RosterInside.{kept_inside};
 
     ghost Value = { RosterData D D.Object };
 
-    ghost view = { λ r. roster_seen D.object (record { heads = r.heads.items; running = r.running.items; teams = r.teams; loopers = r.loopers; entries = r.entries.items; room = vec_capacity r.entries; taken = r.taken.value.items; doors = r.doors.items }) };
+    ghost view = { λ r. roster_seen D.object (kept_inside r) };
 
-    ghost invariant = { λ r. IsSound D.object D.threads (record { heads = r.heads.items; running = r.running.items; teams = r.teams; loopers = r.loopers; entries = r.entries.items; room = vec_capacity r.entries; taken = r.taken.value.items; doors = r.doors.items }) };
+    ghost invariant = { λ r. IsSound D.object D.threads (kept_inside r) };
 }
 
 impl<D: Grant> RosterBook<D> {

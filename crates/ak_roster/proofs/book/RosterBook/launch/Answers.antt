@@ -6,6 +6,7 @@ use Rattle.ak_roster.specs.declared.team.Running.{Running}
 use Rattle.ak_roster.specs.declared.entry.RosterEvent.TheVariants as event
 use Rattle.ak_roster.specs.declared.entry.LaunchOutcome.TheVariants as launch
 use Rattle.ak_roster.specs.Kept.{Kept}
+use Rattle.ak_roster.specs.RosterInside.{kept_inside}
 use Rattle.ak_roster.specs.Machine.{launch_of, loopers_at}
 use Rattle.ak_roster.specs.Roster.{state}
 use Rattle.ak_roster.proofs.Entering.{Entered, entry_of}
@@ -13,20 +14,8 @@ use Rattle.ak_roster.proofs.Launching.{launches, launched_rests}
 use Rattle.ak_roster.proofs.book.RosterBook.launch.Goals as goal
 use Rattle.ak_roster.proofs.book.RosterBook.launch.Given as given
 
-abbrev old : (g : given.Over) → goal.After-self-2-1 g → Kept g.row.D.Denot
-old g c = record {
-  heads = c.self.inside.heads.items;
-  running = c.self.inside.running.items;
-  teams = c.self.inside.teams;
-  loopers = c.self.inside.loopers;
-  entries = c.self.inside.entries.items;
-  room = vec_capacity c.self.inside.entries;
-  taken = c.self.inside.taken.value.items;
-  doors = c.self.inside.doors.items;
-}
-
 abbrev new : (g : given.Over) → goal.After-self-2-1 g → Kept g.row.D.Denot
-new g c = record (old g c) {
+new g c = record (kept_inside c.self.inside) {
   running = c.push_reserved.new.items.items;
   teams = c.in-Started.team;
   loopers = c.in-Started.first + c.loopers_at-loopers.result;
@@ -74,7 +63,7 @@ made : (g : given.Over) (c : goal.After-self-2-1 g)
     → Entered g.D.Grant.object g.D.Grant.threads (event.Launch c.args.word.now (launch_of c.args.self.now.heads (state c.args.self.now) c.args.word.now)) (map g.D.Grant.object c.args.doors.items)
     (c.args.self.now.doors ++ c.args.doors.items) c.args.self.now (new g c) c.args.clock.now c.entry_by-entry.new.clock
 made g c =
-    launches g.D.Grant.object g.D.Grant.threads (old g c) c.args.self.now c.self.view_is c.args.clock.now c.entry_by-entry.new.clock c.args.word.now
+    launches g.D.Grant.object g.D.Grant.threads (kept_inside c.self.inside) c.args.self.now c.self.view_is c.args.clock.now c.entry_by-entry.new.clock c.args.word.now
     c.entry_by-entry.result c.last_stamp-last_stamp.result c.self.invariant c.last_stamp-last_stamp.ensures (entry g c) c.entry_by-entry.ensures.clock
     c.in-Started.description c.in-Started.team c.in-Started.first (sym c.outcome-outcome.ensures ∙ c.in-Started.is)
     (new g c) c.args.doors.items c.requires.rest c.requires.doors refl refl (entries g c) (running g c) refl (ap (λ n. c.in-Started.first + n) (many g c))
@@ -88,7 +77,7 @@ returns-clause-entry g c = (made g c).entry
 
 pub returns-clause-rest : goal.returns-clause-rest
 returns-clause-rest g c =
-    launched_rests g.D.Grant.object g.D.Grant.threads (old g c) c.args.self.now c.self.view_is c.args.clock.now c.entry_by-entry.new.clock c.args.word.now
+    launched_rests g.D.Grant.object g.D.Grant.threads (kept_inside c.self.inside) c.args.self.now c.self.view_is c.args.clock.now c.entry_by-entry.new.clock c.args.word.now
     c.entry_by-entry.result c.last_stamp-last_stamp.result c.self.invariant c.last_stamp-last_stamp.ensures (entry g c) c.entry_by-entry.ensures.clock
     c.in-Started.description c.in-Started.team c.in-Started.first (sym c.outcome-outcome.ensures ∙ c.in-Started.is)
     (new g c) c.args.doors.items c.requires.rest c.requires.doors refl refl (entries g c) (running g c) refl (ap (λ n. c.in-Started.first + n) (many g c))
