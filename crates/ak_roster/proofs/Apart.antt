@@ -2,7 +2,7 @@
 use Rattle.std.proofs.Common.{◌≡◌, ◌≢◌, ◌<◌, ◌≤◌, ℕ, suc, ◌+◌, Bool, true, false, not, cond, List, [], ◌∷◌, ◌++◌, length, get_or, refl, sym, ap, ◌∙◌, subst, arith, append-nil, Option, None, Some, All, AllPairs, Contains, find}
 use Rattle.std.specs.Prelude.{slice_get, MatchOption}
 use Rattle.std.specs.Str.{bytes_eq}
-use Rattle.std.proofs.lemmas.Bool.{false≢true}
+use Rattle.std.proofs.lemmas.Bool.{both_ways, false≢true}
 use Rattle.std.proofs.lemmas.List.Elements.{All-cons, All-filter, All-nil, All-push, All-weaker}
 use Rattle.std.proofs.lemmas.List.Kept.{AllPairs-filter}
 use Rattle.std.proofs.lemmas.List.Quantifiers.{all_pairs_push}
@@ -34,11 +34,8 @@ module _ {A : Type 0} (test : A → Bool) where
   found_none [] e = All-nil (λ x. test x ≡ false)
   found_none (x ∷ xs) e = fails x xs (test x) refl (found_none xs) e
 
-bytes_eq-refl : (xs : List ℕ) → bytes_eq xs xs ≡ true
-bytes_eq-refl xs = (bytes_eq-Decides xs xs).1 refl
-
 differ : (xs ys : List ℕ) → bytes_eq xs ys ≡ false → xs ≢ ys
-differ xs ys unlike same = false≢true (sym unlike ∙ ap (λ (zs : List ℕ). bytes_eq xs zs) (sym same) ∙ bytes_eq-refl xs)
+differ xs ys unlike same = both_ways (bytes_eq xs ys) unlike ((bytes_eq-Decides xs ys).1 same)
 
 apart_by : (m : Mode) (head other : AppHead) → excludes_as m head other ≡ false → DifferBy m other head
 apart_by mode.Single head other unlike = differ other.path head.path unlike
