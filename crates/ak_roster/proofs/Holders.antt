@@ -1,5 +1,5 @@
 -- The threads that got a looper's door are those with an entry of it.
-use Rattle.std.proofs.Common.{◌≡◌, ◌≢◌, ◌<◌, ◌≤◌, ◌+◌, ◌⊎◌, ◌↔◌, ℕ, zero, suc, Bool, true, false, List, [], ◌∷◌, ◌++◌, length, get_or, Option, Some, None, inl, inr, ⊎_elim, refl, sym, ap, ◌∙◌, subst, arith, All, Any, Contains, eq-eqb}
+use Rattle.std.proofs.Common.{◌≡◌, ◌≢◌, ◌<◌, ◌≤◌, ◌+◌, ◌⊎◌, ℕ, zero, suc, Bool, true, false, List, [], ◌∷◌, ◌++◌, length, get_or, Option, Some, None, inl, inr, ⊎_elim, refl, sym, ap, ◌∙◌, subst, arith, All, Any, Contains, eq-eqb}
 use Rattle.std.specs.Prelude.{IfSome, if◌then◌else◌, replicate, slice_get, ◌==◌}
 use Rattle.std.proofs.lemmas.Bool.{cases_eq}
 use Rattle.std.proofs.lemmas.List.{length-append}
@@ -12,7 +12,7 @@ use Rattle.ak_roster.specs.declared.entry.RosterEvent.{RosterEvent}
 use Rattle.ak_roster.specs.declared.entry.RosterEvent.TheVariants as event
 use Rattle.ak_roster.specs.declared.entry.LaunchOutcome.{LaunchOutcome}
 use Rattle.ak_roster.specs.declared.entry.LaunchOutcome.TheVariants as launch
-use Rattle.ak_roster.specs.Machine.{HasNoDoor, IsHistory, IsLegal, LooperData, RosterState, after, given_to, holders, loopers_at, loopers_of, start, state_of, with_given}
+use Rattle.ak_roster.specs.Machine.{HasNoDoor, IsHistory, IsLegal, LooperData, RosterState, after, given_to, holders, loopers_at, loopers_of, state_of, with_given}
 use Rattle.ak_roster.specs.Roster.{IsStranger}
 use Rattle.ak_roster.specs.Laws.{FourTakeNoDoor, HoldersAreTold, IsHolder, IsNoneOfFour, StrangersAreTold, TookDoor}
 use Rattle.ak_roster.proofs.Carried.{carried}

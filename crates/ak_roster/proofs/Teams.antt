@@ -10,7 +10,7 @@ use Rattle.ak_roster.specs.declared.entry.RosterEvent.{RosterEvent}
 use Rattle.ak_roster.specs.declared.entry.RosterEvent.TheVariants as event
 use Rattle.ak_roster.specs.declared.entry.LaunchOutcome.{LaunchOutcome}
 use Rattle.ak_roster.specs.declared.entry.LaunchOutcome.TheVariants as launch
-use Rattle.ak_roster.specs.Machine.{IsLegal, LooperData, RosterState, after, given_to, launch_of, loopers_at, loopers_of, runs_team, state_of, team_of, with_given}
+use Rattle.ak_roster.specs.Machine.{IsLegal, LooperData, RosterState, after, given_to, launch_of, loopers_at, loopers_of, runs_team, team_of, with_given}
 use Rattle.ak_roster.specs.Laws.{AreThere, HasLaunched, LaunchesHaveLoopers, TeamsHaveLoopers}
 use Rattle.ak_roster.proofs.Carried.{carried}
 use Rattle.ak_roster.proofs.Launching.{started_facts}
