@@ -60,17 +60,11 @@ module _ {D O : Type 0} (object : D → Option O) (threads : D → Option (List 
   pub teams_held : old.teams ≡ (state roster).teams
   teams_held = sound.teams ∙ ap (λ (r : RosterData D O). (state r).teams) view
 
-  pub loopers_held : old.loopers ≡ length (state roster).loopers
-  loopers_held = sound.loopers ∙ ap (λ (r : RosterData D O). length (state r).loopers) view
-
   pub roster_held : IsRoster object threads roster
   roster_held = subst (λ (r : RosterData D O). IsRoster object threads r) view sound.roster
 
   pub doors_held : old.doors ≡ roster.doors
   doors_held = ap (λ (r : RosterData D O). r.doors) view
-
-  pub heads_held : old.heads ≡ roster.heads
-  heads_held = ap (λ (r : RosterData D O). r.heads) view
 
   -- the state that the entry leaves
   abbrev pub left : RosterState

@@ -18,9 +18,6 @@ state-entry heads entries entry =
     ap (λ (es : List RosterEntry). state_of heads es) (map-append (λ l. l.plain) entries (entry ∷ [])) ∙ state_of-append heads (plain_entries entries) entry.plain
 
 module _ {D O : Type 0} (object : D → Option O) (threads : D → Option (List ℕ)) where
-  abbrev pub old_state : Kept D → RosterState
-  old_state old = state (roster_seen object old)
-
   -- what an entry makes of the book
   pub record Grows (old new : Kept D) (e : RosterEntry) (added : List (Option O)) : Type 0 where
     pub heads : new.heads ≡ old.heads
