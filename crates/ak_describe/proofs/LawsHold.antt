@@ -77,12 +77,20 @@ unfolding description
 refused_first lines r e = ap (λ (x : Result State Refusal). then_read x checked) e
 
 -- ---- what lines describe is read
+-- the first pass reads what they say
+pub describes_passed : (lines : List Line) (apps : List AppText) (d : Describes lines apps) → first_pass lines ≡ Ok d.state
+describes_passed lines apps d =
+    passed lines d.state (follow_read lines nothing_read d.state nothing_fits d.lines_are) (complete_none d.state.apps lines d.complete)
+
+-- and the second one finds nothing
+pub describes_good : (lines : List Line) (apps : List AppText) (d : Describes lines apps) → second_fault d.state.apps d.state.names ≡ None
+describes_good lines apps d =
+    let kept = follow_kept lines nothing_read d.state nothing_kept d.lines_are in
+    good_read d.state.apps d.state.names kept.names [] d.state.names refl (λ k n lt is. absurd (omega arith)) d.names_are
+
 describes_read : (lines : List Line) (apps : List AppText) → Describes lines apps → description lines ≡ Ok apps
 describes_read lines apps d =
-    let kept = follow_kept lines nothing_read d.state nothing_kept d.lines_are in
-    let first = passed lines d.state (follow_read lines nothing_read d.state nothing_fits d.lines_are) (complete_none d.state.apps lines d.complete) in
-    let second = good_read d.state.apps d.state.names kept.names [] d.state.names refl (λ k n lt is. absurd (omega arith)) d.names_are in
-    described_by lines d.state first second ∙ ap (λ (xs : List AppText). Ok xs) (sym d.apps_are)
+    described_by lines d.state (describes_passed lines apps d) (describes_good lines apps d) ∙ ap (λ (xs : List AppText). Ok xs) (sym d.apps_are)
 
 -- ---- their first fault is told
 unfinished_told : (lines : List Line) (number : ℕ) (kind : RefusalKind) → IsUnfinished lines number kind → description lines ≡ Err (record { line = number; kind = kind })

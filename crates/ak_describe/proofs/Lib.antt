@@ -1,4 +1,5 @@
 pub mod AppLines
+pub mod Asking
 pub mod BothPasses
 pub mod Carrying
 pub mod Chaining

@@ -118,7 +118,7 @@ loop_of l row e (inl back) = back
 loop_of l row e (inr ends) = absurd cc
 
 -- ---- applications
-fits_decides : (word : AppWord) (a : AppData) → Decides (fits word a) (Fits word a)
+pub fits_decides : (word : AppWord) (a : AppData) → Decides (fits word a) (Fits word a)
 fits_decides (app.Path path) a = bytes_eq-Decides a.path path
 fits_decides (app.Signature signature) a = bytes_eq-Decides a.signature signature
 fits_decides (app.Name name) a = bytes_eq-Decides (last_part a.path) name

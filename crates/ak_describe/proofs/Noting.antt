@@ -1,4 +1,4 @@
--- Each looper that an action names is noted, at the place of the action; so where nothing is wrong with the names, it is there.
+-- Whom an action names is noted, at the place of the action; so where nothing is wrong with the names, each looper is there.
 use Rattle.std.proofs.Common.{◌≡◌, ◌⊎◌, ℕ, ◌+◌, ◌-◌, Bool, true, false, ◌||◌, List, [], ◌∷◌, ◌++◌, length, map, All, Any, Option, Some, None, option_map, bytes_eq, slice_get, refl, sym, ap, subst, ◌∙◌, inl, inr, arith}
 use Rattle.std.specs.List.{list_any, list_all}
 use Rattle.std.proofs.lemmas.Bool.{and_from}
@@ -28,33 +28,34 @@ use Rattle.ak_describe.proofs.Heading.{all_changed}
 use Rattle.ak_describe.proofs.Places.{all_there}
 use Rattle.ak_describe.proofs.Searching.{any_decides}
 
--- ---- a looper that is named
-abbrev pub NeedsLooper : Need → List ℕ → Type 0
-NeedsLooper (needs.Looper other) name = other ≡ name
-NeedsLooper (needs.AskLooper other) name = other ≡ name
-NeedsLooper (needs.Next other) name = ⊥
-NeedsLooper (needs.Handler other) name = ⊥
-NeedsLooper (needs.AskApp word) name = ⊥
-
+-- ---- what is named
 -- it is noted for that looper of that application
-pub record Noted (names : List Named) (i j : ℕ) (name : List ℕ) : Type 0 where
+pub record Noted (names : List Named) (i j : ℕ) (wanted : Need) : Type 0 where
   pub place : ℕ
   pub named : Named
   pub is : slice_get names place ≡ Some named
   pub app : named.app ≡ i
   pub looper : named.looper ≡ j
-  pub need : NeedsLooper named.need name
+  pub need : named.need ≡ wanted
 
-abbrev pub DestNoted : List Named → ℕ → ℕ → Dest → Type 0
-DestNoted names i j dest.Own = Unit {0}
-DestNoted names i j (dest.Looper name) = Noted names i j name
-DestNoted names i j (dest.Handler name) = Unit {0}
-DestNoted names i j (dest.App word) = Unit {0}
+-- where a message is posted to
+abbrev pub PostNoted : List Named → ℕ → ℕ → Dest → Type 0
+PostNoted names i j dest.Own = Unit {0}
+PostNoted names i j (dest.Looper name) = Noted names i j (needs.Looper name)
+PostNoted names i j (dest.Handler name) = Unit {0}
+PostNoted names i j (dest.App word) = Unit {0}
+
+-- who is asked
+abbrev pub AskNoted : List Named → ℕ → ℕ → Dest → Type 0
+AskNoted names i j dest.Own = Unit {0}
+AskNoted names i j (dest.Looper name) = Noted names i j (needs.AskLooper name)
+AskNoted names i j (dest.Handler name) = Unit {0}
+AskNoted names i j (dest.App word) = Noted names i j (needs.AskApp word)
 
 abbrev pub ActionNoted : List Named → ℕ → ℕ → Action → Type 0
 ActionNoted names i j (action.Reply m) = Unit {0}
-ActionNoted names i j (action.Post to m back) = DestNoted names i j to
-ActionNoted names i j (action.Ask to m into) = DestNoted names i j to
+ActionNoted names i j (action.Post to m back) = PostNoted names i j to
+ActionNoted names i j (action.Ask to m into) = AskNoted names i j to
 ActionNoted names i j (action.Set property value) = Unit {0}
 ActionNoted names i j (action.Add property amount) = Unit {0}
 ActionNoted names i j action.Stop = Unit {0}
@@ -76,22 +77,28 @@ pub nothing_noted : AllNoted [] []
 nothing_noted i j a l at is = absurd cc
 
 -- ---- names are added behind those that there are
-noted_more : (names : List Named) (apps : List AppData) (line : ℕ) (o : Option Need) (i j : ℕ) (name : List ℕ) → Noted names i j name → Noted (with_need names apps line o) i j name
-noted_more names apps line None i j name h = h
-noted_more names apps line (Some need) i j name h =
+noted_more : (names : List Named) (apps : List AppData) (line : ℕ) (o : Option Need) (i j : ℕ) (wanted : Need) → Noted names i j wanted → Noted (with_need names apps line o) i j wanted
+noted_more names apps line None i j wanted h = h
+noted_more names apps line (Some need) i j wanted h =
     record { place = h.place; named = h.named; is = get_before names (new_name apps line need) h.place h.named h.is; app = h.app; looper = h.looper; need = h.need }
 
-module _ (names more : List Named) (grows : (i j : ℕ) (name : List ℕ) → Noted names i j name → Noted more i j name) where
-  dest_more : (i j : ℕ) (to : Dest) → DestNoted names i j to → DestNoted more i j to
-  dest_more i j dest.Own h = h
-  dest_more i j (dest.Looper name) h = grows i j name h
-  dest_more i j (dest.Handler name) h = h
-  dest_more i j (dest.App word) h = h
+module _ (names more : List Named) (grows : (i j : ℕ) (wanted : Need) → Noted names i j wanted → Noted more i j wanted) where
+  post_more : (i j : ℕ) (to : Dest) → PostNoted names i j to → PostNoted more i j to
+  post_more i j dest.Own h = h
+  post_more i j (dest.Looper name) h = grows i j (needs.Looper name) h
+  post_more i j (dest.Handler name) h = h
+  post_more i j (dest.App word) h = h
+
+  ask_more : (i j : ℕ) (to : Dest) → AskNoted names i j to → AskNoted more i j to
+  ask_more i j dest.Own h = h
+  ask_more i j (dest.Looper name) h = grows i j (needs.AskLooper name) h
+  ask_more i j (dest.Handler name) h = h
+  ask_more i j (dest.App word) h = grows i j (needs.AskApp word) h
 
   action_more : (i j : ℕ) (a : Action) → ActionNoted names i j a → ActionNoted more i j a
   action_more i j (action.Reply m) h = h
-  action_more i j (action.Post to m back) h = dest_more i j to h
-  action_more i j (action.Ask to m into) h = dest_more i j to h
+  action_more i j (action.Post to m back) h = post_more i j to h
+  action_more i j (action.Ask to m into) h = ask_more i j to h
   action_more i j (action.Set property value) h = h
   action_more i j (action.Add property amount) h = h
   action_more i j action.Stop h = h
@@ -165,17 +172,20 @@ module _ (names : List Named) where
 
 -- ---- the action of a line is noted with it
 module _ (names : List Named) (apps : List AppData) (line i j : ℕ) (app : length apps - 1 ≡ i) (looper : open_looper_place apps ≡ j) where
-  post_noted : (to : Dest) → DestNoted (with_need names apps line (need_of_post to)) i j to
+  is_noted : (need : Need) → Noted (with_need names apps line (Some need)) i j need
+  is_noted need = record { place = length names; named = new_name apps line need; is = get_push names (new_name apps line need); app = app; looper = looper; need = refl }
+
+  post_noted : (to : Dest) → PostNoted (with_need names apps line (need_of_post to)) i j to
   post_noted dest.Own = tt
-  post_noted (dest.Looper name) = record { place = length names; named = new_name apps line (needs.Looper name); is = get_push names (new_name apps line (needs.Looper name)); app = app; looper = looper; need = refl }
+  post_noted (dest.Looper name) = is_noted (needs.Looper name)
   post_noted (dest.Handler name) = tt
   post_noted (dest.App word) = tt
 
-  ask_noted : (to : Dest) → DestNoted (with_need names apps line (need_of_ask to)) i j to
+  ask_noted : (to : Dest) → AskNoted (with_need names apps line (need_of_ask to)) i j to
   ask_noted dest.Own = tt
-  ask_noted (dest.Looper name) = record { place = length names; named = new_name apps line (needs.AskLooper name); is = get_push names (new_name apps line (needs.AskLooper name)); app = app; looper = looper; need = refl }
+  ask_noted (dest.Looper name) = is_noted (needs.AskLooper name)
   ask_noted (dest.Handler name) = tt
-  ask_noted (dest.App word) = tt
+  ask_noted (dest.App word) = is_noted (needs.AskApp word)
 
   action_noted : (a : Action) → ActionNoted (with_need names apps line (need_of_action a)) i j a
   action_noted (action.Reply m) = tt
@@ -247,38 +257,41 @@ contains_is : (loopers : List LooperData) (name : List ℕ) → contains (map (�
 contains_is [] name = refl
 contains_is (l ∷ loopers) name = ap (λ (b : Bool). bytes_eq l.name name || b) (contains_is loopers name)
 
-named_looper : (apps : List AppData) (a : AppData) (l : LooperData) (need : Need) (name : List ℕ) → NeedsLooper need name → IsNamedThere apps a l need → IsLooper a name
-named_looper apps a l (needs.Looper other) name e there = subst (IsLooper a) e there
-named_looper apps a l (needs.AskLooper other) name e there = subst (IsLooper a) e there
-named_looper apps a l (needs.Next other) name e there = absurd e
-named_looper apps a l (needs.Handler other) name e there = absurd e
-named_looper apps a l (needs.AskApp word) name e there = absurd e
-
 looper_found : (a : AppData) (name : List ℕ) → IsLooper a name → list_any (λ (l : LooperData). bytes_eq l.name name) a.loopers ≡ true
 looper_found a name h = (any_decides (λ (l : LooperData). bytes_eq l.name name) (λ (l : LooperData). l.name ≡ name) (λ l. bytes_eq-Decides l.name name) a.loopers).1 h
 
 module _ (apps : List AppData) (names : List Named) (good : All (IsGood apps) names) (i j : ℕ) (a : AppData) (l : LooperData) (at : slice_get apps i ≡ Some a) (is : slice_get a.loopers j ≡ Some l) where
-  is_at : (n : Named) → n.app ≡ i → n.looper ≡ j → IsAt apps n a l
+  pub is_at : (n : Named) → n.app ≡ i → n.looper ≡ j → IsAt apps n a l
   is_at n app looper = record { in_app = ap (slice_get apps) app ∙ at; in_looper = ap (slice_get a.loopers) looper ∙ is }
 
-  looper_there : (name : List ℕ) → Noted names i j name → contains (looper_names (app_text a)) name ≡ true
-  looper_there name h = contains_is a.loopers name ∙ by_test (list_any (λ (x : LooperData). bytes_eq x.name name) a.loopers) refl where
+  -- what needs a looper of that name
+  looper_there : (need : Need) (name : List ℕ) → (IsNamedThere apps a l need → IsLooper a name) → Noted names i j need → contains (looper_names (app_text a)) name ≡ true
+  looper_there need name needs_it h = contains_is a.loopers name ∙ by_test (list_any (λ (x : LooperData). bytes_eq x.name name) a.loopers) refl where
     by_test : (b : Bool) → list_any (λ (x : LooperData). bytes_eq x.name name) a.loopers ≡ b → list_any (λ (x : LooperData). bytes_eq x.name name) a.loopers ≡ true
     by_test true e = e
     by_test false e =
         absurd (all_there (IsGood apps) names h.place h.named h.is good refusal.UnknownName
-        (a, l, is_at h.named h.app h.looper, λ there. let found = looper_found a name (named_looper apps a l h.named.need name h.need there) in absurd (cc (found, e))))
+        (a, l, is_at h.named h.app h.looper, λ there. let found = looper_found a name (needs_it (subst (IsNamedThere apps a l) h.need there)) in absurd (cc (found, e))))
 
-  dest_known : (to : Dest) → DestNoted names i j to → fits_dest (looper_names (app_text a)) to ≡ true
-  dest_known dest.Own h = refl
-  dest_known (dest.Looper name) h = looper_there name h
-  dest_known (dest.Handler name) h = refl
-  dest_known (dest.App word) h = refl
+  pub asked_there : (name : List ℕ) → Noted names i j (needs.AskLooper name) → contains (looper_names (app_text a)) name ≡ true
+  asked_there name h = looper_there (needs.AskLooper name) name (λ there. there) h
+
+  post_known : (to : Dest) → PostNoted names i j to → fits_dest (looper_names (app_text a)) to ≡ true
+  post_known dest.Own h = refl
+  post_known (dest.Looper name) h = looper_there (needs.Looper name) name (λ there. there) h
+  post_known (dest.Handler name) h = refl
+  post_known (dest.App word) h = refl
+
+  ask_known : (to : Dest) → AskNoted names i j to → fits_dest (looper_names (app_text a)) to ≡ true
+  ask_known dest.Own h = refl
+  ask_known (dest.Looper name) h = asked_there name h
+  ask_known (dest.Handler name) h = refl
+  ask_known (dest.App word) h = refl
 
   action_known : (x : Action) → ActionNoted names i j x → names_loopers (looper_names (app_text a)) x ≡ true
   action_known (action.Reply m) h = refl
-  action_known (action.Post to m back) h = dest_known to h
-  action_known (action.Ask to m into) h = dest_known to h
+  action_known (action.Post to m back) h = post_known to h
+  action_known (action.Ask to m into) h = ask_known to h
   action_known (action.Set property value) h = refl
   action_known (action.Add property amount) h = refl
   action_known action.Stop h = refl

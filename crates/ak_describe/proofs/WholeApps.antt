@@ -1,21 +1,25 @@
 -- What is described is whole.
 use Rattle.std.proofs.Common.{◌≡◌, ◌≢◌, ℕ, ◌+◌, ◌-◌, ◌<◌, ◌≤◌, true, List, [], ◌∷◌, length, get_or, map, All, AllPairs, Option, Some, None, IfSome, IsTrue, option_map, slice_get, refl, sym, ap, subst, ◌∙◌, arith}
 use Rattle.std.proofs.lemmas.List.{length-map, get_or-map}
-use Rattle.std.proofs.lemmas.List.Elements.{All-map}
+use Rattle.std.proofs.lemmas.List.Elements.{All-map, All-weaker}
 use Rattle.std.proofs.lemmas.Option.{slice_get-get_or, slice_get-map, slice_get_within}
 use Rattle.ak_base.specs.Word.{is_word}
 use Rattle.ak_message.specs.declared.line.Line.{Line}
 use Rattle.ak_action.specs.declared.plan.PlanParts.{PlanParts}
 use Rattle.ak_action.specs.Opening.{FitsPlace, knows_loopers}
+use Rattle.ak_action.specs.Plan.{IsPlan}
 use Rattle.ak_roster.specs.declared.head.AppHead.{AppHead}
 use Rattle.ak_roster.specs.Heads.{IsHeads}
 use Rattle.ak_describe.specs.declared.described.AppText.{AppText}
-use Rattle.ak_describe.specs.Described.{app_text, described, plan_parts, plan_rows}
+use Rattle.ak_describe.specs.Described.{AreWhole, IsWhole, app_text, described, plan_parts, plan_rows}
 use Rattle.ak_describe.specs.Describes.{Adds, Describes, Follow, IsGood}
 use Rattle.ak_describe.specs.Parts.{LooperData, AppData}
 use Rattle.ak_describe.specs.Pass.{State, nothing_read}
 use Rattle.ak_describe.specs.Whole.{AreWholeApps, DescriptionsAreWhole, IsWholeApp, head_of, heads_of, looper_names}
+use Rattle.ak_describe.proofs.Asking.{asks_go_on}
+use Rattle.ak_describe.proofs.BothPasses.{are_whole}
 use Rattle.ak_describe.proofs.Heading.{AppIs, AppsAre, Differ, complete_filled, form_are, name_of, nothing_is, path_of}
+use Rattle.ak_describe.proofs.LawsHold.{describes_passed, describes_good}
 use Rattle.ak_describe.proofs.Noting.{AllNoted, form_noted, loopers_known, nothing_noted}
 use Rattle.ak_describe.proofs.Outcomes.{mapped}
 use Rattle.ak_describe.proofs.Places.{all_there}
@@ -58,7 +62,7 @@ own_large : (loopers : List LooperData) → ((l : LooperData) → slice_get loop
 own_large [] own = tt
 own_large (l ∷ loopers) own = own l refl
 
-module _ (s : State) (h : Held s) (good : All (IsGood s.apps) s.names) (i : ℕ) (a : AppData) (at : slice_get s.apps i ≡ Some a) (filled : 1 ≤ length a.loopers) where
+module _ (s : State) (h : Held s) (good : All (IsGood s.apps) s.names) (wholes : AreWhole s.apps) (i : ℕ) (a : AppData) (at : slice_get s.apps i ≡ Some a) (filled : 1 ≤ length a.loopers) where
   app_is : AppIs a
   app_is = all_there AppIs s.apps i a at h.are.each
 
@@ -73,6 +77,11 @@ module _ (s : State) (h : Held s) (good : All (IsGood s.apps) s.names) (i : ℕ)
 
   known_at : (j : ℕ) (l : LooperData) → slice_get a.loopers j ≡ Some l → IsTrue (knows_loopers (looper_names (app_text a)) (plan_parts l).rows)
   known_at j l is = loopers_known s.apps s.names good i j a l at is (h.noted i j a l at is)
+
+  plans_are : All IsPlan (app_text a).loopers
+  plans_are =
+      All-map IsPlan plan_parts a.loopers
+      (All-weaker IsWhole (λ (l : LooperData). IsPlan (plan_parts l)) (λ l w. w.plan) a.loopers (all_there (λ (b : AppData). All IsWhole b.loopers) s.apps i a at wholes))
 
   fits_at : (first place : ℕ) (p : PlanParts) → first + length (app_text a).loopers ≤ 32 → slice_get (app_text a).loopers place ≡ Some p → FitsPlace p (first + place) first (looper_names (app_text a))
   fits_at first place p room there =
@@ -96,6 +105,7 @@ module _ (s : State) (h : Held s) (good : All (IsGood s.apps) s.names) (i : ℕ)
         few_loopers = omega (arith, app_is.few, length-loopers);
         names_are_words = subst (λ (ns : List (List ℕ)). All (λ (name : List ℕ). IsTrue (is_word name)) ns) (sym (names-are a.loopers)) (All-map (λ (name : List ℕ). IsTrue (is_word name)) name_of a.loopers app_is.words);
         names_differ = differ;
+        plans_are = plans_are;
         own_capacity = own_large a.loopers app_is.own;
         loopers_are_there =
             All-map (λ (p : PlanParts). IsTrue (knows_loopers (looper_names (app_text a)) p.rows)) plan_parts a.loopers
@@ -111,10 +121,10 @@ paths_differ apps h i j d lt within e =
     let y = mapped (slice_get apps j) app_text (get_or (described apps) j d) (sym (slice_get-map app_text apps j) ∙ slice_get-get_or (described apps) j d within) in
     h i j x.value y.value lt x.is y.is (ap (λ (t : AppText). t.path) x.then_is ∙ e ∙ ap (λ (t : AppText). t.path) (sym y.then_is))
 
-each_whole : (s : State) → Held s → All (IsGood s.apps) s.names → ((i : ℕ) (a : AppData) → slice_get s.apps i ≡ Some a → 1 ≤ length a.loopers) → All IsWholeApp (described s.apps)
-each_whole s h good filled =
+each_whole : (s : State) → Held s → All (IsGood s.apps) s.names → AreWhole s.apps → ((i : ℕ) (a : AppData) → slice_get s.apps i ≡ Some a → 1 ≤ length a.loopers) → All IsWholeApp (described s.apps)
+each_whole s h good wholes filled =
     All-map IsWholeApp app_text s.apps
-    (λ i d lt. let at = slice_get-get_or s.apps i d lt in is_whole s h good i (get_or s.apps i d) at (filled i (get_or s.apps i d) at))
+    (λ i d lt. let at = slice_get-get_or s.apps i d lt in is_whole s h good wholes i (get_or s.apps i d) at (filled i (get_or s.apps i d) at))
 
 heads_are : (apps : List AppText) → length apps ≤ 16 → All IsWholeApp apps → IsHeads (heads_of apps)
 heads_are apps few each =
@@ -123,13 +133,20 @@ heads_are apps few each =
       loopers = All-map (λ (head : AppHead). (1 ≤ head.loopers) × (head.loopers ≤ 8)) head_of apps (λ i d lt. let a = each i d lt in (a.some_looper, a.few_loopers));
     }
 
-whole : (s : State) → Held s → All (IsGood s.apps) s.names → ((i : ℕ) (a : AppData) → slice_get s.apps i ≡ Some a → 1 ≤ length a.loopers) → AreWholeApps (described s.apps)
-whole s h good filled =
+whole : (s : State) → Held s → All (IsGood s.apps) s.names → AreWhole s.apps → ((i : ℕ) (a : AppData) → slice_get s.apps i ≡ Some a → 1 ≤ length a.loopers) → AreWholeApps (described s.apps)
+whole s h good wholes filled =
     let few : length (described s.apps) ≤ 16 = omega (arith, h.are.few, length-map s.apps app_text) in
-    let each = each_whole s h good filled in
-    record { limit = few; paths_differ = paths_differ s.apps h.are.differ; each = each; heads = heads_are (described s.apps) few each }
+    let each = each_whole s h good wholes filled in
+    record {
+      limit = few;
+      paths_differ = paths_differ s.apps h.are.differ;
+      each = each;
+      asks_go_on = asks_go_on s.apps s.names good h.noted;
+      heads = heads_are (described s.apps) few each;
+    }
 
 pub descriptions_are_whole : DescriptionsAreWhole
 descriptions_are_whole lines apps d =
     let h = follow_held lines nothing_read d.state nothing_held d.lines_are in
-    subst AreWholeApps (sym d.apps_are) (whole d.state h d.names_are (complete_filled d.state.apps h.are d.complete))
+    let wholes = are_whole lines d.state (describes_passed lines apps d) (describes_good lines apps d) in
+    subst AreWholeApps (sym d.apps_are) (whole d.state h d.names_are wholes (complete_filled d.state.apps h.are d.complete))
