@@ -73,8 +73,7 @@ module _ (apps : List AppData) (names : List Named) (good : All (IsGood apps) na
     by_test : (b : Bool) → list_any (fits word) apps ≡ b → list_any (fits word) apps ≡ true
     by_test true e = e
     by_test false e =
-        absurd (all_there (IsGood apps) names h.place h.named h.is good refusal.UnknownName
-        (
+        absurd (all_there (IsGood apps) names h.place h.named h.is good refusal.UnknownName (
           a,
           l,
           is_at apps names good i j a l at is h.named h.app h.looper,

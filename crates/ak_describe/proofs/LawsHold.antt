@@ -1,5 +1,5 @@
 -- The laws of descriptions.
-use Rattle.std.proofs.Common.{◌≡◌, ◌⊎◌, ℕ, Bool, true, false, List, [], ◌∷◌, Option, Some, None, Result, Ok, Err, refl, sym, ap, ap₂, subst, ◌∙◌, inl, inr, arith}
+use Rattle.std.proofs.Common.{◌≡◌, ◌⊎◌, ℕ, Bool, true, false, if◌then◌else◌, List, [], ◌∷◌, Option, Some, None, Result, Ok, Err, refl, sym, ap, ap₂, subst, ◌∙◌, inl, inr, arith}
 use Rattle.std.proofs.lemmas.Bool.{cond-true, cond-false, false_from_ne_true}
 use Rattle.ak_base.specs.declared.ending.RefusalKind.{RefusalKind}
 use Rattle.ak_base.specs.declared.ending.RefusalKind.TheVariants as refusal
@@ -8,7 +8,7 @@ use Rattle.ak_describe.specs.declared.described.AppText.{AppText}
 use Rattle.ak_describe.specs.Described.{described}
 use Rattle.ak_describe.specs.Describes.{Adds, Follow, Describes, IsUnfinished, IsSecondPassFault, FirstFault}
 use Rattle.ak_describe.specs.Description.{checked, description}
-use Rattle.ak_describe.specs.Laws.{DescribedIsRead, FirstFaultIsTold, OneOfBoth, NotBoth, OneDescription, OneFirstFault}
+use Rattle.ak_describe.specs.Laws.{DescribedIsRead, FirstFaultIsTold, IsPassed, OneOfBoth, NotBoth, OneDescription, OneFirstFault}
 use Rattle.ak_describe.specs.Parts.{AppData}
 use Rattle.ak_describe.specs.Pass.{State, Refusal, nothing_read, then_read, or_refused, last_item, may_open_app, after_lines, number_behind, unfinished_at, unfinished, first_pass}
 use Rattle.ak_describe.specs.Says.{IsComplete}
@@ -48,6 +48,23 @@ open_some : (apps : List AppData) (lines : List Line) (last : Line) → ¬ (IsCo
 open_some apps lines last h is =
     cond-false (may_open_app apps) None (unfinished_at (last_item lines)) (false_from_ne_true (may_open_app apps) (λ t. h ((complete_is apps).0 t))) ∙ ap unfinished_at is
 
+closed_by : (closed : Bool) (o : Option Line) → (if closed then None else unfinished_at o) ≡ None → (closed ≡ true) ⊎ (o ≡ None)
+closed_by true o e = inl refl
+closed_by false None e = inr refl
+closed_by false (Some line) e = absurd cc
+
+-- where nothing is wrong with the lines and their end, it is so by the grammar
+pub passed_is : (lines : List Line) (s : State) → after_lines nothing_read lines ≡ Ok s → unfinished s.apps lines ≡ None → IsPassed lines
+passed_is lines s e none =
+    let f : Follow nothing_read lines s = read_follow lines nothing_read s nothing_fits e in
+    record { state = s; lines_are = f; complete = by_end f (closed_by (may_open_app s.apps) (last_item lines) none) }
+  where
+    by_end : Follow nothing_read lines s → (may_open_app s.apps ≡ true) ⊎ (last_item lines ≡ None) → IsComplete s.apps
+    by_end f (inl closed) = (complete_is s.apps).0 closed
+    by_end f (inr bare) =
+        let same : nothing_read ≡ s = subst (λ (ls : List Line). Follow nothing_read ls s) (last_none lines bare) f in
+        inl (sym (ap (λ (x : State). x.apps) same))
+
 -- ---- the first pass
 passed : (lines : List Line) (s : State) → after_lines nothing_read lines ≡ Ok s → unfinished s.apps lines ≡ None → first_pass lines ≡ Ok s
 unfolding first_pass
@@ -59,7 +76,7 @@ unfolding first_pass
 left_open lines s r e some =
     ap (λ (x : Result State Refusal). then_read x (λ (y : State). or_refused (unfinished y.apps lines) y)) e ∙ ap (λ (o : Option Refusal). or_refused o s) some
 
-failed : (lines : List Line) (r : Refusal) → after_lines nothing_read lines ≡ Err r → first_pass lines ≡ Err r
+pub failed : (lines : List Line) (r : Refusal) → after_lines nothing_read lines ≡ Err r → first_pass lines ≡ Err r
 unfolding first_pass
 failed lines r e = ap (λ (x : Result State Refusal). then_read x (λ (y : State). or_refused (unfinished y.apps lines) y)) e
 
@@ -72,7 +89,7 @@ refused_second : (lines : List Line) (s : State) (r : Refusal) → first_pass li
 unfolding description
 refused_second lines s r e some = ap (λ (x : Result State Refusal). then_read x checked) e ∙ ap (λ (o : Option Refusal). or_refused o (described s.apps)) some
 
-refused_first : (lines : List Line) (r : Refusal) → first_pass lines ≡ Err r → description lines ≡ Err r
+pub refused_first : (lines : List Line) (r : Refusal) → first_pass lines ≡ Err r → description lines ≡ Err r
 unfolding description
 refused_first lines r e = ap (λ (x : Result State Refusal). then_read x checked) e
 

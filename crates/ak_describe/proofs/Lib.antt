@@ -30,6 +30,7 @@ pub mod PartsKept
 pub mod Passing
 pub mod Placed
 pub mod Places
+pub mod Prefixes
 pub mod Reading
 pub mod RowLines
 pub mod Searching

@@ -7,7 +7,7 @@ use Rattle.ak_message.specs.declared.message.Value.{Value}
 use Rattle.ak_message.specs.Message.{ValueData}
 use Rattle.ak_message.specs.Seen.{value_of}
 use Rattle.ak_describe.specs.declared.described.AppText.{AppText}
-use Rattle.ak_describe.specs.declared.first.FirstPass.{FirstPass}
+use Rattle.ak_describe.specs.declared.first.LinesSoFar.{LinesSoFar}
 use Rattle.ak_describe.specs.declared.form.template.Building.{Building}
 use Rattle.ak_describe.specs.declared.parts.AppParts.{AppParts}
 use Rattle.ak_describe.specs.declared.parts.LooperParts.{LooperParts}
@@ -97,7 +97,7 @@ app_data a = record { path = a.path; signature = a.signature; mode = a.mode; loo
 abbrev pub apps_data : List AppParts → List AppData
 apps_data apps = map app_data apps
 
-abbrev pub state_of : FirstPass → State
+abbrev pub state_of : LinesSoFar → State
 state_of p = record { apps = apps_data p.apps.items; after = p.after; names = p.names.items }
 
 abbrev pub apps_seen : Vec AppText Global → List AppText

@@ -32,7 +32,7 @@ head_of a = record { path = a.path; signature = a.signature; mode = a.mode; loop
 abbrev pub heads_of : List AppText → List AppHead
 heads_of apps = map head_of apps
 
--- ---- the order of asks: who is asked is described behind the one that asks, so that asks go on, and never round
+-- ---- the order of asks: who is asked is described behind the one that asks
 -- a looper of that name is there, and stands behind this place
 pub record LooperIsBehind (names : List (List ℕ)) (place : ℕ) (name : List ℕ) : Type 0 where
   pub there : IsTrue (contains names name)

@@ -1,18 +1,18 @@
 //! The first pass: each line by itself and with the lines before it.
 
-ghost use Rattle.std.specs.Prelude.{◌≡◌, option_map, OnOk, OnErr};
-ghost use Rattle.ak_describe.specs.Answers.{Answers, Leaves, Reaches, refused};
+ghost use Rattle.std.specs.Prelude.{◌≡◌, ◌<◌, option_map, OnOk, OnErr, vec_len, vec_capacity};
+ghost use Rattle.ak_describe.specs.Answers.{Leaves, Reaches};
 ghost use Rattle.ak_describe.specs.Parts.{has_path};
 ghost use Rattle.ak_describe.specs.Pass as reads;
 ghost use Rattle.ak_describe.specs.Seen.{app_data, apps_data, looper_seen, state_of};
 ghost use Rattle.ak_describe.specs.Words.{texts};
 
-use crate::fault::{DescribeFault, LineFault};
+use crate::fault::LineFault;
 use crate::form::heads::{app_form, looper_form};
 use crate::keyword::{After, Keyword, keyword_of};
 use crate::named::{Named, Need};
 use crate::parts::{AppParts, LooperParts, RowParts};
-use ak_base::{APP_LOOPER_LIMIT, NoMemory, RefusalKind};
+use ak_base::{APP_LOOPER_LIMIT, NoMemory};
 use ak_filter::FilterList;
 use ak_message::{Line, Word};
 use ak_roster::APP_LIMIT;
@@ -23,7 +23,7 @@ mod row;
 
 /// What the lines say so far. The last application is open.
 #[derive(Drop)]
-pub(crate) struct FirstPass {
+pub(crate) struct LinesSoFar {
     pub apps: Vec<AppParts>,
     /// What the last line lets follow.
     after: After,
@@ -31,60 +31,22 @@ pub(crate) struct FirstPass {
     pub names: Vec<Named>,
 }
 
-/// What all lines say.
-#[tactic(auto, unfolding(crate::specs::Pass::first_pass))]
-pub(crate) fn first_pass(alloc: Global, lines: &[Line]) -> Result<FirstPass, DescribeFault>
-    ensures { Answers state_of result (reads.first_pass lines.now) }
-{
-    let pass = after_lines(alloc, lines)?;
-    match unfinished(&pass.apps, lines) {
-        Some(fault) => Err(fault),
-        None => Ok(pass),
-    }
-}
-
-// What the lines say, one after another.
-fn after_lines(alloc: Global, lines: &[Line]) -> Result<FirstPass, DescribeFault>
-    ensures { Answers state_of result (reads.after_lines reads.nothing_read lines.now) }
-{
-    let mut pass = FirstPass::new(alloc);
-    for line in lines {
-        if let Err(fault) = pass.read_line(alloc, line) {
-            return Err(fault.at(line.number));
-        }
-    }
-    Ok(pass)
-}
-
-// The lines end with an application that has no looper.
-fn unfinished(apps: &[AppParts], lines: &[Line]) -> Option<DescribeFault>
-    ensures { result ≡ option_map refused (reads.unfinished (apps_data apps.now) lines.now) }
-{
-    if may_open_app(apps) {
-        return None;
-    }
-    let last = lines.last()?;
-    Some(DescribeFault::Refused {
-        line: last.number.saturating_add(1),
-        kind: RefusalKind::Unfinished,
-    })
-}
-
-impl FirstPass {
-    fn new(alloc: Global) -> FirstPass
+impl LinesSoFar {
+    pub(crate) fn new(alloc: Global) -> LinesSoFar
         ensures { state_of result ≡ reads.nothing_read }
     {
-        FirstPass {
+        LinesSoFar {
             apps: Vec::new(alloc),
             after: After::Plain,
             names: Vec::new(alloc),
         }
     }
 
-    // Reads a line, of which the first word says what it is.
+    /// Reads a line, of which the first word says what it is.
     #[tactic(auto, unfolding(crate::specs::Pass::read_line))]
-    fn read_line(&mut self, alloc: Global, line: &Line) -> Result<(), LineFault>
-        ensures { Reaches result (state_of self.new) (reads.read_line (state_of self.old) line.now) }
+    pub(crate) fn read_line(&mut self, alloc: Global, line: &Line) -> Result<(), LineFault>
+        ensures read { Reaches result (state_of self.new) (reads.read_line (state_of self.old) line.now) }
+        ensures err { OnErr result (state_of self.new ≡ state_of self.old) }
     {
         let Some((first, words)) = line.words.as_slice().split_first() else {
             return Err(LineFault::UnknownLine);
@@ -95,8 +57,10 @@ impl FirstPass {
         if !self.may_stand(keyword) {
             return Err(LineFault::UnknownLine);
         }
+        // What a line adds is not taken back, so the room for its name comes first.
+        reserve_name(&mut self.names)?;
         let need = carry(alloc, &mut self.apps, keyword, words)?;
-        add_name(&mut self.names, &self.apps, line.number, need)?;
+        add_name(&mut self.names, &self.apps, line.number, need);
         self.after = keyword.after();
         Ok(())
     }
@@ -130,8 +94,8 @@ impl FirstPass {
 }
 
 // ---- what is open
-// An application has a looper before the next one comes.
-fn may_open_app(apps: &[AppParts]) -> bool
+/// An application has a looper before the next one comes.
+pub(crate) fn may_open_app(apps: &[AppParts]) -> bool
     ensures { result ≡ reads.may_open_app (apps_data apps.now) }
 {
     match apps.last() {
@@ -236,19 +200,23 @@ fn in_last_app(
     app.in_last_looper(alloc, keyword, words)
 }
 
+// Room for one name more.
+fn reserve_name(names: &mut Vec<Named>) -> Result<(), NoMemory>
+    ensures names { names.new.items ≡ names.old.items }
+    ensures room { OnOk result (vec_len names.new < vec_capacity names.new) }
+{
+    names.reserve(1)?;
+    Ok(())
+}
+
 // Keeps the name of a line of the handler that is open, if there is one.
-fn add_name(
-    names: &mut Vec<Named>,
-    apps: &[AppParts],
-    line: u32,
-    need: Option<Need>,
-) -> Result<(), NoMemory>
-    ensures { OnOk result (names.new.items ≡ reads.with_need names.old.items (apps_data apps.now) line need) }
+fn add_name(names: &mut Vec<Named>, apps: &[AppParts], line: u32, need: Option<Need>)
+    requires { vec_len names.old < vec_capacity names.old }
+    ensures { names.new.items ≡ reads.with_need names.old.items (apps_data apps.now) line need }
 {
     if let Some(need) = need {
-        names.push(new_name(apps, line, need))?;
+        names.push_reserved(new_name(apps, line, need));
     }
-    Ok(())
 }
 
 // A name in a line of the handler that is open.

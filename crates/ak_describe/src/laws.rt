@@ -18,6 +18,14 @@ pub fn described_or_faulty()
     ensures one_fault { law.OneFirstFault }
 {}
 
+/// Lines may be read as they come: the first pass goes on by one line, a fault that it finds is the first one
+/// whichever lines come behind, and what all lines describe is what both passes make of them.
+pub fn passes_make_descriptions()
+    ensures line_by_line { law.GoesLineByLine }
+    ensures faults_stay { law.FaultsStay }
+    ensures both { law.BothMakeIt }
+{}
+
 /// Each name that lines give to be found by others stands in a handler that they give.
 pub fn names_have_places()
     ensures { law.NamesHavePlaces }
@@ -26,7 +34,7 @@ pub fn names_have_places()
 /// What lines describe is whole: at most 16 applications, whose paths differ, with 1 to 8 loopers each, whose
 /// names differ; the first of them keeps 2 messages or more; each looper is a plan, each one that an action
 /// names is there, and whom a looper asks is described behind it. So a roster and the loopers' desks take it as
-/// it is, and asks never go round.
+/// it is.
 pub fn descriptions_are_whole()
     ensures { DescriptionsAreWhole }
 {}

@@ -2,14 +2,16 @@
 //! its loopers, or the first line with a fault, and the first of its faults. A fault is what may not stand
 //! there, a value that is none, a name given again, or a limit. Where no line has one of these, names are
 //! looked up. Each has to be there, handlers lead back to none, and an ask goes to what is described later.
-//! Nothing here waits, and nothing is shared.
+//! `FirstPass` makes the two passes one after the other, over lines as they come. Nothing here waits, and
+//! nothing is shared.
 #![tactic(auto)]
 
-ghost use Rattle.std.specs.Prelude.{IfOk, IfErr};
-ghost use Rattle.ak_describe.specs.Answers.{Answers};
+ghost use Rattle.std.specs.Prelude.{◌≡◌, IfOk, IfErr};
+ghost use Rattle.ak_describe.specs.Answers.{Answers, IsTold};
 ghost use Rattle.ak_describe.specs.Describes.{Describes};
 ghost use Rattle.ak_describe.specs.Description.{description};
 ghost use Rattle.ak_describe.specs.Laws.{IsFirstFault};
+ghost use Rattle.ak_describe.specs.Read.{lines_read};
 ghost use Rattle.ak_describe.specs.Seen.{apps_seen};
 
 mod described;
@@ -20,6 +22,8 @@ mod keyword;
 mod laws;
 mod named;
 mod parts;
+mod pass;
+mod past;
 mod second;
 mod words;
 
@@ -30,7 +34,9 @@ pub use described::AppText;
 pub use fault::DescribeFault;
 pub use laws::{
     described_or_faulty, descriptions_are_read, descriptions_are_whole, names_have_places,
+    passes_make_descriptions,
 };
+pub use pass::FirstPass;
 use std::alloc::Global;
 
 /// The applications that these lines describe, in order, each with the plans of its loopers. The lines are
@@ -39,15 +45,26 @@ use std::alloc::Global;
 /// `UnknownLine`, `BadValue`, `NameInUse` and `Limit`. Where the last application has no looper then, it is
 /// `Unfinished`, at the number behind the last line. The second pass goes name by name, in the order of lines:
 /// `UnknownName`, `ChainLoop` or `AskOrder`. Answers `NoMemory` where memory ran out.
-#[tactic(auto, unfolding(crate::specs::Description::description))]
 pub fn read_description(alloc: Global, lines: &[Line]) -> Result<Vec<AppText>, DescribeFault>
     ensures answer { Answers apps_seen result (description lines.now) }
     ensures described { IfOk result (λ apps. Describes lines.now apps.items) }
     ensures refused { IfErr result (IsFirstFault lines.now) }
 {
-    let pass = first::first_pass(alloc, lines)?;
-    if let Some(fault) = second::second_fault(&pass.apps, &pass.names) {
+    let pass = read_lines(alloc, lines)?;
+    if let Some(fault) = pass.end_fault() {
         return Err(fault);
     }
-    Ok(described::described(alloc, pass.apps)?)
+    pass.second_pass(alloc)
+}
+
+// The first pass over all of them.
+fn read_lines(alloc: Global, lines: &[Line]) -> Result<FirstPass, DescribeFault>
+    ensures read { IfOk result (λ pass. pass ≡ lines.now) }
+    ensures refused { IfErr result (λ fault. IsTold fault (lines_read lines.now)) }
+{
+    let mut pass = FirstPass::new(alloc);
+    for line in lines {
+        pass.read_line(alloc, line)?;
+    }
+    Ok(pass)
 }

@@ -1,0 +1,7 @@
+-- Before the first line nothing is read.
+use Rattle.ak_describe.specs.Seen.{state_of}
+use Rattle.ak_describe.proofs.Prefixes.{none_are_read}
+use Rattle.ak_describe.proofs.pass.FirstPass.new.Goals as goal
+
+pub invariant_of-result : goal.invariant_of-result
+invariant_of-result c = none_are_read c.nothing.result (state_of c.new.result) c.nothing.ensures c.new.ensures
