@@ -6,6 +6,8 @@ use ak_base::{NoMemory, RefusalKind};
 use ak_filter::FilterFault;
 use ak_value::ElementFault;
 use std::alloc::AllocFailed;
+use std::error::Error;
+use std::fmt;
 
 /// Why lines describe no applications.
 #[derive(Clone, Copy, Debug, PartialEq, Eq)]
@@ -14,6 +16,39 @@ pub enum DescribeFault {
     Refused { line: u32, kind: RefusalKind },
     /// Memory ran out.
     NoMemory,
+}
+
+impl fmt::Display for DescribeFault {
+    fn fmt<W: fmt::Write>(&self, f: &mut fmt::Formatter<W>) -> fmt::Result {
+        match self {
+            DescribeFault::Refused { line, kind } => {
+                let text = text_of(*kind);
+                write!(f, "line {line}: {text}")
+            }
+            DescribeFault::NoMemory => f.write_str("no memory"),
+        }
+    }
+}
+
+impl Error for DescribeFault {}
+
+// What is wrong with a line, in plain words.
+fn text_of(kind: RefusalKind) -> &'static str {
+    match kind {
+        RefusalKind::UnknownLine => "no such line may stand here",
+        RefusalKind::BadValue => "the words are not of the line's form",
+        RefusalKind::NameInUse => "the name was given before",
+        RefusalKind::Limit => "a limit is passed",
+        RefusalKind::Unfinished => "the application before it has no looper",
+        RefusalKind::UnknownName => "who is named is not there",
+        RefusalKind::ChainLoop => "the next handlers lead back to the handler",
+        RefusalKind::AskOrder => "who is asked is not described later",
+        RefusalKind::InputTooLong
+        | RefusalKind::NotUtf8
+        | RefusalKind::BadWord
+        | RefusalKind::BadHey(_)
+        | RefusalKind::NotYet => "it is no line of a description",
+    }
 }
 
 impl From<NoMemory> for DescribeFault {
