@@ -3,8 +3,8 @@
 use crate::compare::same;
 use ak_base::{Code, RefusalKind, Text};
 use ak_describe::{
-    AppText, DescribeFault, described_or_faulty, descriptions_are_read, names_have_places,
-    read_description,
+    AppText, DescribeFault, FirstPass, described_or_faulty, descriptions_are_read,
+    names_have_places, passes_make_descriptions, read_description,
 };
 use ak_message::{AtRef, Message, Value, split_lines};
 use ak_value::Elements;
@@ -113,6 +113,56 @@ fn first_refusal(alloc: Global) -> Result<Option<Other>, Fail> {
         }
     }
     Ok(None)
+}
+
+// How many of the lines are refused, at how many of them the lines so far may end, and how many applications the
+// others describe.
+type Counts = (u32, u32, usize);
+
+const SOME_REFUSED: &str = "app /a application/a single
+looper
+looper l
+looper l
+property P LONG
+";
+
+// Reads them as they come, and leaves out each that is refused.
+fn ends(alloc: Global, input: &str) -> Result<Counts, Fail> {
+    let input = split_lines(alloc, input.as_bytes())?;
+    let mut pass = FirstPass::new(alloc);
+    let mut refused: u32 = 0;
+    let mut ends: u32 = 0;
+    for line in input.lines.as_slice() {
+        if pass.read_line(alloc, line).is_err() {
+            refused = refused.saturating_add(1);
+        }
+        if pass.end_fault().is_none() {
+            ends = ends.saturating_add(1);
+        }
+    }
+    match pass.end_fault() {
+        Some(_) => Err("unfinished".into()),
+        None => Ok((refused, ends, pass.second_pass(alloc)?.len())),
+    }
+}
+
+#[test]
+fn lines_are_read_as_they_come(rt: HostRuntime) -> Result<(), Fail> {
+    let alloc = rt.alloc();
+    passes_make_descriptions();
+    same(
+        &rt,
+        "all lines are taken",
+        ends(alloc, NAMED_LINES)?,
+        (0, 8, 1),
+    );
+    same(
+        &rt,
+        "a refused line changes nothing",
+        ends(alloc, SOME_REFUSED)?,
+        (2, 3, 1),
+    );
+    Ok(())
 }
 
 #[test]
