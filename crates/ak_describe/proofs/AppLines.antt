@@ -19,11 +19,12 @@ use Rattle.ak_describe.specs.Forms.{app_form, capacity_at, capacity_behind, capa
 use Rattle.ak_describe.specs.Parts.{LooperData, AppData, has_path, looper_named, opened}
 use Rattle.ak_describe.specs.Pass.{app_line, carry, carry_in_looper, in_last_looper, judged, last_item, least_capacity, looper_line, loopers_in, new_app, new_looper, on_last, open_looper_place, rows_in}
 use Rattle.ak_describe.specs.Words.{behind, ends, first_of, name_at, number_within}
+use Rattle.ak_describe.proofs.Ends.{get_set_other}
 use Rattle.ak_describe.proofs.Fits.{AppFits, IsNoNext, LooperFits, RowFits}
 use Rattle.ak_describe.proofs.Following.{next_at, next_in}
 use Rattle.ak_describe.proofs.LooperLines.{looper_left, name_at_is_word, new_row_fits}
 use Rattle.ak_describe.proofs.Outcomes.{allowed, bound, changed, mapped, not_bad, same_ok, same_some, went, where_is}
-use Rattle.ak_describe.proofs.Places.{all_there, same_push, same_set, set_here, set_there}
+use Rattle.ak_describe.proofs.Places.{all_there, same_push, same_set, set_here}
 use Rattle.ak_describe.proofs.RowLines.{IsOther}
 
 -- the handler that is preferred
@@ -68,7 +69,7 @@ looper_pref ls i l s need at from x name is =
     (λ (h : l.preferred ≡ Some name). inl (ap (λ n. pref_in (slice_get ls n)) e ∙ ap pref_in at ∙ h))
     (λ (h : need ≡ Some (needs.Handler name)). inr (e, h))
     (from name (sym (ap pref_in (set_here ls i l s at)) ∙ sym (ap (λ n. pref_in (slice_get (set ls i s) n)) e) ∙ is)))
-    (λ (ne : x ≢ i). inl (sym (ap pref_in (set_there ls i x s ne)) ∙ is))
+    (λ (ne : x ≢ i). inl (sym (ap pref_in (get_set_other ls i x s ne)) ∙ is))
     (cases_eq x i)
 
 abbrev with_loopers : AppData → List LooperData × Option Need → AppData × Option Need
@@ -206,7 +207,7 @@ app_pref apps i a s need at from k x name is =
     (λ (h : pref_in (slice_get a.loopers x) ≡ Some name). inl (ap (λ n. pref_at apps n x) e ∙ ap (λ o. pref_in (slice_get (loopers_in o) x)) at ∙ h))
     (λ (h : (x ≡ length s.loopers - 1) × (need ≡ Some (needs.Handler name))). inr (e, h.0, h.1))
     (from x name (sym (ap (λ o. pref_in (slice_get (loopers_in o) x)) (set_here apps i a s at)) ∙ sym (ap (λ n. pref_at (set apps i s) n x) e) ∙ is)))
-    (λ (ne : k ≢ i). inl (sym (ap (λ o. pref_in (slice_get (loopers_in o) x)) (set_there apps i k s ne)) ∙ is))
+    (λ (ne : k ≢ i). inl (sym (ap (λ o. pref_in (slice_get (loopers_in o) x)) (get_set_other apps i k s ne)) ∙ is))
     (cases_eq k i)
 
 -- the last one of a list is the one that is set there

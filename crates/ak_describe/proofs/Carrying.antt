@@ -10,7 +10,7 @@ use Rattle.ak_filter.specs.declared.filter.Filter.{Filter}
 use Rattle.ak_message.specs.declared.kind.Kind.{Kind}
 use Rattle.ak_message.specs.Kind.{is_same_kind}
 use Rattle.ak_message.specs.Message.{ValueData, kind_of}
-use Rattle.ak_base.specs.Option.{where_true, ◌>>=◌}
+use Rattle.ak_base.proofs.Surface.{bind_some}
 use Rattle.ak_action.specs.declared.action.Action.{Action}
 use Rattle.ak_action.specs.declared.action.Action.TheVariants as action
 use Rattle.ak_action.specs.declared.action.Reaction.{Reaction}
@@ -38,6 +38,7 @@ use Rattle.ak_describe.specs.Words.{first_of, ends, only_name, only_code, coded}
 use Rattle.ak_describe.proofs.grammar.Properties.{value_is_read}
 use Rattle.ak_describe.proofs.grammar.Values.{Holds, IsFine, read_fine}
 use Rattle.ak_describe.proofs.Ends.{last_there, changed_is}
+use Rattle.ak_describe.proofs.Outcomes.{where_is}
 use Rattle.ak_describe.proofs.Judging.{Judged, is_twice, is_over, is_done, over, placed, judged_over, judged_is, never, decides_room, last_over, then_over, put_looper, put_row, app_carried, judged_looper, app_row_carried, judged_row}
 use Rattle.ak_describe.proofs.Searching.{any_decides, find_decides, position_decides}
 use Rattle.ak_describe.proofs.Standing.{PropertyFits, RowFits, StateFits, opened_parts, open_row_is, fits_at, is_open_after}
@@ -301,14 +302,6 @@ module _ (s : State) (a : AppData) (l : LooperData) (is_app : last_item s.apps �
           (sym same_properties) (action_by (read row.properties))
 
 -- ---- what is read of an element is of the property's kind
-bind_some : {A B : Type 0} (o : Option A) (f : A → Option B) (y : B) → (o >>= f) ≡ Some y → (x : A) × (o ≡ Some x) × (f x ≡ Some y)
-bind_some None f y e = absurd cc
-bind_some (Some x) f y e = (x, refl, e)
-
-where_some : {A : Type 0} (b : Bool) (x y : A) → where_true b x ≡ Some y → (b ≡ true) × (x ≡ y)
-where_some true x y e = (refl, cc)
-where_some false x y e = absurd cc
-
 abbrev second_of : {A B : Type 0} → Option (A × B) → Option B
 second_of None = None
 second_of (Some p) = Some p.1
@@ -330,7 +323,7 @@ kind_of_element kind words x e =
     let word = bind_some (first_of words) _ (Some x) e in
     let value = bind_some (value_of_kind kind word.0.0) _ (Some x) word.2 in
     let name = bind_some (text_behind word.0.1 (codes "name")) _ (Some x) value.2 in
-    let kept = where_some (ends name.0.1) (both name.0.0 value.0) (Some x) name.2 in
+    let kept = where_is (ends name.0.1) (both name.0.0 value.0) (Some x) name.2 in
     kind_of_read kind word.0.0 value.0 x.1 value.1 (both_some name.0.0 value.0 x kept.1)
 
 -- ---- each line

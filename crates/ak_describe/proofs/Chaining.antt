@@ -7,11 +7,7 @@ use Rattle.std.proofs.lemmas.List.Quantifiers.{position-Some}
 use Rattle.std.proofs.lemmas.Option.{slice_get_past, slice_get_within}
 use Rattle.ak_action.specs.declared.plan.PlanRow.{PlanRow}
 use Rattle.ak_action.specs.Plan.{place_or_looper, next_place, place_after, chains_end_below, chains_end}
-use Rattle.ak_base.proofs.Surface.{few_below}
-
-none_is : {X : Type 0} (o : Option X) → is_none o ≡ true → o ≡ None
-none_is None e = refl
-none_is (Some x) e = cc
+use Rattle.ak_base.proofs.Surface.{few_below, none_is}
 
 is_none_of : {X : Type 0} (o : Option X) → o ≡ None → is_none o ≡ true
 is_none_of o e = ap is_none e

@@ -9,6 +9,7 @@ use Rattle.ak_base.specs.declared.ending.RefusalKind.TheVariants as refusal
 use Rattle.ak_base.specs.Word.{is_word}
 use Rattle.ak_filter.specs.declared.filter.Filter.{Filter}
 use Rattle.ak_action.proofs.Surface.{found_any}
+use Rattle.ak_base.proofs.Surface.{is_some-position}
 use Rattle.ak_base.specs.Option.{where_true, ◌>>=◌}
 use Rattle.ak_action.specs.declared.plan.PlanRow.{PlanRow}
 use Rattle.ak_action.specs.Plan.{begin_with_looper, names_are_words, names_differ, place_named}
@@ -25,7 +26,7 @@ use Rattle.ak_describe.specs.Words.{ends, first_of, name_at, name_of, only_name}
 use Rattle.ak_describe.proofs.Fits.{IsNoNext, LooperFits, RowFits}
 use Rattle.ak_describe.proofs.Following.{next_in}
 use Rattle.ak_describe.proofs.Outcomes.{allowed, bound, changed, not_bad, same_ok, same_some, went, where_is}
-use Rattle.ak_describe.proofs.Places.{all_there, is_some-position, same_push, same_set}
+use Rattle.ak_describe.proofs.Places.{all_there, same_push, same_set}
 use Rattle.ak_describe.proofs.RowLines.{IsOther, no_next_handler, row_left}
 
 abbrev pub looper_nexts : LooperData → ℕ → Option (List ℕ)

@@ -12,11 +12,12 @@ use Rattle.ak_describe.specs.Parts.{RowData, LooperData, AppData}
 use Rattle.ak_describe.specs.Pass.{carry, carry_in_looper, carry_in_row, follows, has_no_next, in_last_looper, is_before_handlers, lacks_next, last_item, loopers_in, may_follow, on_last, open_looper, open_looper_place, open_row_place, rows_in}
 use Rattle.ak_describe.specs.Words.{only_name}
 use Rattle.ak_describe.proofs.AppLines.{last_set, pref_at, pref_in, set_loopers_fit}
+use Rattle.ak_describe.proofs.Ends.{get_set_other}
 use Rattle.ak_describe.proofs.Fits.{AppFits, LooperFits, RowFits}
 use Rattle.ak_describe.proofs.Following.{next_at, next_in}
 use Rattle.ak_describe.proofs.LooperLines.{set_fits}
 use Rattle.ak_describe.proofs.Outcomes.{changed, not_bad, same_ok, went}
-use Rattle.ak_describe.proofs.Places.{all_there, same_set, set_here, set_there}
+use Rattle.ak_describe.proofs.Places.{all_there, same_set, set_here}
 
 -- ---- what is open, and what is there then
 pub record Opened (apps : List AppData) : Type 0 where
@@ -170,11 +171,11 @@ module _ (apps : List AppData) (o : Opened apps) where
         ap (λ p. next_in (slice_get (rows_in (slice_get (loopers_in p) x)) i)) (ap (slice_get (apps_then apps o name)) e ∙ app_here)
         ∙ in_app (apart e)
         ∙ sym (ap (λ p. next_in (slice_get (rows_in (slice_get (loopers_in p) x)) i)) (ap (slice_get apps) e ∙ o.app_is)))
-        (λ (ne : a ≢ (app_place apps)). ap (λ p. next_in (slice_get (rows_in (slice_get (loopers_in p) x)) i)) (set_there apps (app_place apps) a (app_then apps o name) ne))
+        (λ (ne : a ≢ (app_place apps)). ap (λ p. next_in (slice_get (rows_in (slice_get (loopers_in p) x)) i)) (get_set_other apps (app_place apps) a (app_then apps o name) ne))
         (cases_eq a (app_place apps))
       where
         in_looper : (i ≡ row_place → ⊥) → next_in (slice_get (looper_then apps o name).rows i) ≡ next_in (slice_get o.looper.rows i)
-        in_looper ne = ap next_in (set_there o.looper.rows row_place i (row_then apps o name) ne)
+        in_looper ne = ap next_in (get_set_other o.looper.rows row_place i (row_then apps o name) ne)
 
         in_app : (x ≡ looper_place → i ≡ row_place → ⊥) → next_in (slice_get (rows_in (slice_get (app_then apps o name).loopers x)) i) ≡ next_in (slice_get (rows_in (slice_get o.app.loopers x)) i)
         in_app other =
@@ -183,7 +184,7 @@ module _ (apps : List AppData) (o : Opened apps) where
             ap (λ p. next_in (slice_get (rows_in p) i)) (ap (slice_get (app_then apps o name).loopers) e ∙ looper_here)
             ∙ in_looper (other e)
             ∙ sym (ap (λ p. next_in (slice_get (rows_in p) i)) (ap (slice_get o.app.loopers) e ∙ o.looper_is)))
-            (λ (ne : x ≢ looper_place). ap (λ p. next_in (slice_get (rows_in p) i)) (set_there o.app.loopers looper_place x (looper_then apps o name) ne))
+            (λ (ne : x ≢ looper_place). ap (λ p. next_in (slice_get (rows_in p) i)) (get_set_other o.app.loopers looper_place x (looper_then apps o name) ne))
             (cases_eq x looper_place)
 
     -- the handler that is preferred stays

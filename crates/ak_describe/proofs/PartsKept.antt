@@ -20,12 +20,13 @@ use Rattle.ak_describe.specs.Parts.{RowData, LooperData, AppData}
 use Rattle.ak_describe.specs.Pass.{Refusal, State, after_lines, at_line, begun, carried, carry, first_pass, loopers_in, may_stand, new_name, nothing_read, open_looper_place, open_row_place, or_refused, read_line, read_words, rows_in, unfinished, with_need}
 use Rattle.ak_describe.specs.Words.{texts}
 use Rattle.ak_describe.proofs.AppLines.{apps_left, pref_at}
+use Rattle.ak_describe.proofs.Ends.{get_push}
 use Rattle.ak_describe.proofs.Fits.{AppFits, IsNoNext, LooperFits}
 use Rattle.ak_describe.proofs.Following.{Follows, RowsFit, next_at, rank}
 use Rattle.ak_describe.proofs.FollowingMore.{IsLast, IsOtherNeed, follows_next, follows_other, follows_same, same_place}
 use Rattle.ak_describe.proofs.NextLine.{Opened, app_place, app_place_then, apps_then, handler_open, last_rank, looper_place, looper_place_then, next_before, next_fits, next_here, next_read, next_there, pref_stays, row_place, row_place_then}
 use Rattle.ak_describe.proofs.Outcomes.{same_ok, went}
-use Rattle.ak_describe.proofs.Places.{all_there, push_here, push_there}
+use Rattle.ak_describe.proofs.Places.{all_there, push_there}
 use Rattle.ak_describe.proofs.RowLines.{IsOther}
 
 -- ---- a handler that is named in a line of a looper
@@ -101,7 +102,7 @@ follows_need apps names line (Some need) h f = follows_other apps names 0 (new_n
 named_now : (names : List Named) (apps : List AppData) (line : ℕ) (need : Option Need) (a x : ℕ) (name : List ℕ) → a ≡ length apps - 1 → x ≡ open_looper_place apps → need ≡ Some (needs.Handler name) → HasName (with_need names apps line need) a x name
 named_now names apps line None a x name app looper is = absurd cc
 named_now names apps line (Some need) a x name app looper is =
-    record { place = length names; named = new_name apps line need; is = push_here names (new_name apps line need); app = sym app; looper = sym looper; need = cc }
+    record { place = length names; named = new_name apps line need; is = get_push names (new_name apps line need); app = sym app; looper = sym looper; need = cc }
 
 other_fits : (s : State) (line : ℕ) (keyword : Keyword) (words : List (List ℕ)) (x : List AppData × Option Need) → IsOther keyword → carry s.apps keyword words ≡ Ok x → StateFits s
     → StateFits (record { apps = x.0; after = after_of keyword; names = with_need s.names x.0 line x.1 })

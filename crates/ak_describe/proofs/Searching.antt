@@ -1,27 +1,16 @@
 -- What a search in a list tells of what is in it.
-use Rattle.std.proofs.Common.{◌≡◌, ℕ, ◌+◌, ◌≤◌, Bool, true, false, ◌||◌, cond, Decides, Any, List, [], ◌∷◌, get_or, Option, Some, None, is_some, find, position, slice_get, refl, sym, ap, ◌∙◌, ⊎_elim}
-use Rattle.std.specs.List.{list_any, position_from}
+use Rattle.std.proofs.Common.{◌≡◌, ℕ, ◌≤◌, Bool, true, false, Decides, Any, List, [], ◌∷◌, get_or, Some, None, is_some, find, position, slice_get, sym, ap, ◌∙◌, ⊎_elim}
+use Rattle.std.specs.List.{list_any}
 use Rattle.std.proofs.lemmas.Bool.{cases_lt}
-use Rattle.std.proofs.lemmas.Iterator.Adapters.{position_from-zero}
 use Rattle.std.proofs.lemmas.List.Folds.{Any-from_list_any, list_any-from_Any}
 use Rattle.std.proofs.lemmas.List.Quantifiers.{position-Some}
 use Rattle.std.proofs.lemmas.Option.{slice_get-get_or, slice_get_within, get_or_from_slice_get}
-
-found_by : {X : Type 0} (b : Bool) (x : X) (o : Option X) → is_some (cond b (Some x) o) ≡ (b || is_some o)
-found_by true x o = refl
-found_by false x o = refl
+use Rattle.ak_action.proofs.Surface.{found_any}
+use Rattle.ak_base.proofs.Surface.{is_some-position}
 
 module _ {X : Type 0} (p : X → Bool) where
-  is_some-find : (xs : List X) → is_some (find p xs) ≡ list_any p xs
-  is_some-find [] = refl
-  is_some-find (x ∷ xs) = found_by (p x) x (find p xs) ∙ ap (λ (b : Bool). p x || b) (is_some-find xs)
-
-  is_some-position_from : (i : ℕ) (xs : List X) → is_some (position_from p i xs) ≡ list_any p xs
-  is_some-position_from i [] = refl
-  is_some-position_from i (x ∷ xs) = found_by (p x) i (position_from p (i + 1) xs) ∙ ap (λ (b : Bool). p x || b) (is_some-position_from (i + 1) xs)
-
-  is_some-position : (xs : List X) → is_some (position p xs) ≡ list_any p xs
-  is_some-position xs = ap is_some (position_from-zero p xs) ∙ is_some-position_from 0 xs
+  found_at : (xs : List X) → is_some (position p xs) ≡ list_any p xs
+  found_at xs = is_some-position p xs ∙ found_any p xs
 
   -- ---- the first one
   first_at_by : (xs : List X) (i : ℕ) (d : X) → position p xs ≡ Some i → (x : X) × (slice_get xs i ≡ Some x) × (p x ≡ true)
@@ -49,10 +38,10 @@ module _ {X : Type 0} (p : X → Bool) where
     )
 
     pub find_decides : (xs : List X) → Decides (is_some (find p xs)) (Any P xs)
-    find_decides xs = (λ e. (any_decides xs).0 (sym (is_some-find xs) ∙ e), λ a. is_some-find xs ∙ (any_decides xs).1 a)
+    find_decides xs = (λ e. (any_decides xs).0 (sym (found_any p xs) ∙ e), λ a. found_any p xs ∙ (any_decides xs).1 a)
 
     pub position_decides : (xs : List X) → Decides (is_some (position p xs)) (Any P xs)
-    position_decides xs = (λ e. (any_decides xs).0 (sym (is_some-position xs) ∙ e), λ a. is_some-position xs ∙ (any_decides xs).1 a)
+    position_decides xs = (λ e. (any_decides xs).0 (sym (found_at xs) ∙ e), λ a. found_at xs ∙ (any_decides xs).1 a)
 
   pub none_passes : (xs : List X) (j : ℕ) (x : X) → position p xs ≡ None → slice_get xs j ≡ Some x → p x ≡ true → ⊥
   none_passes xs j x none at passes =

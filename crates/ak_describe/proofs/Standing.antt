@@ -1,6 +1,7 @@
 -- What always holds of what is open, and where a line may stand.
 use Rattle.std.proofs.Common.{◌≡◌, ◌≢◌, ◌↔◌, ◌+◌, ◌<◌, ◌≤◌, ◌==◌, true, false, not, List, [], ◌∷◌, length, Option, Some, None, IfSome, is_none, refl, sym, ap, subst, ◌∙◌, inl, inr, ne_eqb, leb-true, leb-false, le-leb, arith}
 use Rattle.std.proofs.lemmas.Bool.{and_parts, and_from, not-true, not_from_false, lt-leb}
+use Rattle.ak_base.proofs.Surface.{none_is}
 use Rattle.ak_message.specs.declared.kind.Kind.TheVariants as k
 use Rattle.ak_action.specs.declared.action.Reaction.{Reaction}
 use Rattle.ak_describe.specs.declared.keyword.After.{After}
@@ -71,10 +72,6 @@ is_open_after None after h other = absurd (other h)
 is_open_after (Some l) after h other = (l, refl)
 
 -- ---- tests
-none_is : {X : Type 0} (o : Option X) → is_none o ≡ true → o ≡ None
-none_is None e = refl
-none_is (Some x) e = cc
-
 filled_is : {X : Type 0} (xs : List X) → not (length xs == 0) ≡ true → xs ≢ []
 filled_is [] e same = absurd cc
 filled_is (x ∷ xs) e same = absurd cc
