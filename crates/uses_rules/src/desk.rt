@@ -1,4 +1,4 @@
-//! Desks: want of memory at some place, and threads that share one.
+//! Desks: want of memory at some place, and threads that share one or take one along.
 
 ghost use Rattle.std.specs.Prelude.{◌≡◌, ◌<◌, ◌^◌, IsTrue, IfOk, IfSome};
 ghost use Rattle.ak_desk.specs.Desk.{opened, stamp_in};
@@ -11,6 +11,7 @@ use std::alloc::Global;
 use std::test::Fail;
 
 mod memory;
+mod moving;
 mod shared;
 
 // The looper of an application, whose first action makes a reply.

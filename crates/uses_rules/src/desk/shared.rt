@@ -12,7 +12,7 @@ use std::sync::Wait;
 use std::test::Fail;
 
 // Edits at that seat, which stays one of the lock and of its thread.
-fn edit_at<R: Wait>(
+pub(super) fn edit_at<R: Wait>(
     rt: &R,
     lock: &TurnLock<Desk>,
     seat: &mut Seat<Desk>,
