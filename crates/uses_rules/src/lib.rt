@@ -1,5 +1,6 @@
 //! Tests of rules by public calls alone, of what no row of a program over data can say: states and plans
-//! that no description gives, lists at their limits, want of memory at a desk, and threads that share one.
+//! that no description gives, what is made of those that one gives, lists at their limits, want of memory at a
+//! desk, and threads that share one.
 //! Nothing here is for use.
 #![tactic(auto)]
 
@@ -7,6 +8,8 @@
 mod actions;
 #[cfg(test)]
 mod compare;
+#[cfg(test)]
+mod described;
 #[cfg(test)]
 mod desk;
 #[cfg(test)]
