@@ -1,0 +1,9 @@
+pub mod Alone
+pub mod Carrying
+pub mod Ending
+pub mod Filling
+pub mod Gathering
+pub mod Numbered
+pub mod OneReply
+pub mod Opening
+pub mod Taking
