@@ -3,3 +3,4 @@ mod calls;
 mod doors;
 mod launches;
 mod shared;
+mod taking;

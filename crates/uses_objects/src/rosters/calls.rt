@@ -1,5 +1,5 @@
 //! The calls of a book whose doors lead to nothing.
-ghost use Rattle.std.specs.Prelude.{◌≡◌, ◌<◌, ◌^◌, All, length, [], IfOk};
+ghost use Rattle.std.specs.Prelude.{◌≡◌, ◌<◌, ◌^◌, ℕ, All, length, [], IfOk};
 ghost use Rattle.std.specs.Bool.{OnTrue};
 ghost use Rattle.ak_roster.specs.Answers.{IsWord};
 ghost use Rattle.ak_roster.specs.Heads.{IsHeads};
@@ -124,6 +124,7 @@ fn decide_and_launch(
     requires stamp { last_stamp roster.old.entries < 2 ^ 63 }
     ensures rest { IsAtRest roster.new }
     ensures fresh { All (λ l. l.given ≡ []) (state roster.old).loopers → All (λ l. l.given ≡ []) (state roster.new).loopers }
+    ensures mine { (thread : ℕ) → clock.old.thread.0 ≡ thread → All (λ e. e.plain.by.0 ≡ thread) roster.old.entries → All (λ e. e.plain.by.0 ≡ thread) roster.new.entries }
 {
     let decision = roster.decide(word, clock);
     let Decision::Starts { description, .. } = decision else {
@@ -145,6 +146,7 @@ pub fn launch(
     requires { IsAtRest roster.old }
     ensures rest { IsAtRest roster.new }
     ensures fresh { All (λ l. l.given ≡ []) (state roster.old).loopers → All (λ l. l.given ≡ []) (state roster.new).loopers }
+    ensures mine { (thread : ℕ) → clock.old.thread.0 ≡ thread → All (λ e. e.plain.by.0 ≡ thread) roster.old.entries → All (λ e. e.plain.by.0 ≡ thread) roster.new.entries }
 {
     let word = word_of(alloc, word)?;
     if is_launch_word(&word) && has_stamps(roster, clock) {

@@ -11,10 +11,11 @@ use std::test::Fail;
 
 const FIVE: [Row; 1] = [(b"/boot/demo", b"application/demo", Mode::Single, 5)];
 
-// A roster with an application of five loopers that was launched, and gave no door yet.
-fn five(alloc: Global) -> Result<Roster, Fail>
+// A roster with an application of five loopers that main launched, and that gave no door yet.
+pub(super) fn five(alloc: Global) -> Result<Roster, Fail>
     ensures rest { IfOk result (λ roster. IsAtRest roster) }
     ensures fresh { IfOk result (λ roster. All (λ l. l.given ≡ []) (state roster).loopers) }
+    ensures mine { IfOk result (λ roster. All (λ e. e.plain.by.0 ≡ 0) roster.entries) }
 {
     let mut roster = roster_of(alloc, &FIVE)?;
     let mut clock = clock_of(0);
