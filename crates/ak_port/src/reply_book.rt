@@ -1,8 +1,8 @@
-ghost use Rattle.std.specs.Prelude.{◌≡◌, ◌+◌, ◌*◌, ◌-◌, ◌<◌, ◌≤◌, ◌^◌, ◌↔◌, [], ◌∷◌, ◌++◌, length, IsNone, None, Some, IfOk, IfErr, IfNone, IfSome, IsSome, IsTrue, OnOk, OnErr, option_map, slice_get, unwrap_or, vec_len, vec_capacity, max};
+ghost use Rattle.std.specs.Prelude.{◌≡◌, ◌+◌, ◌*◌, ◌-◌, ◌<◌, ◌≤◌, ◌^◌, ◌↔◌, [], ◌∷◌, ◌++◌, length, All, IsNone, None, Some, IfOk, IfErr, IfNone, IfSome, IsSome, IsTrue, OnOk, OnErr, option_map, slice_get, unwrap_or, vec_len, vec_capacity, max};
 ghost use Rattle.ak_turn.specs.Entries.{last_stamp_of};
 ghost use Rattle.ak_flatten.specs.Limits.{flat_limit};
 ghost use Rattle.ak_port.specs.ReplyKept.{entry_seen, IsMoved, IsWithin};
-ghost use Rattle.ak_port.specs.Reply.{IsFlatText, IsLegal, FillsWith, IsFilled, IsSettled, none_text, open_stage, slots_after};
+ghost use Rattle.ak_port.specs.Reply.{HasFlatText, IsFlatText, IsLegal, FillsWith, IsFilled, IsSettled, none_text, open_stage, slots_after};
 
 use crate::reply_entry::{CancelAnswer, FillAnswer, ReplyEntry, ReplyEvent};
 use crate::reply_kept::{Kept, KeptEvent, Range};
@@ -218,6 +218,15 @@ impl ReplyBook {
             filled: 0,
             none,
         })
+    }
+
+    /// How many slots were opened. The list is a legal one, and each text in it is a flat text. Takes no memory.
+    pub fn slots(&self) -> u64
+        ensures count { result ≡ length (slots_after self.now) }
+        ensures legal { IsLegal self.now }
+        ensures texts { All (λ entry. HasFlatText entry.event) self.now }
+    {
+        self.slots.len() as u64
     }
 
     // Opens the next slot, and keeps the memory for all that may become of it.
