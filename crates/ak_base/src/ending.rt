@@ -1,3 +1,6 @@
+use std::error::Error;
+use std::fmt;
+
 /// How a run of the program ended. The exit status is 0 to 6 in the order of the variants.
 #[derive(Clone, Copy, Debug, PartialEq, Eq)]
 pub enum Ending {
@@ -47,3 +50,25 @@ pub enum RefusalKind {
     /// The program does not run such an input yet.
     NotYet,
 }
+
+impl fmt::Display for RefusalKind {
+    fn fmt<W: fmt::Write>(&self, f: &mut fmt::Formatter<W>) -> fmt::Result {
+        match self {
+            RefusalKind::InputTooLong => f.write_str("over 1,048,576 bytes"),
+            RefusalKind::NotUtf8 => f.write_str("not UTF-8"),
+            RefusalKind::BadWord => f.write_str("bad word"),
+            RefusalKind::UnknownLine => f.write_str("unknown line"),
+            RefusalKind::BadHey(column) => write!(f, "bad hey at column {column}"),
+            RefusalKind::BadValue => f.write_str("bad value"),
+            RefusalKind::NameInUse => f.write_str("name in use"),
+            RefusalKind::Limit => f.write_str("limit"),
+            RefusalKind::Unfinished => f.write_str("unfinished"),
+            RefusalKind::UnknownName => f.write_str("unknown name"),
+            RefusalKind::ChainLoop => f.write_str("chain loop"),
+            RefusalKind::AskOrder => f.write_str("ask order"),
+            RefusalKind::NotYet => f.write_str("not yet"),
+        }
+    }
+}
+
+impl Error for RefusalKind {}

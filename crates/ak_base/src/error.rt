@@ -1,6 +1,9 @@
 ghost use Rattle.std.specs.Prelude.{◌≡◌};
 ghost use Rattle.ak_base.specs.Error.{number_of, name_of};
 
+use std::error::Error;
+use std::fmt;
+
 /// The errors that are printed or put into a reply. Those that begin with B are named after BeOS, and
 /// those that begin with K are this project's own; all numbers are its own. (The Be Book, The Support Kit:
 /// error codes.)
@@ -105,3 +108,16 @@ impl KitError {
         }
     }
 }
+
+impl fmt::Display for KitError {
+    ghost use Rattle.std.specs.Prelude.{Some};
+    ghost use Rattle.ak_base.specs.Error.{name_of};
+
+    ghost output = { λ error. Some (name_of error) };
+
+    fn fmt<W: fmt::Write>(&self, f: &mut fmt::Formatter<W>) -> fmt::Result {
+        f.write_str(self.name())
+    }
+}
+
+impl Error for KitError {}

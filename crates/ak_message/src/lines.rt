@@ -28,6 +28,15 @@ pub struct LineFault {
     pub kind: RefusalKind,
 }
 
+impl fmt::Display for LineFault {
+    fn fmt<W: fmt::Write>(&self, f: &mut fmt::Formatter<W>) -> fmt::Result {
+        let LineFault { line, kind } = self;
+        write!(f, "line {line}: {kind}")
+    }
+}
+
+impl Error for LineFault {}
+
 /// The lines of an input that say something, up to the first that has no words.
 #[derive(Debug, Drop)]
 pub struct InputLines {
