@@ -13,7 +13,7 @@ use Rattle.ak_action.specs.declared.interp.Stage.TheVariants as stage
 use Rattle.ak_action.specs.declared.state.DeskState.{DeskState}
 use Rattle.ak_action.specs.Acts.{is_at, put}
 use Rattle.ak_action.specs.Doing.{Doing, says, replies, puts, sends, finds, stops, quits, doing_of, row_of}
-use Rattle.ak_action.specs.Interp.{InterpData, Nexted, nexted, failed, Carried, goes, wants, carried, then_go_on, go_on, actions_of, out_of_memory, past, with_stage}
+use Rattle.ak_action.specs.Interp.{InterpData, Nexted, nexted, failed, Carried, goes, wants, carried, then_go_on, go_on, actions_of, out_of_memory, past, with_stage, MayFail}
 use Rattle.ak_action.specs.Properties.{with_first_at}
 use Rattle.ak_action.specs.Steps.{carried_as, stepped}
 use Rattle.ak_action.proofs.Lending.{actions-kept}
@@ -120,6 +120,12 @@ module _ (acts : List Action) (i0 : InterpData) (s0 : DeskState) where
       let last : go_on (Some j.place) (a.0 ∷ drop (place + 1) acts) i s ≡ failed (out_of_memory i) s = rw here refl in
       let there_before : place ≤ j.place = omega (arith, where_it_is, h.at_place) in
       h.on (Some j.place) there_before ∙ ap (λ (list : List Action). go_on (Some j.place) list i s) a.2 ∙ last ∙ ap (λ (x : InterpData). failed x s) (sym e) ∙ ap (failed j) (sym same)
+
+  pub fails_there : (place : ℕ) (i : InterpData) (s : DeskState) (h : IsGoingOn place i s) → (j : InterpData) → j ≡ out_of_memory i → MayFail (slice_get (actions_of s i.token i.reaction) i.place) → MayFail (slice_get acts j.place)
+  fails_there place i s h j e fails =
+      let where_it_is : j.place ≡ i.place = ap (λ (x : InterpData). x.place) e in
+      let here : MayFail (slice_get acts i.place) = subst (λ (list : List Action). MayFail (slice_get list i.place)) h.actions fails in
+      subst (λ (n : ℕ). MayFail (slice_get acts n)) (sym where_it_is) here
 
   pub ends_here : (place : ℕ) (i : InterpData) (s : DeskState) (h : IsGoingOn place i s) → (j : InterpData) → length acts ≤ place → j ≡ with_stage stage.Ended i → go_on None (drop i0.place acts) i0 s0 ≡ nexted want.Done j s
   ends_here place i s h j le e =

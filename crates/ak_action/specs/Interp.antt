@@ -6,6 +6,7 @@ use Rattle.ak_flatten.specs.Laws.{Spells}
 use Rattle.ak_message.specs.Popped.{unpopped}
 use Rattle.ak_message.specs.Message.{MessageData}
 use Rattle.ak_action.specs.declared.action.Action.{Action}
+use Rattle.ak_action.specs.declared.action.Action.TheVariants as action
 use Rattle.ak_action.specs.declared.action.Reaction.{Reaction}
 use Rattle.ak_action.specs.declared.answer.Answer.{Answer}
 use Rattle.ak_action.specs.declared.answer.Answer.TheVariants as answer
@@ -143,6 +144,22 @@ next_at _ memory i s = nexted want.Done (with_stage stage.Ended i) s
 
 abbrev pub next_of : Option ℕ → InterpData → DeskState → Nexted
 next_of memory i s = next_at i.stage memory i s
+
+-- ---- where no memory may be found
+-- an action that makes or copies something
+abbrev pub TakesMemory : Action → Type 0
+TakesMemory (action.Reply _) = Unit {0}
+TakesMemory (action.Post _ _ _) = Unit {0}
+TakesMemory (action.Ask _ _ _) = Unit {0}
+TakesMemory (action.Set _ _) = Unit {0}
+TakesMemory (action.Add _ _) = ⊥
+TakesMemory action.Stop = ⊥
+TakesMemory action.Quit = ⊥
+
+-- there is an action, and it is such a one
+abbrev pub MayFail : Option Action → Type 0
+MayFail None = ⊥
+MayFail (Some a) = TakesMemory a
 
 -- ---- what an answer makes of it
 pub record Given : Type 0 where

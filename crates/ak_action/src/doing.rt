@@ -1,7 +1,8 @@
-ghost use Rattle.std.specs.Prelude.{◌≡◌, IfOk, is_some, option_map};
+ghost use Rattle.std.specs.Prelude.{◌≡◌, IfOk, is_some, option_map, OnErr};
 ghost use Rattle.ak_message.specs.Seen.{value_of};
 ghost use Rattle.ak_action.specs.Building.{first_given};
 ghost use Rattle.ak_action.specs.Doing.{doing_of, reply_of, row_of, sent_to, back_to, into_place, put_at, set_to, add_to, preferred_of};
+ghost use Rattle.ak_action.specs.Interp.{TakesMemory};
 ghost use Rattle.ak_action.specs.Row.{first_of};
 ghost use Rattle.ak_action.specs.DoingSeen.{doing_seen};
 
@@ -64,7 +65,8 @@ pub(crate) fn prepared(
     action: &Action,
 ) -> Result<Doing, NoMemory>
     requires { row_of state.now token ≡ row.now }
-    ensures { IfOk result (λ d. doing_seen d ≡ doing_of state.now token m.now replied action.now) }
+    ensures ok { IfOk result (λ d. doing_seen d ≡ doing_of state.now token m.now replied action.now) }
+    ensures memory { OnErr result (TakesMemory action.now) }
 {
     match action {
         Action::Reply { message } => reply(alloc, row, m, replied, message),

@@ -1,5 +1,5 @@
-ghost use Rattle.std.specs.Prelude.{◌≡◌, Some, None, IfOk, OnErr};
-ghost use Rattle.ak_action.specs.Interp.{started, next_of, give_of, nexted, failed, Given, MayGoOn, Answers, HasEnded};
+ghost use Rattle.std.specs.Prelude.{◌≡◌, Some, None, IfOk, OnErr, slice_get};
+ghost use Rattle.ak_action.specs.Interp.{started, next_of, give_of, nexted, failed, actions_of, MayFail, Given, MayGoOn, Answers, HasEnded};
 
 use crate::answer::{Acted, Answer, Want};
 use crate::doing::{Sending, preferred_of};
@@ -117,12 +117,14 @@ impl Interp {
 
     /// Carries out actions until one wants something from outside, which is answered; `Done` where none is
     /// left. Before a further call that want has to be answered. Where an action finds no memory it changes
-    /// nothing, its word is that, and no further action is carried out: `NoMemory` is answered.
+    /// nothing, its word is that, and no further action is carried out: `NoMemory` is answered. That comes of no
+    /// action but one that replies, sends or sets.
     #[tactic(auto, using(crate::proofs::Stages::stages))]
     pub fn next(&mut self, state: &mut DeskState) -> Result<Want, NoMemory>
         requires { MayGoOn self.old }
         ensures ok { IfOk result (λ want. next_of None self.old state.old ≡ nexted want self.new state.new) }
         ensures err { OnErr result (next_of (Some self.new.place) self.old state.old ≡ failed self.new state.new) }
+        ensures memory { OnErr result (MayFail (slice_get (actions_of state.old self.old.token self.old.reaction) self.new.place)) }
     {
         match mem::replace(&mut self.stage, Stage::Ready) {
             Stage::Found {

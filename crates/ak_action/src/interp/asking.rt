@@ -3,7 +3,7 @@ ghost use Rattle.ak_message.specs.Seen.{value_of};
 ghost use Rattle.ak_action.specs.Acts.{want_of, put};
 ghost use Rattle.ak_action.specs.Doing.{row_of};
 ghost use Rattle.ak_action.specs.DoingSeen.{doing_seen};
-ghost use Rattle.ak_action.specs.Interp.{nexted, failed, carried, go_on, actions_of, out_of_memory, past};
+ghost use Rattle.ak_action.specs.Interp.{nexted, failed, carried, go_on, actions_of, out_of_memory, past, MayFail};
 ghost use Rattle.ak_action.specs.Steps.{IsInAction, carried_as, stepped};
 ghost use Rattle.ak_action.specs.Limits.{action_limit};
 
@@ -24,6 +24,7 @@ impl Interp {
             ≡ nexted want self.new state.new) }
         ensures err { OnErr result (go_on (Some self.new.place) (drop self.old.place (actions_of state.old self.old.token self.old.reaction)) self.old state.old
             ≡ failed self.new state.new) }
+        ensures memory { OnErr result (MayFail (slice_get (actions_of state.old self.old.token self.old.reaction) self.new.place)) }
     {
         let count = actions_of(state, self.token, self.reaction).len();
         for _ in self.place..count {
@@ -43,6 +44,7 @@ impl Interp {
             stepped (slice_get (actions_of state.old self.old.token self.old.reaction) self.old.place) self.old state.old
             ≡ carried_as want self.new state.new) }
         ensures there { OnErr result (IsSome (slice_get (actions_of state.old self.old.token self.old.reaction) self.old.place)) }
+        ensures memory { OnErr result (MayFail (slice_get (actions_of state.old self.old.token self.old.reaction) self.old.place)) }
         ensures err { OnErr result (self.new ≡ out_of_memory self.old) }
         ensures state_stays { OnErr result (state.new ≡ state.old) }
     {
