@@ -6,4 +6,5 @@ pub mod Number
 pub mod Option
 pub mod Text
 pub mod Thread
+pub mod Trail
 pub mod Word

@@ -16,6 +16,7 @@ mod number;
 mod raw;
 mod text;
 mod thread;
+mod trail;
 mod word;
 
 pub use app_name::{is_path, is_signature, last_part};
@@ -31,4 +32,5 @@ pub use number::{one_int_text, print_int, print_uint, printed_ints_are_read, rea
 pub use raw::{RAW_LIMIT, Raw, RawFault};
 pub use text::{TEXT_LIMIT, Text, TextFault};
 pub use thread::{ThreadId, threads_are_named};
+pub use trail::Trail;
 pub use word::{WORD_LIMIT, is_word, is_word_byte};

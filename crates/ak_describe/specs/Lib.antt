@@ -14,7 +14,6 @@ pub mod Made
 pub mod Named
 pub mod Parts
 pub mod Pass
-pub mod Past
 pub mod Read
 pub mod Says
 pub mod Second

@@ -23,7 +23,6 @@ mod laws;
 mod named;
 mod parts;
 mod pass;
-mod past;
 mod second;
 mod words;
 

@@ -12,9 +12,8 @@ use crate::described::{AppText, described};
 use crate::fault::DescribeFault;
 use crate::first::{LinesSoFar, may_open_app};
 use crate::parts::AppParts;
-use crate::past::Past;
 use crate::second::second_fault;
-use ak_base::RefusalKind;
+use ak_base::{RefusalKind, Trail};
 use ak_message::Line;
 use std::alloc::Global;
 use std::marker::Model;
@@ -27,7 +26,7 @@ pub struct FirstPass {
     said: LinesSoFar,
     // The number of the last line.
     last: Option<u32>,
-    lines: Past<Line>,
+    lines: Trail<Line>,
 }
 
 impl Model for FirstPass {
@@ -51,7 +50,7 @@ impl FirstPass {
         FirstPass {
             said: LinesSoFar::new(alloc),
             last: None,
-            lines: Past::nothing(),
+            lines: Trail::new(),
         }
     }
 

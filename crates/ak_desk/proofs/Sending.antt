@@ -3,7 +3,7 @@ use denote.RattleType.{RattleType}
 use denote.Param.Send.{IsSend, sendable}
 use Rattle.std.proofs.Crossing.{crosses}
 use Rattle.ak_message.proofs.message.Message.TheLaws.TheKnot.{send-Value, send-Message}
-use Rattle.ak_desk.proofs.said.Trail.TheLaws.TheKnot.{send-Trail}
+use Rattle.ak_base.proofs.trail.Steps.TheLaws.TheKnot.{send-Steps}
 use Rattle.ak_base.proofs.text.Text.TheSendSync as Text'
 use Rattle.ak_base.proofs.bytes.Bytes.TheSendSync as Bytes'
 use Rattle.ak_base.proofs.raw.Raw.TheSendSync as Raw'
@@ -23,6 +23,7 @@ use Rattle.ak_action.proofs.doing.Sending.TheSendSync as Sending'
 use Rattle.ak_desk.proofs.entry.DeskEntry.TheSendSync as DeskEntry'
 use Rattle.ak_desk.proofs.entry.EntryRoute.TheSendSync as EntryRoute'
 use Rattle.ak_desk.proofs.reserved.WordRoom.TheSendSync as WordRoom'
+use Rattle.ak_base.specs.contracts.trail.Trail as Trail
 use Rattle.ak_message.specs.contracts.message.Message as Message
 use Rattle.ak_message.specs.contracts.message.Value as Value
 use Rattle.ak_action.specs.contracts.values.Values as Values
@@ -43,7 +44,6 @@ use Rattle.ak_action.specs.contracts.interp.Stage as Stage
 use Rattle.ak_action.specs.contracts.interp.Interp as Interp
 use Rattle.ak_desk.specs.contracts.entry.EntryWithItem as EntryWithItem
 use Rattle.ak_desk.specs.contracts.reserved.Spare as Spare
-use Rattle.ak_desk.specs.contracts.said.Said as Said
 use Rattle.ak_desk.specs.contracts.task.Task as Task
 use Rattle.ak_desk.specs.contracts.desk.Begun as Begun
 use Rattle.ak_desk.specs.contracts.desk.Desk as Desk
@@ -114,11 +114,11 @@ pub Task-send : IsSend Task.the_field.row
 Task-send = search (Interp-send, Message-send, Spare-send, leaves, sendable, crosses) depth 24 fits 6000
 
 -- a list that contracts alone see holds nothing, so it may go whatever its items are
-pub Said-send : (T : RattleType) → IsSend (Said.the_field T).row
-Said-send T = search (send-Trail, leaves, sendable, crosses) depth 24 fits 6000
+pub Trail-send : (T : RattleType) → IsSend (Trail.the_field T).row
+Trail-send T = search (send-Steps, leaves, sendable, crosses) depth 24 fits 6000
 
 pub Begun-send : IsSend Begun.the_field.row
-Begun-send = search (Task-send, Spare-send, Said-send, leaves, sendable, crosses) depth 24 fits 6000
+Begun-send = search (Task-send, Spare-send, Trail-send, leaves, sendable, crosses) depth 24 fits 6000
 
 pub Desk-send : IsSend Desk.the_field.row
 Desk-send = search (DeskState-send, EntryWithItem-send, Begun-send, leaves, sendable, crosses) depth 24 fits 6000

@@ -10,6 +10,5 @@ pub mod Machine
 pub mod Place
 pub mod Properties
 pub mod Replies
-pub mod Said
 pub mod Shared
 pub mod Task

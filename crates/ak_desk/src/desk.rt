@@ -11,10 +11,9 @@ ghost use Rattle.ak_desk.specs.Task.{heard_of, place_in, task_of, want_of, wants
 use crate::built_in::is_own;
 use crate::entry::{EntryRoute, EntryWithItem};
 use crate::reserved::{Spare, WordRoom};
-use crate::said::Said;
 use crate::task::Task;
 use ak_action::{Answer, DeskState, LooperPlan, Want};
-use ak_base::{Items, NoMemory, Text};
+use ak_base::{Items, NoMemory, Text, Trail};
 use ak_flatten::{Item, Taken};
 use ak_message::Message;
 use ak_route::{Place, Route, route};
@@ -34,8 +33,8 @@ pub(crate) struct Begun {
     // The state in which it began.
     pub(crate) before: Snapshot<DeskState>,
     // What was asked for outside, and what was answered.
-    pub(crate) asked: Said<Want>,
-    pub(crate) heard: Said<Answer>,
+    pub(crate) asked: Trail<Want>,
+    pub(crate) heard: Trail<Answer>,
     // Nothing is left to do.
     pub(crate) done: bool,
 }
@@ -206,7 +205,7 @@ impl Begun {
 }
 
 // Whether nothing is wanted; else the want is one more.
-fn note(asked: &mut Said<Want>, want: &Want) -> bool
+fn note(asked: &mut Trail<Want>, want: &Want) -> bool
     ensures asked { asked.new ≡ asked_more want.now asked.old }
     ensures done { result ≡ is_last want.now }
 {
@@ -236,8 +235,8 @@ fn begun_at(alloc: Global, state: &DeskState, taken: &Taken) -> Result<Begun, No
         spare: Spare::new(alloc)?,
         item: Snapshot::of(&taken.item),
         before: Snapshot::of(state),
-        asked: Said::nothing(),
-        heard: Said::nothing(),
+        asked: Trail::new(),
+        heard: Trail::new(),
         done: false,
     })
 }

@@ -16,7 +16,6 @@ mod made;
 mod properties;
 mod replies;
 mod reserved;
-mod said;
 mod shared;
 mod task;
 
