@@ -14,4 +14,5 @@ pub mod Knowing
 pub mod NewSeats
 pub mod Calls
 pub mod Making
+pub mod Noting
 pub mod Surface

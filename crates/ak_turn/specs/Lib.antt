@@ -6,3 +6,4 @@ pub mod Rule
 pub mod Seats
 pub mod Seen
 pub mod Steps
+pub mod Noted

@@ -2,6 +2,7 @@
 
 ghost use Rattle.ak_turn.specs.Laws as law;
 ghost use Rattle.ak_turn.specs.Entries.{maker};
+ghost use Rattle.ak_turn.specs.Noted as noting;
 
 use crate::book::Book;
 
@@ -34,4 +35,13 @@ pub fn makings_go_on<B: Book>()
     ensures made { law.MadeGoesOn B.Opening B.Entry (maker B.plain B.by) }
     ensures more { law.MakesMore B.Opening B.Entry (maker B.plain B.by) }
     ensures before { law.NothingBefore B.Opening B.Entry (maker B.plain B.by) }
+{}
+
+/// What a thread did at an object, as its entries with all that stood before each. They are the entries that it made, and
+/// each stands so in the list. A seat that has seen notes nothing more, and one that has called its new entry.
+pub fn what_was_done_is_noted<B: Book>()
+    ensures made { noting.NotedIsMade B.Entry (maker B.plain B.by) }
+    ensures stands { noting.NotedStands B.Entry (maker B.plain B.by) }
+    ensures seen { noting.SeenNotesNothing B.Opening B.Entry (maker B.plain B.by) }
+    ensures called { noting.CalledNotesOne B.Opening B.Entry (maker B.plain B.by) }
 {}

@@ -18,7 +18,7 @@ mod waiting;
 
 pub use book::Book;
 pub use clock::Clock;
-pub use laws::{fronts_go_on, makings_go_on, new_seats_know};
+pub use laws::{fronts_go_on, makings_go_on, new_seats_know, what_was_done_is_noted};
 pub use lock::TurnLock;
 pub use seat::Seat;
 pub use turn::Turn;
