@@ -12,4 +12,5 @@ pub mod Once
 pub mod Holders
 pub mod Strangers
 pub mod Teams
+pub mod Owns
 pub mod Surface

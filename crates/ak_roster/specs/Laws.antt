@@ -180,6 +180,28 @@ LaunchesHaveLoopers =
     (heads : List AppHead) (entries : List RosterEntry) → IsHistory heads entries
     → All (λ (entry : RosterEntry). HasLaunched heads (state_of heads entries).loopers entry.by.0 entry.event) entries
 
+-- ---- of a launch that started a team: a looper whose team's own one is among the team's is itself among them, and has the first of them
+-- as its own
+abbrev pub KeepsOwns : List AppHead → List LooperData → LaunchOutcome → Type 0
+KeepsOwns heads loopers (launch.Started place team first) =
+    (number : ℕ) (looper : LooperData) → slice_get loopers number ≡ Some looper → first ≤ looper.own → looper.own < first + loopers_at heads place
+    → (looper.own ≡ first) × (first ≤ number) × (number < first + loopers_at heads place)
+KeepsOwns heads loopers (launch.AlreadyRunning team) = Unit {0}
+KeepsOwns heads loopers launch.NotFound = Unit {0}
+KeepsOwns heads loopers launch.Limit = Unit {0}
+
+abbrev pub KeepsOwnsIn : List AppHead → List LooperData → RosterEvent → Type 0
+KeepsOwnsIn heads loopers (event.Launch word result) = KeepsOwns heads loopers result
+KeepsOwnsIn heads loopers (event.Find word result) = Unit {0}
+KeepsOwnsIn heads loopers (event.Gone team) = Unit {0}
+KeepsOwnsIn heads loopers (event.Door looper) = Unit {0}
+
+-- so no looper outside a team has one of the team's as its own
+abbrev pub OwnsStayInTeams : Type 0
+OwnsStayInTeams =
+    (heads : List AppHead) (entries : List RosterEntry) → IsHistory heads entries
+    → All (λ (entry : RosterEntry). KeepsOwnsIn heads (state_of heads entries).loopers entry.event) entries
+
 -- ---- the last part of a path has no slash, and is the whole path or stands after a slash
 pub record IsLastPart (path part : List ℕ) : Type 0 where
   pub no_slash : ¬ (Contains part 47)

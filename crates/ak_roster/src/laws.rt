@@ -51,10 +51,12 @@ pub fn seats_tell_strangers<D: Grant>()
 {}
 
 /// The loopers of a team, by the numbers from its first one on, were started, and have that first one as their team's
-/// own. So it is of each team that runs, and of each launch that started one.
+/// own. So it is of each team that runs, and of each launch that started one. A looper whose team's own one is among
+/// those of a launch is itself among them, and its own one is the first of them.
 pub fn loopers_are_of_their_teams()
     ensures teams { law.TeamsHaveLoopers }
     ensures launches { law.LaunchesHaveLoopers }
+    ensures owns { law.OwnsStayInTeams }
 {}
 
 /// What a name is compared with is what stands after the last slash of a path.
