@@ -6,6 +6,7 @@ pub mod PortSound
 pub mod PortCalled
 pub mod PortTaking
 pub mod PortTaken
+pub mod PortTold
 pub mod PortRested
 pub mod PortWriting
 pub mod ReplyHistory

@@ -1,15 +1,17 @@
 -- What holds of every taker.
-use Rattle.std.specs.Prelude.{◌≡◌, ℕ, ◌≤◌, Bool, true, false, List, [], ◌++◌, Option, Some, None}
+use Rattle.std.specs.Prelude.{◌≡◌, ℕ, ◌≤◌, Bool, true, false, List, [], ◌∷◌, ◌++◌, length, Option, Some, None}
 use Rattle.ak_base.specs.declared.thread.ThreadId.{ThreadId}
 use Rattle.ak_turn.specs.declared.clock.Clock.{Clock}
 use Rattle.ak_turn.specs.Entries.{AreByOthers}
+use Rattle.ak_turn.specs.Noted.{Noted, noted}
 use Rattle.ak_turn.specs.Seats.{IsGiven, new_seat, titled_seat}
+use Rattle.ak_flatten.specs.declared.item.Taken.{Taken}
 use Rattle.ak_port.specs.declared.port_entry.PortEntry.{PortEntry}
 use Rattle.ak_port.specs.declared.port_entry.PortEvent.{PortEvent}
 use Rattle.ak_port.specs.declared.port_entry.PortEvent.TheVariants as event
 use Rattle.ak_port.specs.declared.port_entry.TakeAnswer.{TakeAnswer}
 use Rattle.ak_port.specs.PortCalls.{PortSeat, CanTake, HasAnswered, HasAnsweredAtTurn, HasEntered, IsAtPort, KeepsTaken, by_number, take_count, take_event}
-use Rattle.ak_port.specs.PortMachine.{IsPort, state_of, handed_from, last_taken, pending_items, taken_items, written_in}
+use Rattle.ak_port.specs.PortMachine.{IsPort, state_of, handed_from, handed_out, last_taken, pending_items, taken_items, written_in}
 
 -- a take adds what it hands out to what its seat knew as taken
 abbrev pub TakesGoOn : Type 0
@@ -42,6 +44,24 @@ OwnCallsTakeNothing = (e : Option PortEvent) (clock clock' : Clock) (seat seat' 
 -- and so it is where the call was made in a turn that the seat had
 abbrev pub OwnTurnsTakeNothing : Type 0
 OwnTurnsTakeNothing = (e : Option PortEvent) (clock clock' : Clock) (seat seat' : PortSeat) → HasAnsweredAtTurn e clock clock' seat seat' → IsNoTake e → IsAtPort seat' → (before : PortSeat) → IsGiven by_number before seat → KeepsTaken before seat'
+
+-- ---- what the taker's own entries tell
+-- what one entry hands out, by what stood before it
+abbrev pub handed_at : Noted PortEntry → List Taken
+handed_at n = handed_out (state_of n.before) n.entry.event
+
+-- what those hand out, in order
+abbrev pub handed_by : List (Noted PortEntry) → List Taken
+handed_by [] = []
+handed_by (n ∷ ns) = handed_at n ++ handed_by ns
+
+-- the taker's own entries, as it noted them, tell all that was taken
+abbrev pub TakesAreTold : Type 0
+TakesAreTold = (taker : ℕ) (entries : List PortEntry) → IsPort taker entries → handed_by (noted by_number taker entries) ≡ taken_items (state_of entries)
+
+-- and that is as much as the port counts
+abbrev pub TakenAreCounted : Type 0
+TakenAreCounted = (taker : ℕ) (entries : List PortEntry) → IsPort taker entries → length (taken_items (state_of entries)) ≡ (state_of entries).taken
 
 -- a new seat for the port's taker can take
 abbrev pub NewSeatsTake : Type 0
