@@ -19,7 +19,7 @@ use Rattle.ak_action.specs.Template as template
 use Rattle.ak_action.specs.Template.{add_fault}
 use Rattle.ak_describe.specs.Actions.{Built, has_name, field_kept, with_field, named_too, field_added, written, short_template}
 use Rattle.ak_describe.specs.Grammar.{FieldText, NamesDiffer, onto_field, all_fields, small_template}
-use Rattle.ak_describe.proofs.Seeing.{any-map}
+use Rattle.ak_describe.proofs.ground.Seeing.{any-map}
 use Rattle.ak_describe.proofs.grammar.Fields.{added_all}
 
 abbrev pub field_names : List FieldText → List (List ℕ)

@@ -9,7 +9,7 @@ use Rattle.ak_describe.specs.Describes.{Describes}
 use Rattle.ak_describe.specs.Description.{description}
 use Rattle.ak_describe.specs.Laws.{IsFirstFault}
 use Rattle.ak_describe.specs.Seen.{apps_seen}
-use Rattle.ak_describe.proofs.Prefixes.{end_told_of, read_is_first, told_all}
+use Rattle.ak_describe.proofs.answered.Prefixes.{end_told_of, read_is_first, told_all}
 use Rattle.ak_describe.proofs.read_description.Goals as goal
 
 pub returns-in_err-pass-clause-answer : goal.returns-in_err-pass-clause-answer

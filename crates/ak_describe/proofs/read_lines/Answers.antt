@@ -1,6 +1,6 @@
 -- One line after another is read, up to the last one or the first that is refused.
 use Rattle.std.proofs.lemmas.Result.{err_from_is_err_and}
-use Rattle.ak_describe.proofs.Prefixes.{come_on, come_through, told_on}
+use Rattle.ak_describe.proofs.answered.Prefixes.{come_on, come_through, told_on}
 use Rattle.ak_describe.proofs.read_lines.Goals as goal
 
 pub returns-in_err-read_line-clause-refused : goal.returns-in_err-read_line-clause-refused

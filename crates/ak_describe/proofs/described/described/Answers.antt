@@ -4,7 +4,7 @@ use Rattle.std.proofs.lemmas.Grind.{common_steps}
 use Rattle.ak_describe.specs.Described.{IsWhole, app_text}
 use Rattle.ak_describe.specs.Parts.{AppData}
 use Rattle.ak_describe.specs.Seen.{app_data}
-use Rattle.ak_describe.proofs.Lists.{one_more, first_of_all, rest_of_all}
+use Rattle.ak_describe.proofs.ground.Lists.{one_more, first_of_all, rest_of_all}
 use Rattle.ak_describe.proofs.described.described.Goals as goal
 
 abbrev AllWhole : AppData → Type 0

@@ -3,7 +3,7 @@ use Rattle.std.proofs.Common.{◌≡◌, [], ◌∷◌, ◌++◌, arith}
 use Rattle.std.proofs.lemmas.Grind.{common_steps}
 use Rattle.ak_describe.specs.Described.{IsWhole, plan_parts}
 use Rattle.ak_describe.specs.Seen.{looper_data}
-use Rattle.ak_describe.proofs.Lists.{one_more, first_of_all, rest_of_all}
+use Rattle.ak_describe.proofs.ground.Lists.{one_more, first_of_all, rest_of_all}
 use Rattle.ak_describe.proofs.described.plans.Goals as goal
 
 pub plan-requires : goal.plan-requires

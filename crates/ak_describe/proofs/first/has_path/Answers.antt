@@ -7,7 +7,7 @@ use Rattle.std.proofs.lemmas.Iterator.Search.{any_from_yields_List}
 use Rattle.ak_describe.specs.declared.parts.AppParts.{AppParts}
 use Rattle.ak_describe.specs.Parts.{AppData}
 use Rattle.ak_describe.specs.Seen.{app_data}
-use Rattle.ak_describe.proofs.Seeing.{any-map}
+use Rattle.ak_describe.proofs.ground.Seeing.{any-map}
 use Rattle.ak_describe.proofs.first.has_path.Goals as goal
 
 pub returns : goal.returns

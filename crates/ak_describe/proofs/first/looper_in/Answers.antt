@@ -5,7 +5,7 @@ use Rattle.ak_describe.specs.Parts.{AppData}
 use Rattle.ak_describe.specs.Pass.{looper_line}
 use Rattle.ak_describe.specs.Seen.{app_data}
 use Rattle.ak_describe.specs.Words.{texts}
-use Rattle.ak_describe.proofs.Changing.{leaves_last, keeps_last}
+use Rattle.ak_describe.proofs.ground.Changing.{leaves_last, keeps_last}
 use Rattle.ak_describe.proofs.first.looper_in.Goals as goal
 
 pub returns-clause-read : goal.returns-clause-read

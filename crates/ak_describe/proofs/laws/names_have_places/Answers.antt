@@ -1,5 +1,5 @@
 -- Each name has its place.
-use Rattle.ak_describe.proofs.Placed.{names_have_places}
+use Rattle.ak_describe.proofs.names.Placed.{names_have_places}
 use Rattle.ak_describe.proofs.laws.names_have_places.Goals as goal
 
 pub returns : goal.returns

@@ -3,7 +3,7 @@ use Rattle.std.proofs.Common.{◌≡◌, ◌∙◌, List, Ok, ap, sym, arith}
 use Rattle.std.proofs.lemmas.Grind.{common_steps}
 use Rattle.ak_describe.specs.declared.described.AppText.{AppText}
 use Rattle.ak_describe.specs.Seen.{apps_data, state_of}
-use Rattle.ak_describe.proofs.Told.{described_then, none_of, told_of, whole_then}
+use Rattle.ak_describe.proofs.answered.Told.{described_then, none_of, told_of, whole_then}
 use Rattle.ak_describe.proofs.pass.app_texts.Goals as goal
 
 pub returns-in-Some : goal.returns-in-Some

@@ -4,7 +4,7 @@ use Rattle.ak_message.specs.Message.{FieldData, MessageData}
 use Rattle.ak_action.specs.Building.{HasRoomFor, with_new}
 use Rattle.ak_action.specs.Template.{AreTemplateFields}
 use Rattle.ak_describe.specs.Actions.{written_values}
-use Rattle.ak_describe.proofs.Writing.{written-next, room-next}
+use Rattle.ak_describe.proofs.ground.Writing.{written-next, room-next}
 use Rattle.ak_describe.proofs.form.template.written.Goals as goal
 
 pub write_field-requires : goal.write_field-requires

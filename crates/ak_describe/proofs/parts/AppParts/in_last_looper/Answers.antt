@@ -6,7 +6,7 @@ use Rattle.ak_describe.specs.Parts.{LooperData}
 use Rattle.ak_describe.specs.Pass.{on_last, carry_in_looper}
 use Rattle.ak_describe.specs.Seen.{app_data, looper_data}
 use Rattle.ak_describe.specs.Words.{texts}
-use Rattle.ak_describe.proofs.Changing.{leaves_last, keeps_last, leaves_inside, keeps_inside}
+use Rattle.ak_describe.proofs.ground.Changing.{leaves_last, keeps_last, leaves_inside, keeps_inside}
 use Rattle.ak_describe.proofs.parts.AppParts.in_last_looper.Goals as goal
 
 pub returns-clause-read : goal.returns-clause-read

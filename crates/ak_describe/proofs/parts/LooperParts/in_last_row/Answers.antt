@@ -6,7 +6,7 @@ use Rattle.ak_describe.specs.Parts.{RowData}
 use Rattle.ak_describe.specs.Pass.{on_last, carry_in_row}
 use Rattle.ak_describe.specs.Seen.{looper_data, row_data}
 use Rattle.ak_describe.specs.Words.{texts}
-use Rattle.ak_describe.proofs.Changing.{leaves_last, keeps_last, leaves_inside, keeps_inside}
+use Rattle.ak_describe.proofs.ground.Changing.{leaves_last, keeps_last, leaves_inside, keeps_inside}
 use Rattle.ak_describe.proofs.parts.LooperParts.in_last_row.Goals as goal
 
 pub returns-clause-read : goal.returns-clause-read

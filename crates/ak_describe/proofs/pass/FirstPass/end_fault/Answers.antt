@@ -2,7 +2,7 @@
 use Rattle.std.proofs.Common.{◌≡◌, ap, arith}
 use Rattle.std.proofs.lemmas.Grind.{common_steps}
 use Rattle.ak_describe.specs.Seen.{apps_data, state_of}
-use Rattle.ak_describe.proofs.Prefixes.{end_of}
+use Rattle.ak_describe.proofs.answered.Prefixes.{end_of}
 use Rattle.ak_describe.proofs.pass.FirstPass.end_fault.Goals as goal
 
 pub returns-clause-fault : goal.returns-clause-fault

@@ -1,6 +1,6 @@
 -- Before the first line nothing is read.
 use Rattle.ak_describe.specs.Seen.{state_of}
-use Rattle.ak_describe.proofs.Prefixes.{none_are_read}
+use Rattle.ak_describe.proofs.answered.Prefixes.{none_are_read}
 use Rattle.ak_describe.proofs.pass.FirstPass.new.Goals as goal
 
 pub invariant_of-result : goal.invariant_of-result

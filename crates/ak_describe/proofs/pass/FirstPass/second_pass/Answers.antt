@@ -1,7 +1,7 @@
 -- What is answered stands on the first pass.
 use Rattle.ak_describe.specs.Seen.{state_of}
-use Rattle.ak_describe.proofs.Prefixes.{all_pass, said_of}
-use Rattle.ak_describe.proofs.Told.{all_described, all_first, answers_all}
+use Rattle.ak_describe.proofs.answered.Prefixes.{all_pass, said_of}
+use Rattle.ak_describe.proofs.answered.Told.{all_described, all_first, answers_all}
 use Rattle.ak_describe.proofs.pass.FirstPass.second_pass.Goals as goal
 
 pub app_texts-requires : goal.app_texts-requires
