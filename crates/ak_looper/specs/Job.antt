@@ -1,6 +1,7 @@
 -- What a looper's thread is started with, and what its life comes to.
-use Rattle.std.specs.Prelude.{◌≡◌, ℕ, ◌-◌, true, List, [], ◌∷◌, ◌++◌, map, All, Any, Option, None, Some, IsSomeAnd}
+use Rattle.std.specs.Prelude.{◌≡◌, ◌+◌, ◌≤◌, ℕ, ◌-◌, true, List, [], ◌∷◌, ◌++◌, map, All, Any, Option, None, Some, IsSomeAnd}
 use Rattle.std.specs.VecDeque.{deque_len, deque_capacity}
+use Rattle.ak_base.specs.Limits.{looper_limit}
 use Rattle.ak_base.specs.declared.thread.ThreadId.{ThreadId}
 use Rattle.ak_roster.specs.declared.head.AppHead.{AppHead}
 use Rattle.ak_turn.specs.Called.{KeepsSeat}
@@ -37,6 +38,7 @@ pub record IsReady (job : LooperJob) : Type 0 where
   pub heads_are : job.roster_seat.opening ≡ Some heads
   pub launched : Any (StartsTeam (facts_of job heads)) job.roster_seat.front
   pub of_team : is_of_team (facts_of job heads) job.number ≡ true
+  pub within : job.first + job.loopers ≤ looper_limit
   pub book_nothing : noted books.maker_of job.hands.book_seat.thread job.hands.book_seat.front ≡ []
   pub roster_nothing : noted maker_of job.roster_seat.thread (plain_of job.roster_seat) ≡ []
   pub port_nothing : noted ports.by_number job.own.port_seat.thread job.own.port_seat.front ≡ []

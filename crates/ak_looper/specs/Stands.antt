@@ -1,6 +1,7 @@
 -- How a looper's thread stands, once it made these steps.
-use Rattle.std.specs.Prelude.{◌≡◌, ◌≢◌, ℕ, ◌+◌, ◌-◌, ◌==◌, Bool, true, false, List, [], ◌∷◌, ◌++◌, map, All, AllPairs, Any, Contains, Option, None, Some, slice_get, if◌then◌else◌}
+use Rattle.std.specs.Prelude.{◌≡◌, ◌≢◌, ◌≤◌, ℕ, ◌+◌, ◌-◌, ◌==◌, Bool, true, false, List, [], ◌∷◌, ◌++◌, map, All, AllPairs, Any, Contains, Option, None, Some, slice_get, if◌then◌else◌}
 use Rattle.std.specs.List.{range_with_len}
+use Rattle.ak_base.specs.Limits.{looper_limit}
 use Rattle.ak_base.specs.declared.app_word.AppWord.{AppWord}
 use Rattle.ak_turn.specs.Entries.{StartsWith}
 use Rattle.ak_turn.specs.Noted.{noted}
@@ -68,6 +69,7 @@ pub record Stands (l : LooperFacts) (start : ℕ) (steps : List Step) (r : Reach
   pub heads : r.roster_seat.opening ≡ Some l.heads
   pub launched : Any (StartsTeam l) r.roster_seat.front
   pub of_team : is_of_team l l.number ≡ true
+  pub within : l.first + l.loopers ≤ looper_limit
   pub stamped : AreStamped start steps
   pub time : time_of start steps ≡ r.hands.clock.time
   pub book : BookStands steps r.hands.book_seat

@@ -122,11 +122,12 @@ impl Reach {
         ensures goes { (l : LooperFacts) (start : ℕ) (so_far : List Step) → Stands l start so_far self.old → GoesOn l start so_far (Fills slot flat) self.new }
         ensures keeps { KeepsReach self.old self.new }
     {
+        let hands = &mut self.hands;
         fill(
-            &self.hands.book,
+            &hands.book,
             rt,
-            &mut self.hands.book_seat,
-            &mut self.hands.clock,
+            &mut hands.book_seat,
+            &mut hands.clock,
             slot,
             flat,
         );
@@ -137,11 +138,12 @@ impl Reach {
         ensures goes { (l : LooperFacts) (start : ℕ) (so_far : List Step) → Stands l start so_far self.old → GoesOn l start so_far (Fills slot none_text) self.new }
         ensures keeps { KeepsReach self.old self.new }
     {
+        let hands = &mut self.hands;
         fill_none(
-            &self.hands.book,
+            &hands.book,
             rt,
-            &mut self.hands.book_seat,
-            &mut self.hands.clock,
+            &mut hands.book_seat,
+            &mut hands.clock,
             slot,
         );
     }

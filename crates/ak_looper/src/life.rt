@@ -87,11 +87,12 @@ impl Life {
         ensures keeps { KeepsReach self.old.reach self.new.reach }
         ensures desk { (self.new.desk ≡ self.old.desk) × (self.new.desk_seat ≡ self.old.desk_seat) }
     {
+        let reach = &mut self.reach;
         let took = take(
-            &self.reach.port,
+            &reach.port,
             rt,
-            &mut self.reach.port_seat,
-            &mut self.reach.hands.clock,
+            &mut reach.port_seat,
+            &mut reach.hands.clock,
             &mut self.queue,
             1,
         );
@@ -109,11 +110,12 @@ impl Life {
         ensures keeps { KeepsReach self.old.reach self.new.reach }
         ensures desk { (self.new.desk ≡ self.old.desk) × (self.new.desk_seat ≡ self.old.desk_seat) }
     {
+        let reach = &mut self.reach;
         take(
-            &self.reach.port,
+            &reach.port,
             rt,
-            &mut self.reach.port_seat,
-            &mut self.reach.hands.clock,
+            &mut reach.port_seat,
+            &mut reach.hands.clock,
             &mut self.queue,
             1,
         );

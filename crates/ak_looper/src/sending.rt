@@ -92,6 +92,8 @@ pub(crate) fn post_there<R: Wait>(
     ensures answer { AnswersPost result }
     ensures seat { KeepsSeat seat.old seat.new }
     ensures book { hands.new.book ≡ hands.old.book }
+    ensures book_seat { KeepsSeat hands.old.book_seat hands.new.book_seat }
+    ensures clock { hands.new.clock.thread ≡ hands.old.clock.thread }
     ensures taking { (thread : ThreadId) (room : ℕ) → CanTake thread room seat.old → CanTake thread room seat.new }
 {
     let turn = port.lock(rt, seat);
@@ -125,6 +127,8 @@ pub(crate) fn ask_there<R: Wait>(
     ensures answer { AnswersAsk result }
     ensures seat { KeepsSeat seat.old seat.new }
     ensures book { hands.new.book ≡ hands.old.book }
+    ensures book_seat { KeepsSeat hands.old.book_seat hands.new.book_seat }
+    ensures clock { hands.new.clock.thread ≡ hands.old.clock.thread }
     ensures taking { (thread : ThreadId) (room : ℕ) → CanTake thread room seat.old → CanTake thread room seat.new }
 {
     let sent = ask(
@@ -154,6 +158,8 @@ pub(crate) fn forward_there<R: Wait>(
     ensures answer { AnswersForward result }
     ensures seat { KeepsSeat seat.old seat.new }
     ensures book { hands.new.book ≡ hands.old.book }
+    ensures book_seat { KeepsSeat hands.old.book_seat hands.new.book_seat }
+    ensures clock { hands.new.clock.thread ≡ hands.old.clock.thread }
     ensures taking { (thread : ThreadId) (room : ℕ) → CanTake thread room seat.old → CanTake thread room seat.new }
 {
     heard_of_write(write(port, rt, seat, &mut hands.clock, item))
@@ -173,6 +179,8 @@ pub(crate) fn reply_there<R: Wait>(
     ensures does { (looper : ℕ) → SideDoes looper (RepliedSo looper item result) (side hands.old.clock hands.old.book_seat seat.old) (side hands.new.clock hands.new.book_seat seat.new) }
     ensures seat { KeepsSeat seat.old seat.new }
     ensures book { hands.new.book ≡ hands.old.book }
+    ensures book_seat { KeepsSeat hands.old.book_seat hands.new.book_seat }
+    ensures clock { hands.new.clock.thread ≡ hands.old.clock.thread }
     ensures taking { (thread : ThreadId) (room : ℕ) → CanTake thread room seat.old → CanTake thread room seat.new }
 {
     let turn = port.lock(rt, seat);
@@ -190,6 +198,8 @@ pub(crate) fn shut_there<R: Wait>(rt: &R, hands: &mut Hands, port: &Port, seat: 
     ensures shut { (state_of seat.new.front).shut ≡ true }
     ensures seat { KeepsSeat seat.old seat.new }
     ensures book { hands.new.book ≡ hands.old.book }
+    ensures book_seat { KeepsSeat hands.old.book_seat hands.new.book_seat }
+    ensures clock { hands.new.clock.thread ≡ hands.old.clock.thread }
     ensures taking { (thread : ThreadId) (room : ℕ) → CanTake thread room seat.old → CanTake thread room seat.new }
 {
     close(port, rt, seat, &mut hands.clock);
