@@ -1,0 +1,4 @@
+pub mod Lives
+pub mod Quiet
+pub mod Takes
+pub mod Tallies

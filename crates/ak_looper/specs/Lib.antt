@@ -9,4 +9,5 @@ pub mod Rosters
 pub mod Side
 pub mod Living
 pub mod Stands
+pub mod Taking
 pub mod Ways

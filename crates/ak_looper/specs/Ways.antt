@@ -28,3 +28,17 @@ pub record KeepsReach (r r' : Reach) : Type 0 where
   pub port_seat : KeepsSeat r.port_seat r'.port_seat
   pub roster_seat : KeepsSeat r.roster_seat r'.roster_seat
   pub taking : (thread : ThreadId) (room : ℕ) → CanTake thread room r.port_seat → CanTake thread room r'.port_seat
+
+-- the same, but that it may have taken the rest
+pub record KeepsPlaces (r r' : Reach) : Type 0 where
+  pub number : r'.number ≡ r.number
+  pub team : r'.team ≡ r.team
+  pub first : r'.first ≡ r.first
+  pub loopers : r'.loopers ≡ r.loopers
+  pub book : r'.hands.book ≡ r.hands.book
+  pub port : r'.port ≡ r.port
+  pub roster : r'.roster ≡ r.roster
+  pub thread : r'.hands.clock.thread ≡ r.hands.clock.thread
+  pub book_seat : KeepsSeat r.hands.book_seat r'.hands.book_seat
+  pub port_seat : KeepsSeat r.port_seat r'.port_seat
+  pub roster_seat : KeepsSeat r.roster_seat r'.roster_seat

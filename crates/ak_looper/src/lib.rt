@@ -17,6 +17,7 @@ mod reach;
 mod roster;
 mod sending;
 mod serving;
+mod taking;
 
 pub use door::Door;
 pub use job::{EndKind, LooperEnd, LooperJob};

@@ -10,7 +10,7 @@ ghost use Rattle.ak_looper.specs.Carrying.{IsDeskOf};
 ghost use Rattle.ak_looper.specs.Job.{BeginsSo, EndsSo, HasLived, IsReady};
 ghost use Rattle.ak_looper.specs.Living.{CanWork, ComesTo, GoesOnWorking, HasInHand, HasRestedSo, HasSettled, HasStopped, IsWorking, Later, after_of};
 ghost use Rattle.ak_looper.specs.Stands.{GoesOn, IsStanding, Stands};
-ghost use Rattle.ak_looper.specs.Ways.{KeepsReach};
+ghost use Rattle.ak_looper.specs.Ways.{KeepsPlaces, KeepsReach};
 
 use crate::at_work::{After, Life};
 use crate::desk_turn::dispatch;
@@ -21,7 +21,7 @@ use crate::reach::Reach;
 use ak_desk::Made;
 use ak_flatten::{Duty, Taken};
 use ak_outside::Gate;
-use ak_port::{TakeAnswer, take};
+use ak_port::TakeAnswer;
 use std::alloc::Global;
 use std::collections::VecDeque;
 use std::sync::Wait;
@@ -84,19 +84,10 @@ impl Life {
         ensures took { (l : LooperFacts) (start : ℕ) (work : List Step) → GoesOnWorking l start work self.old.reach self.old.desk_seat → IfSome result (λ taken. Later (λ so_far. HasInHand l start so_far taken self.new.reach self.new.desk_seat) work) }
         ensures rested { (l : LooperFacts) (start : ℕ) (work : List Step) → GoesOnWorking l start work self.old.reach self.old.desk_seat → IfNone result (HasRestedSo l start work EndKind.TeamClosed self.new.queue.items self.new.reach self.new.desk_seat) }
         ensures can { IfSome result (λ _. CanWork self.new.reach (deque_capacity self.new.queue - deque_len self.new.queue) self.new.queue.items) }
-        ensures keeps { KeepsReach self.old.reach self.new.reach }
+        ensures keeps { KeepsPlaces self.old.reach self.new.reach }
         ensures desk { (self.new.desk ≡ self.old.desk) × (self.new.desk_seat ≡ self.old.desk_seat) }
     {
-        let reach = &mut self.reach;
-        let took = take(
-            &reach.port,
-            rt,
-            &mut reach.port_seat,
-            &mut reach.hands.clock,
-            &mut self.queue,
-            1,
-        );
-        match took {
+        match self.reach.take(rt, &mut self.queue) {
             TakeAnswer::Took(_) => self.queue.pop_front(),
             TakeAnswer::Rest(_) => None,
         }
@@ -107,18 +98,10 @@ impl Life {
         requires can { CanWork self.old.reach (deque_capacity self.old.queue - deque_len self.old.queue) self.old.queue.items }
         requires shut { (state_of self.old.reach.port_seat.front).shut ≡ true }
         ensures rested { (l : LooperFacts) (start : ℕ) (work : List Step) (kind : EndKind) → HasStopped l start work kind self.old.reach self.old.desk_seat → HasRestedSo l start work kind self.new.queue.items self.new.reach self.new.desk_seat }
-        ensures keeps { KeepsReach self.old.reach self.new.reach }
+        ensures keeps { KeepsPlaces self.old.reach self.new.reach }
         ensures desk { (self.new.desk ≡ self.old.desk) × (self.new.desk_seat ≡ self.old.desk_seat) }
     {
-        let reach = &mut self.reach;
-        take(
-            &reach.port,
-            rt,
-            &mut reach.port_seat,
-            &mut reach.hands.clock,
-            &mut self.queue,
-            1,
-        );
+        self.reach.take(rt, &mut self.queue);
     }
 
     // Dispatches the item in hand, and settles what follows from that.
@@ -157,7 +140,7 @@ impl Life {
         requires desk { IsDeskOf self.old.reach.number self.old.desk_seat }
         requires working { IsWorking self.old.reach self.old.desk_seat }
         ensures rested { (l : LooperFacts) (start : ℕ) (work : List Step) → GoesOnWorking l start work self.old.reach self.old.desk_seat → Later (λ so_far. HasRestedSo l start so_far result self.new.queue.items self.new.reach self.new.desk_seat) work }
-        ensures keeps { KeepsReach self.old.reach self.new.reach }
+        ensures keeps { KeepsPlaces self.old.reach self.new.reach }
         ensures desk { (self.new.desk ≡ self.old.desk) × KeepsSeat self.old.desk_seat self.new.desk_seat }
     {
         for _ in rt.forever() {
