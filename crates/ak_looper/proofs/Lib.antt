@@ -2,3 +2,4 @@ pub mod Lives
 pub mod Quiet
 pub mod Takes
 pub mod Tallies
+pub mod Turning
