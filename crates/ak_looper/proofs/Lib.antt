@@ -1,0 +1,3 @@
+pub mod Lifting
+pub mod Sendings
+pub mod Sides
