@@ -34,6 +34,14 @@ heard_write (written.Spent back) = answer.Spent
 heard_write (written.Full back) = answer.NoMemory
 heard_write (written.NoMemory back) = answer.NoMemory
 
+-- the port answered the write, or memory was wanting
+abbrev pub is_posted : WriteAnswer → Bool
+is_posted (written.Wrote position) = true
+is_posted (written.Closed back) = true
+is_posted (written.Spent back) = true
+is_posted (written.Full back) = true
+is_posted (written.NoMemory back) = false
+
 -- a reply that was posted back, or for which memory was wanting
 abbrev pub RepliedSo : ℕ → ItemData → Bool → List Step → Type 0
 RepliedSo looper item true steps = PostsBack looper item steps

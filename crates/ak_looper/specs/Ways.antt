@@ -9,10 +9,10 @@ use Rattle.ak_looper.specs.declared.reach.Reach.{Reach}
 use Rattle.ak_looper.specs.declared.reach.Way.{Way}
 use Rattle.ak_looper.specs.declared.reach.Way.TheVariants as way
 
--- it is the way to that looper's port
+-- it is the way to that looper's port; no door is the way to its own
 abbrev pub IsWay : ℕ → Way → Reach → Type 0
 IsWay looper way.Own r = r.number ≡ looper
-IsWay looper (way.Through place) r = (place < vec_len r.doors) × (option_map (λ (door : ℕ × Door). door.0) (slice_get r.doors.items place) ≡ Some looper)
+IsWay looper (way.Through place) r = (place < vec_len r.doors) × (option_map (λ (door : ℕ × Door). door.0) (slice_get r.doors.items place) ≡ Some looper) × (looper ≢ r.number)
 
 -- what no call changes: the looper, its locks and its seats at them; doors may be added; a seat that can take still can
 pub record KeepsReach (r r' : Reach) : Type 0 where

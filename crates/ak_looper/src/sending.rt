@@ -8,7 +8,7 @@ ghost use Rattle.ak_action.specs.declared.answer.Answer.{Answer};
 ghost use Rattle.ak_desk.specs.Answering.{AnswersAsk, AnswersForward, AnswersPost};
 ghost use Rattle.ak_diary.specs.Wants.{AsksSo, ForwardsSo, PostsSo, owed_to, sent_item};
 ghost use Rattle.ak_diary.specs.Turns.{Shuts};
-ghost use Rattle.ak_looper.specs.Heard.{heard_ask, heard_post, heard_write, RepliedSo};
+ghost use Rattle.ak_looper.specs.Heard.{heard_ask, heard_post, heard_write, is_posted, RepliedSo};
 ghost use Rattle.ak_port.specs.PortMachine.{state_of};
 ghost use Rattle.ak_looper.specs.Side.{side, SideDoes};
 
@@ -70,6 +70,19 @@ fn heard_of_write(written: WriteAnswer) -> Answer
         WriteAnswer::Closed(_) => Answer::Closed,
         WriteAnswer::Spent(_) => Answer::Spent,
         WriteAnswer::Full(_) | WriteAnswer::NoMemory(_) => Answer::NoMemory,
+    }
+}
+
+// Whether the port answered a write. False where memory was wanting.
+fn was_posted(written: WriteAnswer) -> bool
+    ensures { result ≡ is_posted written }
+{
+    match written {
+        WriteAnswer::Wrote(_)
+        | WriteAnswer::Closed(_)
+        | WriteAnswer::Spent(_)
+        | WriteAnswer::Full(_) => true,
+        WriteAnswer::NoMemory(_) => false,
     }
 }
 
@@ -185,8 +198,7 @@ pub(crate) fn reply_there<R: Wait>(
 {
     let turn = port.lock(rt, seat);
     hands.clock.ready(rt);
-    let written = write_at_turn(turn, seat, &mut hands.clock, item);
-    !matches!(written, WriteAnswer::NoMemory(_))
+    was_posted(write_at_turn(turn, seat, &mut hands.clock, item))
 }
 
 // Shuts the port, unless it is shut.
