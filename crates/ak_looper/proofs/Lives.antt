@@ -1,6 +1,7 @@
 -- The turns of a looper's thread: a take, a dispatch with what follows, the rest.
 use Rattle.std.proofs.Common.{◌≡◌, ℕ, zero, suc, ◌+◌, ◌-◌, ◌==◌, Bool, true, false, List, [], ◌∷◌, ◌++◌, length, map, Option, Some, None, All, cond, refl, sym, ap, ◌∙◌, subst, inl, inr, append_assoc, append-nil, length-append, arith}
-use Rattle.std.specs.Prelude.{◌||◌, slice_get, option_map, unwrap_or}
+use Rattle.std.specs.Prelude.{◌||◌, slice_get, option_map, unwrap_or, IfSome}
+use Rattle.std.specs.Option.{option_to_list}
 use Rattle.std.proofs.lemmas.Bool.{false≢true}
 use Rattle.std.proofs.lemmas.List.{map-append}
 use Rattle.std.proofs.lemmas.List.Elements.{All-append, All-cons, All-head, All-nil, All-tail}
@@ -117,3 +118,13 @@ pub by_others : (l : LooperFacts) (work : List Step) → is_closing work ≡ fal
 by_others l work calls =
     sym (ap (λ b. kind_of (cond b without_memory (cond (last_quits (desk_list l work)) by_quit by_team))) (not_short work calls)
     ∙ ap (λ b. kind_of (cond b by_quit by_team)) (no_last_mark l work calls))
+
+-- ---- one item is taken off a queue that has one
+pub popped_one : (popped : Option Taken) (queue rest : List Taken) → queue ≡ option_to_list popped ++ rest → length queue ≡ 1 → IfSome popped (λ t. queue ≡ t ∷ [])
+popped_one None queue rest is one = tt
+popped_one (Some t) queue [] is one = is
+popped_one (Some t) queue (x ∷ rest) is one = absurd (omega (arith, sym one ∙ ap (λ l. length l) is))
+
+pub each_some : {A : Type 0} (o : Option A) (P Q : A → Type 0) → IfSome o P → ((x : A) → P x → Q x) → IfSome o Q
+each_some None P Q p each = tt
+each_some (Some x) P Q p each = each x p
