@@ -17,11 +17,13 @@ use Rattle.ak_port.specs.TakerLaws.{handed_at}
 use Rattle.ak_desk.specs.Shared.{DeskSeat}
 use Rattle.ak_desk.specs.Entry.{EntryData}
 use Rattle.ak_desk.specs.Machine.{gives_up}
+use Rattle.ak_looper.specs.declared.job.EndKind.{EndKind}
 use Rattle.ak_looper.specs.declared.job.EndKind.TheVariants as kind
+use Rattle.ak_port.specs.declared.port_entry.TakeAnswer.{TakeAnswer}
 use Rattle.ak_looper.specs.declared.reach.Reach.{Reach}
 use Rattle.ak_looper.specs.Living.{GoesOnWorking, HasInHand, HasRested, HasRestedSo, HasStopped, HasWorked, kind_of}
 use Rattle.ak_looper.specs.Stands.{DeskStands, GoesOn, Stands}
-use Rattle.ak_looper.specs.Taking.{IsTaking}
+use Rattle.ak_looper.specs.Taking.{IsTaking, IsTheRest}
 use Rattle.ak_diary.specs.Diary.{Works, went_on, ending_of, by_quit, by_team, without_memory}
 use Rattle.ak_diary.specs.Looper.{LooperFacts, calls_for_closing, desk_list, dispatched_in, has_quit_mark, in_hand, is_closing, last_quits, taken_in}
 use Rattle.ak_diary.specs.Step.{Step, at_roster, at_book, at_port, at_desk, saw_roster, saw_book, saw_port, lacked, desk_entries, desk_entry, ran_short}
@@ -128,3 +130,10 @@ popped_one (Some t) queue (x ∷ rest) is one = absurd (omega (arith, sym one �
 pub each_some : {A : Type 0} (o : Option A) (P Q : A → Type 0) → IfSome o P → ((x : A) → P x → Q x) → IfSome o Q
 each_some None P Q p each = tt
 each_some (Some x) P Q p each = each x p
+
+-- ---- the rest of a port that is shut
+pub rested_so : (l : LooperFacts) (start : ℕ) (work : List Step) (k : EndKind) (answer : TakeAnswer) (queue : List Taken) (r r' : Reach) (desk : DeskSeat) → HasStopped l start work k r desk → IsTheRest answer
+    → GoesOn l start work (IsTaking l work answer queue) r' → HasRestedSo l start work k queue r' desk
+rested_so l start work k (answered.Took count) queue r r' desk stopped rest goes = absurd rest
+rested_so l start work k (answered.Rest count) queue r r' desk stopped rest goes =
+    record { so = took_rest l start work count queue r r' desk stopped.worked.works stopped.worked.at_desk stopped.rested goes; kind_is = stopped.kind_is }
