@@ -5,7 +5,7 @@ ghost use Rattle.ak_port.specs.PortMachine.{state_of};
 ghost use Rattle.ak_turn.specs.Called.{KeepsSeat};
 ghost use Rattle.ak_diary.specs.Looper.{LooperFacts, is_closing};
 ghost use Rattle.ak_diary.specs.Step.{Step};
-ghost use Rattle.ak_diary.specs.Turns.{LeavesAll};
+ghost use Rattle.ak_diary.specs.Turns.{LeavesAll, LeavesOne};
 ghost use Rattle.ak_looper.specs.Carrying.{IsDeskOf};
 ghost use Rattle.ak_looper.specs.Job.{BeginsSo, EndsSo, HasLived, IsReady};
 ghost use Rattle.ak_looper.specs.Living.{CanWork, ComesTo, GoesOnWorking, HasInHand, HasRestedSo, HasSettled, HasStopped, IsWorking, Later, after_of};
@@ -55,14 +55,21 @@ fn settle<R: Wait>(alloc: Global, rt: &R, reach: &mut Reach, owed: Duty, made: M
     } = made;
     let Prepared { debt, lacked } = prepare(alloc, reach.team, owed, reply);
     let due = quit || no_memory || lacked;
-    if due {
-        reach.close(rt);
-    }
+    reach.close_if(rt, due);
     let paid = reach.pay(rt, debt);
-    if !paid && !due {
-        reach.close(rt);
-    }
+    reach.close_if(rt, !paid && !due);
     after(no_memory || lacked || !paid, due || !paid)
+}
+
+// The sender of an item gets no reply, where it waits for one.
+fn leave_one<R: Wait>(rt: &R, reach: &mut Reach, owed: Duty)
+    ensures goes { (l : LooperFacts) (start : ℕ) (so_far : List Step) → Stands l start so_far reach.old → GoesOn l start so_far (LeavesOne owed) reach.new }
+    ensures keeps { KeepsReach reach.old reach.new }
+{
+    match owed {
+        Duty::Slot(slot) => reach.fill_with_none(rt, slot),
+        Duty::None | Duty::Back(_) => {}
+    }
 }
 
 // Each waiting sender of what is left gets no reply.
@@ -71,9 +78,7 @@ fn leave_all<R: Wait>(rt: &R, reach: &mut Reach, left: VecDeque<Taken>)
     ensures keeps { KeepsReach reach.old reach.new }
 {
     for taken in left {
-        if let Duty::Slot(slot) = taken.item.duty() {
-            reach.fill_with_none(rt, slot);
-        }
+        leave_one(rt, reach, taken.item.duty());
     }
 }
 
