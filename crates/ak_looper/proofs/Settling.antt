@@ -108,39 +108,50 @@ module _ (l : LooperFacts) (start : ℕ) (so_far : List Step) (owed : Duty) (mad
     and_both false true = refl
     and_both false false = refl
 
-  -- by the three calls, one after another
-  pub settled : (a : After) (r closed settling ended : Reach) → Stands l start so_far r → is_closing so_far ≡ (made.quit || made.no_memory) → IsDebt l.team owed made.reply short d
-      → ((l' : LooperFacts) (start' : ℕ) (from : List Step) → Stands l' start' from r → GoesOn l' start' from (ClosesIf l' due) closed)
-      → ((l' : LooperFacts) (start' : ℕ) (from : List Step) → Stands l' start' from closed → GoesOn l' start' from (PaysDebt l' from d paid) settling)
-      → ((l' : LooperFacts) (start' : ℕ) (from : List Step) → Stands l' start' from settling → GoesOn l' start' from (ClosesIf l' (not paid && not due)) ended)
-      → a ≡ after_of (made.no_memory || short || not paid) (due || not paid) → GoesOn l start so_far (HasSettled l so_far owed made a) ended
-  settled a r closed settling ended stands was is closes pays closes_late then_is =
+-- ---- by the calls, one after another
+abbrev pub GoesClosing : Bool → Reach → Reach → Type 0
+GoesClosing due r r' = (l : LooperFacts) (start : ℕ) (so_far : List Step) → Stands l start so_far r → GoesOn l start so_far (ClosesIf l due) r'
+
+abbrev pub GoesPaying : Debt → Bool → Reach → Reach → Type 0
+GoesPaying d paid r r' = (l : LooperFacts) (start : ℕ) (so_far : List Step) → Stands l start so_far r → GoesOn l start so_far (PaysDebt l so_far d paid) r'
+
+module _ (owed : Duty) (made : Made) (short paid : Bool) (d : Debt) (r closed settling ended : Reach) where
+  settles_by : (a : After) → IsDebt r.team owed made.reply short d → GoesClosing (made.quit || made.no_memory || short) r closed → GoesPaying d paid closed settling
+      → GoesClosing (not paid && not (made.quit || made.no_memory || short)) settling ended → a ≡ after_of (made.no_memory || short || not paid) (made.quit || made.no_memory || short || not paid)
+      → (l : LooperFacts) (start : ℕ) (so_far : List Step) → Stands l start so_far r → is_closing so_far ≡ (made.quit || made.no_memory) → GoesOn l start so_far (HasSettled l so_far owed made a) ended
+  settles_by a is closes pays closes_late then_is l start so_far stands was =
+      let text = lacked_if short in
       let first = closes l start (so_far ++ text) (stands_if short l start so_far r stands) in
       let second = pays l start (so_far ++ text ++ first.steps) first.stands in
       let third = closes_late l start (so_far ++ text ++ first.steps ++ second.steps) second.stands in
       record {
         steps = text ++ first.steps ++ second.steps ++ third.steps;
-        does = settled_by a first.steps second.steps third.steps was is first.does second.does third.does then_is;
+        does = settled_by l start so_far owed made short paid d a first.steps second.steps third.steps was (subst (λ (team : ℕ). IsDebt team owed made.reply short d) stands.team is) first.does second.does third.does then_is;
         stands = subst (λ (s : List Step). Stands l start s ended) (regroup so_far text first.steps second.steps third.steps) third.stands;
       }
     where
     regroup : (a b c e f : List Step) → a ++ b ++ c ++ e ++ f ≡ a ++ (b ++ c ++ e ++ f)
     regroup a b c e f = simp append_assoc
 
+  pub settles : (due late : Bool) (a : After) → due ≡ (made.quit || made.no_memory || short) → late ≡ (not paid && not due) → IsDebt r.team owed made.reply short d
+      → GoesClosing due r closed → GoesPaying d paid closed settling → GoesClosing late settling ended → a ≡ after_of (made.no_memory || short || not paid) (due || not paid)
+      → (l : LooperFacts) (start : ℕ) (so_far : List Step) → Stands l start so_far r → is_closing so_far ≡ (made.quit || made.no_memory) → GoesOn l start so_far (HasSettled l so_far owed made a) ended
+  settles due late a due_is late_is is closes pays closes_late then_is =
+      settles_by a is (subst (λ (b : Bool). GoesClosing b r closed) due_is closes) pays
+      (subst (λ (b : Bool). GoesClosing b settling ended) (late_is ∙ ap (λ (b : Bool). not paid && not b) due_is) closes_late)
+      (then_is ∙ ap (λ (b : Bool). after_of (made.no_memory || short || not paid) (b || not paid)) due_is)
+
 -- ---- where it does not go on, its port is shut
 -- where no closing was due, and it was paid, it goes on
-goes_on_then : (quit no_memory short : Bool) → (quit || no_memory || short) ≡ false → after_of (no_memory || short || false) (quit || no_memory || short || false) ≡ after.GoesOn
-goes_on_then true no_memory short e = absurd (true≢false e)
-goes_on_then false true short e = absurd (true≢false e)
-goes_on_then false false true e = absurd (true≢false e)
+goes_on_then : (quit no_memory short : Bool) → false ≡ (quit || no_memory || short) → after_of (no_memory || short || false) false ≡ after.GoesOn
+goes_on_then true no_memory short e = absurd (true≢false (sym e))
+goes_on_then false true short e = absurd (true≢false (sym e))
+goes_on_then false false true e = absurd (true≢false (sym e))
 goes_on_then false false false e = refl
 
 module _ (made : Made) (short : Bool) (d : Debt) (r closed settling ended : Reach) where
-  shut_since : (paid : Bool) → IsStanding r
-      → ((l : LooperFacts) (start : ℕ) (from : List Step) → Stands l start from r → GoesOn l start from (ClosesIf l true) closed)
-      → ((l : LooperFacts) (start : ℕ) (from : List Step) → Stands l start from closed → GoesOn l start from (PaysDebt l from d paid) settling)
-      → (late : Bool) → ((l : LooperFacts) (start : ℕ) (from : List Step) → Stands l start from settling → GoesOn l start from (ClosesIf l late) ended) → IsShut ended
-  shut_since paid is closes pays late closes_late =
+  shut_since : (paid late : Bool) → IsStanding r → GoesClosing true r closed → GoesPaying d paid closed settling → GoesClosing late settling ended → IsShut ended
+  shut_since paid late is closes pays closes_late =
       let l = is.facts in
       let first = closes l is.start is.steps is.stands in
       let second = pays l is.start (is.steps ++ first.steps) first.stands in
@@ -148,20 +159,9 @@ module _ (made : Made) (short : Bool) (d : Debt) (r closed settling ended : Reac
       closed_stays_shut l is.start is.steps first.steps (second.steps ++ third.steps) ended
       (subst (λ (s : List Step). Stands l is.start s ended) (append_assoc (is.steps ++ first.steps) second.steps third.steps) third.stands) first.does
 
-  shut_by : (closing paid : Bool) (a : After) → (made.quit || made.no_memory || short) ≡ closing → IsStanding r
-      → ((l : LooperFacts) (start : ℕ) (from : List Step) → Stands l start from r → GoesOn l start from (ClosesIf l closing) closed)
-      → ((l : LooperFacts) (start : ℕ) (from : List Step) → Stands l start from closed → GoesOn l start from (PaysDebt l from d paid) settling)
-      → ((l : LooperFacts) (start : ℕ) (from : List Step) → Stands l start from settling → GoesOn l start from (ClosesIf l (not paid && not closing)) ended)
-      → ((not paid && not closing) ≡ true → IsShut ended)
-      → a ≡ after_of (made.no_memory || short || not paid) (made.quit || made.no_memory || short || not paid) → a ≢ after.GoesOn → IsShut ended
-  shut_by true paid a was is closes pays closes_late late then_is ends = shut_since paid is closes pays (not paid && false) closes_late
-  shut_by false false a was is closes pays closes_late late then_is ends = late refl
-  shut_by false true a was is closes pays closes_late late then_is ends = absurd (ends (then_is ∙ goes_on_then made.quit made.no_memory short was))
-
-  pub ended_shut : (paid : Bool) (a : After) → IsStanding r
-      → ((l : LooperFacts) (start : ℕ) (from : List Step) → Stands l start from r → GoesOn l start from (ClosesIf l (made.quit || made.no_memory || short)) closed)
-      → ((l : LooperFacts) (start : ℕ) (from : List Step) → Stands l start from closed → GoesOn l start from (PaysDebt l from d paid) settling)
-      → ((l : LooperFacts) (start : ℕ) (from : List Step) → Stands l start from settling → GoesOn l start from (ClosesIf l (not paid && not (made.quit || made.no_memory || short))) ended)
-      → ((not paid && not (made.quit || made.no_memory || short)) ≡ true → IsShut ended)
-      → a ≡ after_of (made.no_memory || short || not paid) (made.quit || made.no_memory || short || not paid) → a ≢ after.GoesOn → IsShut ended
-  ended_shut paid a is closes pays closes_late late then_is ends = shut_by (made.quit || made.no_memory || short) paid a refl is closes pays closes_late late then_is ends
+  pub ended_shut : (due paid late : Bool) (a : After) → due ≡ (made.quit || made.no_memory || short) → late ≡ (not paid && not due) → IsStanding r
+      → GoesClosing due r closed → GoesPaying d paid closed settling → GoesClosing late settling ended → (late ≡ true → IsShut ended)
+      → a ≡ after_of (made.no_memory || short || not paid) (due || not paid) → a ≢ after.GoesOn → IsShut ended
+  ended_shut true paid late a due_is late_is is closes pays closes_late shut then_is ends = shut_since paid late is closes pays closes_late
+  ended_shut false false late a due_is late_is is closes pays closes_late shut then_is ends = shut late_is
+  ended_shut false true late a due_is late_is is closes pays closes_late shut then_is ends = absurd (ends (then_is ∙ goes_on_then made.quit made.no_memory short due_is))

@@ -1,6 +1,6 @@
 //! A looper's thread from its start to its end.
 ghost use Rattle.std.specs.VecDeque.{deque_len, deque_capacity};
-ghost use Rattle.std.specs.Prelude.{◌≡◌, ◌≢◌, ◌-◌, ◌||◌, ℕ, true, List, IfNone, IfSome};
+ghost use Rattle.std.specs.Prelude.{◌≡◌, ◌≢◌, ◌-◌, ◌&&◌, ◌||◌, not, ℕ, true, List, IfNone, IfSome};
 ghost use Rattle.ak_port.specs.PortMachine.{state_of};
 ghost use Rattle.ak_turn.specs.Called.{KeepsSeat};
 ghost use Rattle.ak_diary.specs.Looper.{LooperFacts, is_closing};
@@ -39,6 +39,27 @@ fn after(short: bool, closing: bool) -> After
     }
 }
 
+// A closing is due before the payment.
+fn is_due(quit: bool, no_memory: bool, lacked: bool) -> bool
+    ensures { result ≡ (quit || no_memory || lacked) }
+{
+    quit || no_memory || lacked
+}
+
+// It is due behind a payment that found no memory, where it was not before.
+fn is_due_late(due: bool, paid: bool) -> bool
+    ensures { result ≡ (not paid && not due) }
+{
+    !paid && !due
+}
+
+// What follows the payment.
+fn after_payment(no_memory: bool, lacked: bool, due: bool, paid: bool) -> After
+    ensures { result ≡ after_of (no_memory || lacked || not paid) (due || not paid) }
+{
+    after(no_memory || lacked || !paid, due || !paid)
+}
+
 // Pays what is owed for a message that was dispatched, and closes before that where that is due: after the quit mark, and
 // after want of memory. Where memory is wanting only for the payment, it closes after it.
 fn settle<R: Wait>(alloc: Global, rt: &R, reach: &mut Reach, owed: Duty, made: Made) -> After
@@ -54,11 +75,12 @@ fn settle<R: Wait>(alloc: Global, rt: &R, reach: &mut Reach, owed: Duty, made: M
         forwarded: _,
     } = made;
     let Prepared { debt, lacked } = prepare(alloc, reach.team, owed, reply);
-    let due = quit || no_memory || lacked;
+    let due = is_due(quit, no_memory, lacked);
     reach.close_if(rt, due);
     let paid = reach.pay(rt, debt);
-    reach.close_if(rt, !paid && !due);
-    after(no_memory || lacked || !paid, due || !paid)
+    let late = is_due_late(due, paid);
+    reach.close_if(rt, late);
+    after_payment(no_memory, lacked, due, paid)
 }
 
 // The sender of an item gets no reply, where it waits for one.

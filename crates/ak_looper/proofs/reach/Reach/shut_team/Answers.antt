@@ -1,5 +1,5 @@
 -- One port more, and at the end all of them.
-use Rattle.std.proofs.Common.{◌≡◌, ℕ, ◌+◌, ◌∙◌, ap, arith}
+use Rattle.std.proofs.Common.{◌≡◌, ℕ, ◌+◌, ◌∙◌, ap, sym, arith}
 use Rattle.std.specs.List.{range_with_len}
 use Rattle.ak_looper.proofs.ClosingSteps.{begins_shutting, goes_on_shutting, has_shut, keeps_same, keeps_then, numbers_within, still_standing}
 use Rattle.ak_looper.proofs.Shutting.{team_is_shut}
@@ -16,7 +16,14 @@ overflow_add-looper g c =
     omega arith
 
 pub way_in_team-way-requires : goal.way_in_team-way-requires
-way_in_team-way-requires g c = ?
+way_in_team-way-requires g c =
+    let so_far = c.loop-place.invariant in
+    let r = c.loop-place.self in
+    let loopers = so_far.keeps.loopers in
+    record {
+      stands = still_standing (λ l from. ShutsAll (range_with_len l.first c.loop-place.place)) c.args.self.now r c.requires.stands so_far.goes;
+      of = record { own = so_far.keeps.number ∙ c.requires.own ∙ sym so_far.keeps.first; from = omega arith; below = omega arith };
+    }
 
 pub loop-place-preserved : goal.loop-place-preserved
 loop-place-preserved g c =
