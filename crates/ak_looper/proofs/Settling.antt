@@ -133,13 +133,13 @@ module _ (owed : Duty) (made : Made) (short paid : Bool) (d : Debt) (r closed se
     regroup : (a b c e f : List Step) → a ++ b ++ c ++ e ++ f ≡ a ++ (b ++ c ++ e ++ f)
     regroup a b c e f = simp append_assoc
 
-  pub settles : (due late : Bool) (a : After) → due ≡ (made.quit || made.no_memory || short) → late ≡ (not paid && not due) → IsDebt r.team owed made.reply short d
-      → GoesClosing due r closed → GoesPaying d paid closed settling → GoesClosing late settling ended → a ≡ after_of (made.no_memory || short || not paid) (due || not paid)
+  pub settles : (soon late : Bool) (a : After) → soon ≡ (made.quit || made.no_memory || short) → late ≡ (not paid && not soon) → IsDebt r.team owed made.reply short d
+      → GoesClosing soon r closed → GoesPaying d paid closed settling → GoesClosing late settling ended → a ≡ after_of (made.no_memory || short || not paid) (soon || not paid)
       → (l : LooperFacts) (start : ℕ) (so_far : List Step) → Stands l start so_far r → is_closing so_far ≡ (made.quit || made.no_memory) → GoesOn l start so_far (HasSettled l so_far owed made a) ended
-  settles due late a due_is late_is is closes pays closes_late then_is =
-      settles_by a is (subst (λ (b : Bool). GoesClosing b r closed) due_is closes) pays
-      (subst (λ (b : Bool). GoesClosing b settling ended) (late_is ∙ ap (λ (b : Bool). not paid && not b) due_is) closes_late)
-      (then_is ∙ ap (λ (b : Bool). after_of (made.no_memory || short || not paid) (b || not paid)) due_is)
+  settles soon late a soon_is late_is is closes pays closes_late then_is =
+      settles_by a is (subst (λ (b : Bool). GoesClosing b r closed) soon_is closes) pays
+      (subst (λ (b : Bool). GoesClosing b settling ended) (late_is ∙ ap (λ (b : Bool). not paid && not b) soon_is) closes_late)
+      (then_is ∙ ap (λ (b : Bool). after_of (made.no_memory || short || not paid) (b || not paid)) soon_is)
 
 -- ---- where it does not go on, its port is shut
 -- where no closing was due, and it was paid, it goes on
