@@ -1,8 +1,16 @@
+pub mod ClosingSteps
+pub mod Debts
+pub mod Lacking
+pub mod Leaving
 pub mod Lifting
 pub mod Lives
+pub mod Paying
 pub mod Quiet
 pub mod Sendings
+pub mod Settling
+pub mod Shutting
 pub mod Sides
 pub mod Takes
 pub mod Tallies
+pub mod TeamWays
 pub mod Turning

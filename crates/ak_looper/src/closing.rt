@@ -9,7 +9,7 @@ impl Reach {
     ghost use Rattle.std.specs.List.{range_with_len};
     ghost use Rattle.ak_diary.specs.Looper.{LooperFacts, closed_by};
     ghost use Rattle.ak_diary.specs.Step.{Step};
-    ghost use Rattle.ak_diary.specs.Turns.{Closes, Shuts, ShutsAll};
+    ghost use Rattle.ak_diary.specs.Turns.{Closes, ClosesIf, Shuts, ShutsAll};
     ghost use Rattle.ak_port.specs.PortMachine.{state_of};
     ghost use Rattle.ak_looper.specs.Closing.{IsOfItsTeam};
     ghost use Rattle.ak_looper.specs.Stands.{GoesOn, IsStanding, Stands};
@@ -58,6 +58,18 @@ impl Reach {
             self.shut_team(rt);
         } else {
             self.shut(rt, Way::Own, self.number);
+        }
+    }
+
+    /// Closes where that is due.
+    pub(crate) fn close_if<R: Wait>(&mut self, rt: &R, due: bool)
+        requires stands { IsStanding self.old }
+        ensures goes { (l : LooperFacts) (start : ℕ) (so_far : List Step) → Stands l start so_far self.old → GoesOn l start so_far (ClosesIf l due) self.new }
+        ensures shut { due ≡ true → (state_of self.new.port_seat.front).shut ≡ true }
+        ensures keeps { KeepsReach self.old self.new }
+    {
+        if due {
+            self.close(rt);
         }
     }
 }

@@ -1,11 +1,12 @@
 //! What is owed to the sender of a message is paid, once the message was dispatched.
 ghost use Rattle.std.specs.Prelude.{◌≡◌};
+ghost use Rattle.ak_message.specs.Whole.{IsWhole};
 ghost use Rattle.ak_diary.specs.Turns.{is_no_reply};
 ghost use Rattle.ak_looper.specs.Debts.{IsDebt, IsPayable, IsBackDebt, IsSlotDebt};
 
 use crate::reach::Reach;
-use ak_base::{Bytes, Code};
-use ak_flatten::{Duty, Item, flatten};
+use ak_base::{Bytes, Code, codes_are_named};
+use ak_flatten::{Duty, Item, flatten, written_is_read};
 use ak_message::{Address, Message};
 use ak_port::{fill, fill_none};
 use std::alloc::Global;
@@ -32,8 +33,10 @@ pub(crate) struct Prepared {
 
 // The message stands for no reply.
 fn is_no_reply(message: &Message) -> bool
-    ensures { result ≡ is_no_reply message.now }
+    ensures none { result ≡ is_no_reply message.now }
+    ensures whole { IsWhole message.now }
 {
+    codes_are_named();
     message.what() == Code::NO_REPLY && message.count_names() == 0
 }
 
@@ -42,6 +45,7 @@ fn for_slot(alloc: Global, slot: u64, reply: &Message) -> Prepared
     ensures debt { IsSlotDebt slot reply.now result.lacked result.debt }
     ensures payable { IsPayable result.debt }
 {
+    written_is_read();
     if is_no_reply(reply) {
         return Prepared {
             debt: Debt::NoReply { slot },

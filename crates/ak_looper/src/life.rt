@@ -1,11 +1,11 @@
 //! A looper's thread from its start to its end.
 ghost use Rattle.std.specs.VecDeque.{deque_len, deque_capacity};
-ghost use Rattle.std.specs.Prelude.{◌≡◌, ◌≢◌, ◌-◌, ◌||◌, ℕ, true, List, IfNone, IfSome};
+ghost use Rattle.std.specs.Prelude.{◌≡◌, ◌≢◌, ◌-◌, ◌&&◌, ◌||◌, not, ℕ, true, List, IfNone, IfSome};
 ghost use Rattle.ak_port.specs.PortMachine.{state_of};
 ghost use Rattle.ak_turn.specs.Called.{KeepsSeat};
 ghost use Rattle.ak_diary.specs.Looper.{LooperFacts, is_closing};
 ghost use Rattle.ak_diary.specs.Step.{Step};
-ghost use Rattle.ak_diary.specs.Turns.{LeavesAll};
+ghost use Rattle.ak_diary.specs.Turns.{LeavesAll, LeavesOne};
 ghost use Rattle.ak_looper.specs.Carrying.{IsDeskOf};
 ghost use Rattle.ak_looper.specs.Job.{BeginsSo, EndsSo, HasLived, IsReady};
 ghost use Rattle.ak_looper.specs.Living.{CanWork, ComesTo, GoesOnWorking, HasInHand, HasRestedSo, HasSettled, HasStopped, IsWorking, Later, after_of};
@@ -39,6 +39,27 @@ fn after(short: bool, closing: bool) -> After
     }
 }
 
+// A closing is due before the payment.
+fn is_due(quit: bool, no_memory: bool, lacked: bool) -> bool
+    ensures { result ≡ (quit || no_memory || lacked) }
+{
+    quit || no_memory || lacked
+}
+
+// It is due behind a payment that found no memory, where it was not before.
+fn is_due_late(due: bool, paid: bool) -> bool
+    ensures { result ≡ (not paid && not due) }
+{
+    !paid && !due
+}
+
+// What follows the payment.
+fn after_payment(no_memory: bool, lacked: bool, due: bool, paid: bool) -> After
+    ensures { result ≡ after_of (no_memory || lacked || not paid) (due || not paid) }
+{
+    after(no_memory || lacked || !paid, due || !paid)
+}
+
 // Pays what is owed for a message that was dispatched, and closes before that where that is due: after the quit mark, and
 // after want of memory. Where memory is wanting only for the payment, it closes after it.
 fn settle<R: Wait>(alloc: Global, rt: &R, reach: &mut Reach, owed: Duty, made: Made) -> After
@@ -54,15 +75,23 @@ fn settle<R: Wait>(alloc: Global, rt: &R, reach: &mut Reach, owed: Duty, made: M
         forwarded: _,
     } = made;
     let Prepared { debt, lacked } = prepare(alloc, reach.team, owed, reply);
-    let due = quit || no_memory || lacked;
-    if due {
-        reach.close(rt);
-    }
+    let due = is_due(quit, no_memory, lacked);
+    reach.close_if(rt, due);
     let paid = reach.pay(rt, debt);
-    if !paid && !due {
-        reach.close(rt);
+    let late = is_due_late(due, paid);
+    reach.close_if(rt, late);
+    after_payment(no_memory, lacked, due, paid)
+}
+
+// The sender of an item gets no reply, where it waits for one.
+fn leave_one<R: Wait>(rt: &R, reach: &mut Reach, owed: Duty)
+    ensures goes { (l : LooperFacts) (start : ℕ) (so_far : List Step) → Stands l start so_far reach.old → GoesOn l start so_far (LeavesOne owed) reach.new }
+    ensures keeps { KeepsReach reach.old reach.new }
+{
+    match owed {
+        Duty::Slot(slot) => reach.fill_with_none(rt, slot),
+        Duty::None | Duty::Back(_) => {}
     }
-    after(no_memory || lacked || !paid, due || !paid)
 }
 
 // Each waiting sender of what is left gets no reply.
@@ -71,9 +100,7 @@ fn leave_all<R: Wait>(rt: &R, reach: &mut Reach, left: VecDeque<Taken>)
     ensures keeps { KeepsReach reach.old reach.new }
 {
     for taken in left {
-        if let Duty::Slot(slot) = taken.item.duty() {
-            reach.fill_with_none(rt, slot);
-        }
+        leave_one(rt, reach, taken.item.duty());
     }
 }
 

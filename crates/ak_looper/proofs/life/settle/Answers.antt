@@ -1,0 +1,23 @@
+-- The closing where it is due, the payment, and the late closing, one after another.
+use Rattle.ak_looper.proofs.ClosingSteps.{keeps_then}
+use Rattle.ak_looper.proofs.Settling.{ended_shut, settles}
+use Rattle.ak_looper.proofs.life.settle.Goals as goal
+
+pub returns-clause-settled : goal.returns-clause-settled
+returns-clause-settled g c =
+    let ready = c.prepare-debt in
+    settles c.args.owed c.args.made ready.result.lacked c.pay-paid.result ready.result.debt c.args.reach.now c.close_if.new.self c.pay-paid.new.self c.close_if-2.new.self
+    c.is_due-due.result c.is_due_late-late.result c.after_payment.result c.is_due-due.ensures c.is_due_late-late.ensures ready.ensures.debt
+    c.close_if.ensures.goes c.pay-paid.ensures.goes c.close_if-2.ensures.goes c.after_payment.ensures
+
+pub returns-clause-shut : goal.returns-clause-shut
+returns-clause-shut g c =
+    let ready = c.prepare-debt in
+    ended_shut c.args.made ready.result.lacked ready.result.debt c.args.reach.now c.close_if.new.self c.pay-paid.new.self c.close_if-2.new.self
+    c.is_due-due.result c.pay-paid.result c.is_due_late-late.result c.after_payment.result c.is_due-due.ensures c.is_due_late-late.ensures c.requires.stands
+    c.close_if.ensures.goes c.pay-paid.ensures.goes c.close_if-2.ensures.goes c.close_if-2.ensures.shut c.after_payment.ensures
+
+pub returns-clause-keeps : goal.returns-clause-keeps
+returns-clause-keeps g c =
+    keeps_then c.args.reach.now c.pay-paid.new.self c.close_if-2.new.self
+    (keeps_then c.args.reach.now c.close_if.new.self c.pay-paid.new.self c.close_if.ensures.keeps c.pay-paid.ensures.keeps) c.close_if-2.ensures.keeps
