@@ -1,11 +1,11 @@
 -- The way to a looper's port: the thread has it already, gets a new door, or finds no memory for one.
-use Rattle.std.proofs.Common.{◌≡◌, ◌≢◌, ℕ, ◌<◌, Bool, true, List, [], ◌∷◌, ◌++◌, cond, length, map, get_or, position, All, AllPairs, Contains, Some, ◌==◌, refl, sym, ap, ◌∙◌, subst, append-nil, ne_eqb}
-use Rattle.std.specs.Prelude.{option_map, slice_get, if◌then◌else◌}
+use Rattle.std.proofs.Common.{◌≡◌, ◌≢◌, ℕ, ◌<◌, Bool, true, List, [], ◌∷◌, ◌++◌, cond, length, map, get_or, position, All, AllPairs, Contains, Some, Result, Ok, Err, ◌==◌, refl, sym, ap, ◌∙◌, subst, append-nil, ne_eqb, arith}
+use Rattle.std.specs.Prelude.{OnErr, option_map, slice_get, if◌then◌else◌}
 use Rattle.std.specs.Arc.{arc_value}
 use Rattle.std.proofs.lemmas.Bool.{eqb-true}
-use Rattle.std.proofs.lemmas.List.{map-append}
+use Rattle.std.proofs.lemmas.List.{length-map, map-append}
 use Rattle.std.proofs.lemmas.List.Concat.{flat_map-append}
-use Rattle.std.proofs.lemmas.List.Elements.{All-contains, All-cons, All-head, All-nil, All-tail}
+use Rattle.std.proofs.lemmas.List.Elements.{All-contains, All-cons, All-head, All-nil, All-push, All-tail}
 use Rattle.std.proofs.lemmas.List.Quantifiers.{all_pairs_push, position-Some}
 use Rattle.std.proofs.lemmas.Option.{slice_get-get_or, slice_get-map}
 use Rattle.ak_base.proofs.Surface.{position-map}
@@ -89,6 +89,9 @@ module _ (looper : ℕ) (doors : List (ℕ × Door)) (place : ℕ) (found : posi
       let ns : List ℕ = map (λ (door : ℕ × Door). door.0) doors in
       sym (slice_get-map (λ (door : ℕ × Door). door.0) doors place) ∙ slice_get-get_or ns place looper stands_at.0 ∙ ap Some stands_at.1
 
+  pub within_doors : place < length doors
+  within_doors = omega (arith, stands_at.0, length-map doors (λ (door : ℕ × Door). door.0))
+
 pub way_is_through : (l : LooperFacts) (start : ℕ) (so_far : List Step) (r : Reach) (looper place : ℕ) → position (λ door. door.0 == looper) r.doors.items ≡ Some place → Stands l start so_far r → GoesOn l start so_far (Opens l so_far looper) r
 way_is_through l start so_far r looper place found stands =
     let at = stands_at looper r.doors.items place found in
@@ -150,3 +153,25 @@ module _ (l : LooperFacts) (start : ℕ) (so_far : List Step) (r r' : Reach) (lo
         stands = stands_with l start so_far steps r r' stands same (entered_goes r.hands.clock r'.hands.clock (event.Door looper) r.roster_seat r'.roster_seat made) ((looper, door) ∷ []) items
             (All-cons (DoorStands (so_far ++ steps) r'.roster_seat) (looper, door) [] it (All-nil (DoorStands (so_far ++ steps) r'.roster_seat))) refl apart_still;
       }
+
+-- the new door is the last one
+at_seam : {X : Type 0} (xs : List X) (x : X) → slice_get (xs ++ x ∷ []) (length xs) ≡ Some x
+at_seam [] x = refl
+at_seam (y ∷ xs) x = at_seam xs x
+
+pub last_there : (doors doors' : List (ℕ × Door)) (place looper : ℕ) (door : Door) → doors' ≡ doors ++ (looper, door) ∷ [] → place ≡ length doors → option_map (λ (d : ℕ × Door). d.0) (slice_get doors' place) ≡ Some looper
+last_there doors doors' place looper door items is =
+    ap (λ (ds : List (ℕ × Door)). option_map (λ (d : ℕ × Door). d.0) (slice_get ds place)) items ∙ ap (λ (n : ℕ). option_map (λ (d : ℕ × Door). d.0) (slice_get (doors ++ (looper, door) ∷ []) n)) is
+    ∙ ap (option_map (λ (d : ℕ × Door). d.0)) (at_seam doors (looper, door))
+
+-- and of the same thread
+pub threads_push : (thread thread' : ℕ) (doors doors' : List (ℕ × Door)) (looper : ℕ) (door : Door) → thread' ≡ thread → doors' ≡ doors ++ (looper, door) ∷ [] → All (λ (d : ℕ × Door). d.1.port_seat.thread ≡ thread) doors → door.port_seat.thread ≡ thread'
+    → All (λ (d : ℕ × Door). d.1.port_seat.thread ≡ thread') doors'
+threads_push thread thread' doors doors' looper door same items all is =
+    subst (λ (ds : List (ℕ × Door)). All (λ (d : ℕ × Door). d.1.port_seat.thread ≡ thread') ds) (sym items)
+    (All-push (λ (d : ℕ × Door). d.1.port_seat.thread ≡ thread') doors (looper, door) (subst (λ (t : ℕ). All (λ (d : ℕ × Door). d.1.port_seat.thread ≡ t) doors) (sym same) all) is)
+
+-- what holds, holds where memory was wanting
+pub on_err : {A E : Type 0} (r : Result A E) (P : Type 0) → P → OnErr r P
+on_err (Ok x) P h = tt
+on_err (Err e) P h = h
