@@ -13,7 +13,7 @@ use ak_flatten::Item;
 use ak_message::{Address, Message};
 use ak_messenger::Hands;
 use ak_port::{Port, PortBook};
-use ak_roster::RosterBook;
+use ak_roster::{RosterBook, holders_are_told, loopers_are_of_their_teams, seats_tell_strangers};
 use ak_turn::Seat;
 use std::alloc::Global;
 use std::sync::{Arc, Wait};
@@ -134,6 +134,9 @@ impl Reach {
         ensures way { IfOk result (λ way. IsWay looper way self.new) }
         ensures keeps { KeepsReach self.old self.new }
     {
+        holders_are_told();
+        seats_tell_strangers::<KeptDoor>();
+        loopers_are_of_their_teams();
         self.doors.reserve(1)?;
         let door = get_door(
             &self.roster,

@@ -92,7 +92,10 @@ fn try_door<R: Wait>(
 {
     let mut turn = roster.lock(rt, seat);
     clock.ready(rt);
-    let door = turn.book().grant(looper, clock);
+    let kept = turn.book();
+    // Reading the descriptions shows that the list is a roster's.
+    let _ = kept.heads();
+    let door = kept.grant(looper, clock);
     turn.finish(seat);
     door
 }
