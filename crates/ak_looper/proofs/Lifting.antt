@@ -1,28 +1,23 @@
 -- What a thread did at one port, and at the book for it, as it then stands as a whole.
-use Rattle.std.proofs.Common.{◌≡◌, ◌≢◌, ◌<◌, ℕ, suc, Bool, true, false, List, [], ◌∷◌, ◌++◌, length, map, set, get_or, All, AllPairs, Any, Contains, Option, Some, None, option_map, slice_get, flat_map, cond, refl, sym, ap, ◌∙◌, subst, append-nil, inl, inr, ⊎_elim, ne_eqb, arith, length-set}
+use Rattle.std.proofs.Common.{◌≡◌, ◌≢◌, ◌<◌, ℕ, suc, Bool, List, [], ◌∷◌, ◌++◌, length, map, set, get_or, All, AllPairs, Any, Contains, Option, Some, None, option_map, slice_get, flat_map, cond, refl, sym, ap, ◌∙◌, subst, append-nil, ⊎_elim, ne_eqb, arith, length-set}
 use Rattle.std.proofs.lemmas.Bool.{cases_eq, cases_lt}
 use Rattle.std.proofs.lemmas.List.{get_or-map, get_or_default, get_or-set_other, get_or-set_same, length-map, map-set, set-get_or}
 use Rattle.std.proofs.lemmas.List.Concat.{flat_map-append}
 use Rattle.std.proofs.lemmas.List.Elements.{All-append, All-head, All-tail, All-weaker, Contains-append_right, Contains-get_or}
 use Rattle.std.proofs.lemmas.Option.{same_Some, slice_get-get_or, slice_get_within}
-use Rattle.ak_turn.specs.declared.clock.Clock.{Clock}
 use Rattle.ak_turn.specs.Entries.{StartsWith}
 use Rattle.ak_turn.specs.Noted.{Noted, noted}
 use Rattle.ak_turn.specs.Seats.{LockId}
-use Rattle.ak_roster.specs.declared.entry.RosterEntry.{RosterEntry}
 use Rattle.ak_port.specs.declared.port_entry.PortEntry.{PortEntry}
 use Rattle.ak_port.specs.declared.reply_entry.ReplyEntry.{ReplyEntry}
-use Rattle.ak_port.specs.PortCalls as ports
 use Rattle.ak_port.specs.PortCalls.{PortSeat}
-use Rattle.ak_port.specs.ReplySeats as books
-use Rattle.ak_port.specs.ReplySeats.{ReplySeat}
 use Rattle.ak_desk.specs.Shared as desks
 use Rattle.ak_desk.specs.Shared.{DeskSeat}
 use Rattle.ak_diary.specs.Looper.{LooperFacts, door_got, doors_got}
-use Rattle.ak_diary.specs.Step.{Step, at_roster, at_book, at_port, at_desk, saw_roster, saw_book, saw_port, lacked, AreStamped, book_entries, book_entry, book_sight, book_sights, port_entries, port_entry, port_sight, port_sights, roster_entries, roster_entry, roster_sight, roster_sights, time_of}
+use Rattle.ak_diary.specs.Step.{Step, at_roster, at_book, at_port, at_desk, saw_roster, saw_book, saw_port, lacked, AreStamped, book_entries, book_entry, book_sight, book_sights, port_entries, port_entry, port_sight, port_sights, roster_entry, roster_sight, time_of}
 use Rattle.ak_looper.specs.declared.door.Door.{Door}
 use Rattle.ak_looper.specs.declared.reach.Reach.{Reach}
-use Rattle.ak_looper.specs.Rosters.{LeadsTo, RosterSeat, maker_of, plain_of}
+use Rattle.ak_looper.specs.Rosters.{LeadsTo, RosterSeat, plain_of}
 use Rattle.ak_looper.specs.Side.{IsOnSide, Side, SideDoes, SideGoes, side}
 use Rattle.ak_looper.specs.Stands.{BookStands, DoorStands, GoesOn, IsAtOneOf, PortStands, RosterStands, Stands, StartsTeam, doors_kept, numbers_of}
 use Rattle.ak_looper.proofs.Sides.{seen_still, stamped_behind, time_behind}

@@ -1,5 +1,5 @@
 -- What was sent at a port, and at the book for it, as steps of the thread, by what the call answered.
-use Rattle.std.proofs.Common.{◌≡◌, ◌⊎◌, ◌↔◌, ◌<◌, ℕ, Bool, true, false, List, [], ◌∷◌, ◌++◌, length, Any, IfOk, IsErrOf, Result, Ok, Err, Option, None, Some, refl, sym, ap, ◌∙◌, subst, inl, inr, ⊎_elim}
+use Rattle.std.proofs.Common.{◌≡◌, ◌⊎◌, ◌↔◌, ◌<◌, ℕ, Bool, true, false, List, [], ◌∷◌, ◌++◌, length, Any, IfOk, IsErrOf, Result, Ok, Err, Option, None, Some, refl, sym, subst, inl, inr, ⊎_elim}
 use Rattle.std.proofs.lemmas.List.Elements.{Contains-push_cases}
 use Rattle.ak_message.specs.declared.address.Address.{Address}
 use Rattle.ak_message.specs.Message.{MessageData}
@@ -9,10 +9,8 @@ use Rattle.ak_flatten.specs.Item.{ItemData, spelled}
 use Rattle.ak_flatten.specs.Limits.{flat_limit}
 use Rattle.ak_flatten.specs.Spelling.{spelling}
 use Rattle.ak_turn.specs.declared.clock.Clock.{Clock}
-use Rattle.ak_turn.specs.Noted.{Noted}
 use Rattle.ak_port.specs.declared.port_entry.CloseAnswer.{CloseAnswer}
 use Rattle.ak_port.specs.declared.port_entry.CloseAnswer.TheVariants as closed
-use Rattle.ak_port.specs.declared.port_entry.PortEntry.{PortEntry}
 use Rattle.ak_port.specs.declared.port_entry.PortEvent.{PortEvent}
 use Rattle.ak_port.specs.declared.port_entry.PortEvent.TheVariants as event
 use Rattle.ak_port.specs.declared.port_entry.WriteAnswer.{WriteAnswer}
@@ -20,7 +18,6 @@ use Rattle.ak_port.specs.declared.port_entry.WriteAnswer.TheVariants as written
 use Rattle.ak_port.specs.declared.reply_entry.FillAnswer.{FillAnswer}
 use Rattle.ak_port.specs.declared.reply_entry.FillAnswer.TheVariants as filling
 use Rattle.ak_port.specs.declared.reply_entry.ReplyEntry.{ReplyEntry}
-use Rattle.ak_port.specs.declared.reply_entry.ReplyEvent.{ReplyEvent}
 use Rattle.ak_port.specs.declared.reply_entry.ReplyEvent.TheVariants as slot_event
 use Rattle.ak_port.specs.PortCalls as ports
 use Rattle.ak_port.specs.PortCalls.{IsFull, PortSeat, close_entry, write_entry}
@@ -28,7 +25,7 @@ use Rattle.ak_port.specs.PortMachine.{state_of}
 use Rattle.ak_port.specs.Reply.{FillsWith}
 use Rattle.ak_port.specs.ReplySeats as books
 use Rattle.ak_port.specs.ReplySeats.{HasEnteredBook, HasFoundSettled, ReplySeat}
-use Rattle.ak_messenger.specs.Asks.{AskTells, HasAsked, HasClosed, HasConversed, HasGivenUp, HasLackedMemory, IsUntouched, IsWritten}
+use Rattle.ak_messenger.specs.Asks.{AskTells, HasAsked, HasClosed, HasConversed, HasGivenUp, HasLackedMemory, IsUntouched}
 use Rattle.ak_messenger.specs.Asks as asks
 use Rattle.ak_messenger.specs.Sends.{back_duty, item_in, post_event}
 use Rattle.ak_messenger.specs.declared.asking.Reply.{Reply}
@@ -42,7 +39,7 @@ use Rattle.ak_diary.specs.Turns as turns
 use Rattle.ak_diary.specs.Wants.{AsksFor, AsksInVain, AsksSo, Cancels, Converses, EntersPort, ForwardsSo, IsRefusedBy, IsTooLong, PostsAs, PostsSo, Withdraws, owed_to, sent_item}
 use Rattle.ak_diary.specs.Wants as wants
 use Rattle.ak_looper.specs.Heard.{RepliedSo, heard_ask, heard_post, heard_write, is_posted}
-use Rattle.ak_looper.specs.Side.{Side, SideDoes, SideGoes, side}
+use Rattle.ak_looper.specs.Side.{SideDoes, SideGoes, side}
 use Rattle.ak_looper.proofs.Sides.{does_as, goes_at_book, goes_at_port, goes_lacking, goes_nothing, goes_seeing_book, goes_seeing_port, goes_then, looks, noted_in_book, noted_there, stays}
 
 -- ---- at the port

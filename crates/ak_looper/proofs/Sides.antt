@@ -1,5 +1,5 @@
 -- What a thread did at the book and at one port, by no step, by one, and by steps behind others.
-use Rattle.std.proofs.Common.{◌≡◌, ℕ, Bool, true, false, List, [], ◌∷◌, ◌++◌, length, All, Option, Some, None, cond, refl, sym, ap, ◌∙◌, subst, append_assoc, append-nil, eq-eqb}
+use Rattle.std.proofs.Common.{◌≡◌, ℕ, Bool, false, List, [], ◌∷◌, ◌++◌, length, All, Option, Some, None, cond, refl, sym, ap, ◌∙◌, subst, append_assoc, append-nil, eq-eqb}
 use Rattle.std.proofs.lemmas.List.Concat.{flat_map-append}
 use Rattle.std.proofs.lemmas.List.Elements.{All-append, All-cons, All-nil, All-weaker}
 use Rattle.ak_turn.specs.declared.clock.Clock.{Clock}
@@ -16,7 +16,7 @@ use Rattle.ak_port.specs.PortCalls as ports
 use Rattle.ak_port.specs.PortCalls.{PortSeat}
 use Rattle.ak_port.specs.ReplySeats as books
 use Rattle.ak_port.specs.ReplySeats.{ReplySeat}
-use Rattle.ak_diary.specs.Step.{Step, at_book, at_port, saw_book, saw_port, lacked, AreStamped, IsStamped, book_entries, book_entry, book_sight, book_sights, port_entries, port_entry, port_sight, port_sights, time_after, time_of}
+use Rattle.ak_diary.specs.Step.{Step, at_book, at_port, saw_book, saw_port, lacked, AreStamped, book_entries, book_entry, book_sight, book_sights, port_entries, port_entry, port_sight, port_sights, time_after, time_of}
 use Rattle.ak_looper.specs.Side.{Side, SideDoes, SideGoes, IsOnSide, side}
 
 -- ---- stamps of steps behind others
