@@ -2,7 +2,6 @@
 use Rattle.std.proofs.Common.{◌≡◌, ℕ, ◌+◌, ◌≤◌, ◌==◌, Bool, true, false, cond, List, [], ◌∷◌, ◌++◌, refl, sym, ap, ◌∙◌, subst, append_assoc, append-nil, map-id, arith}
 use Rattle.std.specs.List.{range_with_len}
 use Rattle.std.proofs.lemmas.List.FromFn.{map-range_with_len_more}
-use Rattle.ak_base.specs.declared.thread.ThreadId.{ThreadId}
 use Rattle.ak_turn.specs.Called.{KeepsSeat}
 use Rattle.ak_turn.specs.Seats.{SeatData}
 use Rattle.ak_looper.specs.declared.reach.Reach.{Reach}
@@ -122,7 +121,7 @@ has_shut n r r' all goes l start so_far stands =
     goes_as l start so_far (ShutsAll (range_with_len l.first n)) (ShutsAll (range_with_len l.first l.loopers)) r'
     (λ s shuts. subst (λ (k : ℕ). ShutsAll (range_with_len l.first k) s) (all ∙ stands.loopers) shuts) (goes l start so_far stands)
 
--- the numbers of a team are small, and it has a looper
+-- the numbers of a team are small
 pub numbers_within : (r : Reach) → IsStanding r → r.first + r.loopers ≤ 32
 numbers_within r is =
     let s = is.stands in

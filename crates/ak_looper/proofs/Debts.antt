@@ -23,8 +23,8 @@ use Rattle.ak_looper.specs.Debts.{IsDebt, PaysBack, PaysDebt}
 use Rattle.ak_looper.specs.Heard.{RepliedSo}
 use Rattle.ak_diary.specs.Looper.{LooperFacts, calls_for_closing, has_door, is_closing}
 use Rattle.ak_diary.specs.Step.{Step, at_roster, at_book, at_port, saw_book, lacked, is_lack, ran_short}
-use Rattle.ak_diary.specs.Turns.{Fills, LacksWay, Pays, PostsBack, RepliesBack, TriesBack, WritesText, is_no_reply, lacked_if, wants_text, with_memory, without}
-use Rattle.ak_diary.specs.Wants.{GetsDoor, Opens, OpensFor, Through, sent_item}
+use Rattle.ak_diary.specs.Turns.{Fills, Pays, PostsBack, RepliesBack, TriesBack, WritesText, is_no_reply, lacked_if, wants_text, with_memory, without}
+use Rattle.ak_diary.specs.Wants.{OpensFor, Through, sent_item}
 
 -- ---- texts
 -- what is written of a whole message that is not too long is a flat text

@@ -13,8 +13,8 @@ use Rattle.ak_looper.specs.declared.door.Door.{Door}
 use Rattle.ak_looper.specs.declared.reach.Reach.{Reach}
 use Rattle.ak_looper.specs.Rosters.{RosterSeat, plain_of}
 use Rattle.ak_looper.specs.Stands.{BookStands, DoorStands, IsAtOneOf, PortStands, RosterStands, Stands, doors_kept, numbers_of}
-use Rattle.ak_diary.specs.Looper.{LooperFacts, door_got, doors_got}
-use Rattle.ak_diary.specs.Step.{Step, lacked, AreStamped, IsStamped, time_after, time_of, book_entry, book_sight, port_entry, port_sight, roster_entry, roster_sight}
+use Rattle.ak_diary.specs.Looper.{LooperFacts, door_got}
+use Rattle.ak_diary.specs.Step.{Step, lacked, AreStamped, time_after, time_of, book_entry, book_sight, port_entry, port_sight, roster_entry, roster_sight}
 use Rattle.ak_diary.specs.Turns.{lacked_if}
 
 -- ---- steps in two parts

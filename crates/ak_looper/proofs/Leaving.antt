@@ -1,5 +1,5 @@
 -- Item after item each waiting sender of what is left gets no reply.
-use Rattle.std.proofs.Common.{◌≡◌, ℕ, List, [], ◌∷◌, ◌++◌, refl, sym, ap, ◌∙◌, subst, append_assoc, append-nil}
+use Rattle.std.proofs.Common.{ℕ, List, [], ◌∷◌, ◌++◌, refl, sym, subst, append_assoc, append-nil}
 use Rattle.ak_flatten.specs.declared.item.Taken.{Taken}
 use Rattle.ak_looper.specs.declared.reach.Reach.{Reach}
 use Rattle.ak_looper.specs.Stands.{GoesOn, Stands}

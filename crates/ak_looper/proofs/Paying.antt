@@ -1,5 +1,5 @@
 -- What is owed is paid through a door, or there is no memory for it.
-use Rattle.std.proofs.Common.{◌≡◌, ℕ, Bool, true, false, List, [], ◌∷◌, ◌++◌, refl, sym, ap, ◌∙◌, subst, append_assoc, inl, inr}
+use Rattle.std.proofs.Common.{◌≡◌, ℕ, Bool, true, false, List, [], ◌∷◌, ◌++◌, refl, sym, ap, subst, append_assoc, inl, inr}
 use Rattle.ak_message.specs.declared.address.Address.{Address}
 use Rattle.ak_flatten.specs.Item.{ItemData}
 use Rattle.ak_looper.specs.declared.reach.Reach.{Reach}

@@ -1,8 +1,6 @@
 -- What follows a dispatch: the text of the reply, the closing where it is due, the payment, and the closing that this alone calls for.
-use Rattle.std.proofs.Common.{◌≡◌, ◌≢◌, ℕ, Bool, true, false, not, ◌&&◌, ◌||◌, List, [], ◌∷◌, ◌++◌, Option, None, Some, refl, sym, ap, ◌∙◌, subst, append_assoc, append-nil, inl, inr, true≢false}
-use Rattle.std.specs.List.{flat_map, list_any}
+use Rattle.std.proofs.Common.{◌≡◌, ◌≢◌, ℕ, Bool, true, false, not, ◌&&◌, ◌||◌, List, [], ◌∷◌, ◌++◌, refl, sym, ap, ◌∙◌, subst, append_assoc, inl, inr, true≢false}
 use Rattle.std.proofs.lemmas.List.Folds.{list_any-append}
-use Rattle.ak_message.specs.Message.{MessageData}
 use Rattle.ak_flatten.specs.declared.item.Duty.{Duty}
 use Rattle.ak_desk.specs.declared.made.Made.{Made}
 use Rattle.ak_looper.specs.declared.at_work.After.{After}
@@ -14,7 +12,7 @@ use Rattle.ak_looper.specs.Living.{HasSettled, after_of}
 use Rattle.ak_looper.specs.Stands.{GoesOn, IsStanding, Stands}
 use Rattle.ak_diary.specs.Looper.{LooperFacts, calls_for_closing, closed_by, is_closing, is_own}
 use Rattle.ak_diary.specs.Step.{Step, at_roster, at_port, saw_roster, saw_port, ran_short}
-use Rattle.ak_diary.specs.Turns.{Closes, ClosesIf, LeavesRoster, Shuts, ShutsAll, lacked_if}
+use Rattle.ak_diary.specs.Turns.{ClosesIf, LeavesRoster, Shuts, ShutsAll, lacked_if}
 use Rattle.ak_looper.proofs.Debts.{CallsFor, calls_append, calls_as, calls_if, calls_none, pays_calls, pays_of, told_of, writes_of}
 use Rattle.ak_looper.proofs.Lacking.{stands_if}
 use Rattle.ak_looper.proofs.Shutting.{IsShut, closed_stays_shut}
@@ -40,10 +38,6 @@ closes_calls l true steps closes =
     calls_as false steps (closes.gone ++ closes.shut) closes.is
     (calls_append false false closes.gone closes.shut (leaves_calls l (is_own l) closes.gone closes.leaves) (shuts_all_calls (closed_by l) closes.shut closes.shuts))
 closes_calls l false steps is = calls_as false steps [] is calls_none
-
--- ---- a closing where it is due
-pub closes_none : (l : LooperFacts) (start : ℕ) (so_far : List Step) (r : Reach) → Stands l start so_far r → GoesOn l start so_far (ClosesIf l false) r
-closes_none l start so_far r stands = record { steps = []; does = refl; stands = subst (λ (s : List Step). Stands l start s r) (sym (append-nil so_far)) stands }
 
 -- ---- tests
 or_false : (a : Bool) → (a || false) ≡ a

@@ -1,5 +1,5 @@
 -- An application's own looper has a way to each looper of its team.
-use Rattle.std.proofs.Common.{◌≡◌, ◌≢◌, ℕ, ◌+◌, ◌-◌, ◌<◌, ◌≤◌, ◌==◌, Bool, true, false, cond, List, [], ◌++◌, length, map, get_or, position, slice_get, option_map, Option, None, Some, refl, sym, ap, ◌∙◌, subst, eq-eqb, eqb-true, ltb-false, nat_lt, length-append, true≢false, arith}
+use Rattle.std.proofs.Common.{◌≡◌, ◌≢◌, ℕ, ◌+◌, ◌-◌, ◌<◌, ◌≤◌, ◌==◌, Bool, true, false, cond, List, [], ◌++◌, length, map, get_or, position, slice_get, option_map, None, Some, refl, sym, ap, ◌∙◌, subst, eq-eqb, eqb-true, ltb-false, nat_lt, length-append, true≢false, arith}
 use Rattle.std.specs.List.{position_or_len, range_with_len}
 use Rattle.std.proofs.lemmas.List.{get_or_append_left, length-map}
 use Rattle.std.proofs.lemmas.List.FromFn.{get_or-range_with_len, length-range_with_len}
@@ -9,12 +9,9 @@ use Rattle.std.proofs.lemmas.Option.{slice_get-get_or, slice_get-map}
 use Rattle.ak_base.proofs.Surface.{position-map}
 use Rattle.ak_looper.specs.declared.door.Door.{Door}
 use Rattle.ak_looper.specs.declared.reach.Reach.{Reach}
-use Rattle.ak_looper.specs.declared.reach.Way.TheVariants as way
 use Rattle.ak_looper.specs.Closing.{IsOfItsTeam}
-use Rattle.ak_looper.specs.Stands.{IsStanding, Stands, doors_kept, numbers_of}
-use Rattle.ak_looper.specs.Ways.{IsWay}
-use Rattle.ak_diary.specs.Looper.{LooperFacts, doors_got, is_own}
-use Rattle.ak_diary.specs.Step.{Step}
+use Rattle.ak_looper.specs.Stands.{IsStanding, doors_kept, numbers_of}
+use Rattle.ak_diary.specs.Looper.{LooperFacts, doors_got}
 
 -- ---- a place in a list of numbers
 no_place : (b : Bool) (n : ℕ) → cond b (Some n) None ≡ None → b ≡ false

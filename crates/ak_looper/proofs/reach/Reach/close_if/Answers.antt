@@ -2,8 +2,6 @@
 use Rattle.std.proofs.Common.{Bool, sym, subst}
 use Rattle.ak_diary.specs.Turns.{ClosesIf}
 use Rattle.ak_looper.specs.Stands.{GoesOn}
-use Rattle.ak_looper.proofs.ClosingSteps.{keeps_same}
-use Rattle.ak_looper.proofs.Settling.{closes_none}
 use Rattle.ak_looper.proofs.reach.Reach.close_if.Goals as goal
 
 pub returns-then-due-clause-goes : goal.returns-then-due-clause-goes

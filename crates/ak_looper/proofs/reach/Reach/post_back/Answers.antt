@@ -15,4 +15,4 @@ returns-in-Err-clause-goes g c l start so_far stands =
     pays_without_door l start so_far c.args.to c.args.item c.way_to.new.self (c.in-Err.ensures.lacks l start so_far stands)
 
 pub reply-requires : goal.reply-requires
-reply-requires g c = c.in-Ok.ensures.way
+reply-requires g c = record { way = c.in-Ok.ensures.way }
