@@ -45,4 +45,4 @@ returns-clause-goes g c l start so_far stands =
     (no_number c.args.looper r.doors.items c.requires.without) door.port_of door.desk_of
 
 pub returns-clause-way : goal.returns-clause-way
-returns-clause-way g c = (omega arith, last_there c.reserve.new.self.items c.push_reserved.new.self.items c.len-place.result c.args.looper c.in_ok-door.door c.push_reserved.ensures.items (omega arith))
+returns-clause-way g c = (omega arith, last_there c.reserve.new.self.items c.push_reserved.new.self.items c.len-place.result c.args.looper c.in_ok-door.door c.push_reserved.ensures.items (omega arith), c.requires.other)

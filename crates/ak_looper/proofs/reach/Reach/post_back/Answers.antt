@@ -14,5 +14,3 @@ pub returns-in-Err-clause-goes : goal.returns-in-Err-clause-goes
 returns-in-Err-clause-goes g c l start so_far stands =
     pays_without_door l start so_far c.args.to c.args.item c.way_to.new.self (c.in-Err.ensures.lacks l start so_far stands)
 
-pub reply-requires : goal.reply-requires
-reply-requires g c = record { way = c.in-Ok.ensures.way }

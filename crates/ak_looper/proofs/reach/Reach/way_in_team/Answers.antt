@@ -10,4 +10,5 @@ unreachable-requires c =
 pub returns : goal.returns
 returns c =
     let doors = c.args.self.now.doors in
-    way_through c.args.looper c.in-Some.place doors.len doors.items doors.ok.0 (sym c.place_of.ensures ∙ c.in-Some.is)
+    let way = way_through c.args.looper c.in-Some.place doors.len doors.items doors.ok.0 (sym c.place_of.ensures ∙ c.in-Some.is) in
+    (way.0, way.1, c.if-looper-self.false)

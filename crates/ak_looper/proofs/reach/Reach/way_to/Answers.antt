@@ -9,4 +9,4 @@ returns-in-Some-clause-goes g c l start so_far stands = way_is_through l start s
 pub returns-in-Some-clause-way : goal.returns-in-Some-clause-way
 returns-in-Some-clause-way g c =
     let found = sym c.place_of.ensures ∙ c.in-Some.is in
-    (omega (arith, within_doors c.args.looper c.args.self.now.doors.items c.in-Some.place found), there_at c.args.looper c.args.self.now.doors.items c.in-Some.place found)
+    (omega (arith, within_doors c.args.looper c.args.self.now.doors.items c.in-Some.place found), there_at c.args.looper c.args.self.now.doors.items c.in-Some.place found, c.if-looper-self.false)
