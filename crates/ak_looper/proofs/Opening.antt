@@ -164,12 +164,12 @@ last_there doors doors' place looper door items is =
     ap (λ (ds : List (ℕ × Door)). option_map (λ (d : ℕ × Door). d.0) (slice_get ds place)) items ∙ ap (λ (n : ℕ). option_map (λ (d : ℕ × Door). d.0) (slice_get (doors ++ (looper, door) ∷ []) n)) is
     ∙ ap (option_map (λ (d : ℕ × Door). d.0)) (at_seam doors (looper, door))
 
--- and of the same thread
-pub threads_push : (thread thread' : ℕ) (doors doors' : List (ℕ × Door)) (looper : ℕ) (door : Door) → thread' ≡ thread → doors' ≡ doors ++ (looper, door) ∷ [] → All (λ (d : ℕ × Door). d.1.port_seat.thread ≡ thread) doors → door.port_seat.thread ≡ thread'
-    → All (λ (d : ℕ × Door). d.1.port_seat.thread ≡ thread') doors'
-threads_push thread thread' doors doors' looper door same items all is =
-    subst (λ (ds : List (ℕ × Door)). All (λ (d : ℕ × Door). d.1.port_seat.thread ≡ thread') ds) (sym items)
-    (All-push (λ (d : ℕ × Door). d.1.port_seat.thread ≡ thread') doors (looper, door) (subst (λ (t : ℕ). All (λ (d : ℕ × Door). d.1.port_seat.thread ≡ t) doors) (sym same) all) is)
+-- and of the same thread, which is that of the seat at the roster
+pub threads_push : (thread thread' before after : ℕ) (doors kept doors' : List (ℕ × Door)) (looper : ℕ) (door : Door) → thread' ≡ thread → kept ≡ doors → doors' ≡ kept ++ (looper, door) ∷ [] → All (λ (d : ℕ × Door). d.1.port_seat.thread ≡ thread) doors → door.port_seat.thread ≡ after
+    → after ≡ before → before ≡ thread → All (λ (d : ℕ × Door). d.1.port_seat.thread ≡ thread') doors'
+threads_push thread thread' before after doors kept doors' looper door same stay items all new on of =
+    subst (λ (ds : List (ℕ × Door)). All (λ (d : ℕ × Door). d.1.port_seat.thread ≡ thread') ds) (sym (items ∙ ap (λ (ds : List (ℕ × Door)). ds ++ (looper, door) ∷ []) stay))
+    (All-push (λ (d : ℕ × Door). d.1.port_seat.thread ≡ thread') doors (looper, door) (subst (λ (t : ℕ). All (λ (d : ℕ × Door). d.1.port_seat.thread ≡ t) doors) (sym same) all) (new ∙ on ∙ of ∙ sym same))
 
 -- what holds, holds where memory was wanting
 pub on_err : {A E : Type 0} (r : Result A E) (P : Type 0) → P → OnErr r P

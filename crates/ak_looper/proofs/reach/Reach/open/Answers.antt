@@ -1,5 +1,5 @@
 -- Who has no door to a looper has no part of what it leads to, and gets one.
-use Rattle.std.proofs.Common.{◌∙◌, ℕ, List, [], ◌∷◌, ◌++◌, refl, sym, ap, arith}
+use Rattle.std.proofs.Common.{◌∙◌, ℕ, List, [], ◌∷◌, ◌++◌, refl, ap, arith}
 use Rattle.ak_base.specs.declared.thread.ThreadId.{ThreadId}
 use Rattle.ak_looper.specs.declared.door.Door.{Door}
 use Rattle.ak_looper.proofs.Kept.{no_number}
@@ -31,10 +31,9 @@ returns-in_err-door-clause-lacks g c l start so_far stands =
 pub invariant_of-self-3-clause-doors_thread : goal.invariant_of-self-3-clause-doors_thread
 invariant_of-self-3-clause-doors_thread g c =
     let r = c.args.self.now in
-    let same = ap (λ (t : ThreadId). t.0) c.get_door.ensures.clock in
-    threads_push r.hands.clock.thread.0 c.get_door.new.clock.thread.0 r.doors.items c.push_reserved.new.self.items c.args.looper c.in_ok-door.door same
-    (c.push_reserved.ensures.items ∙ ap (λ (ds : List (ℕ × Door)). ds ++ (c.args.looper, c.in_ok-door.door) ∷ []) c.reserve.ensures.items) r.doors_thread
-    (c.in_ok-door.ensures.part.new.at_port ∙ c.get_door.ensures.seat.thread ∙ r.roster_thread ∙ sym same)
+    threads_push r.hands.clock.thread.0 c.get_door.new.clock.thread.0 r.roster_seat.thread c.get_door.new.seat.thread r.doors.items c.reserve.new.self.items c.push_reserved.new.self.items c.args.looper
+    c.in_ok-door.door (ap (λ (t : ThreadId). t.0) c.get_door.ensures.clock) c.reserve.ensures.items c.push_reserved.ensures.items r.doors_thread
+    c.in_ok-door.ensures.part.new.at_port c.get_door.ensures.seat.thread r.roster_thread
 
 pub returns-clause-goes : goal.returns-clause-goes
 returns-clause-goes g c l start so_far stands =
