@@ -1,6 +1,10 @@
+pub mod AtTurn
+pub mod Carried
 pub mod ClosingSteps
 pub mod Debts
+pub mod DeskSteps
 pub mod Doors
+pub mod Going
 pub mod Granting
 pub mod Kept
 pub mod Lacking
@@ -14,6 +18,7 @@ pub mod RosterStands
 pub mod RosterSteps
 pub mod RosterTurns
 pub mod Sendings
+pub mod ServedElsewhere
 pub mod Settling
 pub mod Shutting
 pub mod Sides
@@ -21,4 +26,5 @@ pub mod Strangers
 pub mod Takes
 pub mod Tallies
 pub mod TeamWays
+pub mod ThroughDoors
 pub mod Turning

@@ -1,5 +1,6 @@
 -- How a looper's thread carries a message out while it has the turn of its desk.
 use Rattle.std.specs.Prelude.{◌≡◌, ◌≤◌, ℕ, false, List, [], ◌∷◌, ◌++◌, IsSomeAnd}
+use Rattle.ak_base.specs.Thread.{looper_thread}
 use Rattle.ak_flatten.specs.declared.item.Taken.{Taken}
 use Rattle.ak_flatten.specs.Item.{ItemData, message_of}
 use Rattle.ak_message.specs.Fields.{specifier_count}
@@ -43,7 +44,7 @@ pub record IsNext (taken : Taken) (thread : ℕ) (entries : List EntryData) : Ty
   pub position : taken.position ≡ dispatches (made_by by_number thread entries)
   pub once : gave_up (made_by by_number thread entries) ≡ false
 
--- by these steps: what it asks for, and its entry, behind those of the desk
+-- by these steps: what it asks for, and its entry, which the looper's own thread made, behind those of the desk
 pub record CarriesOut (l : LooperFacts) (so_far : List Step) (taken : Taken) (made : Made) (entries entries' : List EntryData) (steps : List Step) : Type 0 where
   pub asked : List Want
   pub heard : List Answer
@@ -53,6 +54,7 @@ pub record CarriesOut (l : LooperFacts) (so_far : List Step) (taken : Taken) (ma
   pub comes : ComesTo taken asked heard made noted
   pub before : noted.before ≡ entries
   pub grown : entries' ≡ entries ++ noted.entry ∷ []
+  pub mine : by_number noted.entry ≡ looper_thread l.number
   pub is : steps ≡ served ++ at_desk l.number noted ∷ []
 
 -- the same in one turn at a shared desk

@@ -14,7 +14,7 @@ ghost use Rattle.ak_looper.specs.Ways.{KeepsReach};
 use crate::reach::Reach;
 use ak_action::Want;
 use ak_base::NoMemory;
-use ak_desk::{Desk, Made, a_turn_dispatches, a_turn_gives_up, the_dispatches_are_its_own};
+use ak_desk::{Desk, Made, the_dispatches_are_its_own};
 use ak_flatten::Taken;
 use ak_outside::{Gate, Point};
 use ak_turn::{Seat, TurnLock};
@@ -105,10 +105,13 @@ fn carried<R: Wait>(
     ensures rest { desk.new.begun ≡ None }
     ensures keeps { KeepsReach reach.old reach.new }
 {
-    if begin(desk, taken).is_err() {
+    the_dispatches_are_its_own();
+    // Reading the handlers shows that the list leads to them.
+    let _state = desk.state();
+    let Ok(()) = begin(desk, taken) else {
         reach.hands.clock.ready(rt);
         return desk.give_up(taken, &mut reach.hands.clock);
-    }
+    };
     carry_out(alloc, rt, desk, reach, taken);
     reach.hands.clock.ready(rt);
     desk.end(&mut reach.hands.clock)
@@ -135,8 +138,6 @@ pub(crate) fn dispatch<R: Wait, G: Gate>(
     ensures seat { KeepsSeat seat.old seat.new }
     ensures keeps { KeepsReach reach.old reach.new }
 {
-    a_turn_dispatches();
-    a_turn_gives_up();
     let thread = reach.hands.clock.thread;
     let mut turn = desk.lock(rt, seat);
     gate.at(rt, thread, Point::BeforeDispatch);
