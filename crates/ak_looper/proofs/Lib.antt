@@ -11,6 +11,7 @@ pub mod Lacking
 pub mod Leaving
 pub mod Lifting
 pub mod Lives
+pub mod Nexts
 pub mod Opening
 pub mod Paying
 pub mod Quiet
