@@ -16,7 +16,6 @@ use Rattle.ak_desk.specs.declared.made.Made.{Made}
 use Rattle.ak_desk.specs.Desk.{BegunData, DeskData, EndsDispatch, GivesUp, HasDispatched, HasGivenUp, OfBegun, dispatched_entry, ended, ended_by, given_up, given_up_entry, stamp_number}
 use Rattle.ak_desk.specs.Entry.{EntryData}
 use Rattle.ak_desk.specs.Machine.{IsHistory}
-use Rattle.ak_desk.specs.Shared.{by_number}
 use Rattle.ak_diary.specs.Looper.{LooperFacts, door_got}
 use Rattle.ak_diary.specs.Step.{AreStamped, Step, at_desk, book_entry, book_sight, due, port_entry, port_sight, roster_entry, roster_sight, time_after, time_of}
 use Rattle.ak_diary.specs.Turns.{Carried, ComesTo, GivenUp}

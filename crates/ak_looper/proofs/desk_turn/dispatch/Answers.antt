@@ -1,5 +1,5 @@
 -- In its turn the message is still the next one, and its entry is the thread's own, behind all that was there.
-use Rattle.std.proofs.Common.{◌≡◌, ◌∙◌, Some, ap, sym}
+use Rattle.std.proofs.Common.{◌∙◌, Some, ap, sym}
 use Rattle.ak_base.specs.Thread.{looper_thread}
 use Rattle.ak_desk.specs.Desk.{DeskData}
 use Rattle.ak_looper.proofs.AtTurn.{desk_of, dispatched_one, keeps_seat_there, leaves_next, still_next}
