@@ -13,10 +13,9 @@ use Rattle.ak_action.specs.declared.answer.Answer.{Answer}
 use Rattle.ak_action.specs.declared.answer.Want.{Want}
 use Rattle.ak_action.specs.declared.state.DeskState.{DeskState}
 use Rattle.ak_desk.specs.declared.made.Made.{Made}
-use Rattle.ak_desk.specs.Desk.{BegunData, DeskData, EndsDispatch, GivesUp, HasDispatched, HasGivenUp, OfBegun, dispatched_entry, given_up_entry, stamp_number}
+use Rattle.ak_desk.specs.Desk.{BegunData, DeskData, EndsDispatch, GivesUp, HasDispatched, HasGivenUp, OfBegun, dispatched_entry, ended, ended_by, given_up, given_up_entry, stamp_number}
 use Rattle.ak_desk.specs.Entry.{EntryData}
 use Rattle.ak_desk.specs.Machine.{IsHistory}
-use Rattle.ak_desk.specs.Shared.{by_number}
 use Rattle.ak_diary.specs.Looper.{LooperFacts, door_got}
 use Rattle.ak_diary.specs.Step.{AreStamped, Step, at_desk, book_entry, book_sight, due, port_entry, port_sight, roster_entry, roster_sight, time_after, time_of}
 use Rattle.ak_diary.specs.Turns.{Carried, ComesTo, GivenUp}
@@ -153,17 +152,17 @@ module _ (l : LooperFacts) (start : ℕ) (so_far : List Step) (r r' : Reach) (cl
       entered b.asked b.heard n d'.entries thread (inl comes) h.grown refl refl (ap (λ (c : Clock). c.time) h.clocked)
       (subst (λ (x : ItemData). GoesOn l start so_far (ServesAll l so_far x b.asked b.heard) r) item_is served)
 
-  ended_by : (entries : List EntryData) (d d' : DeskData) (o : Option BegunData) → d.entries ≡ entries → r.hands.clock.thread.0 ≡ looper_thread r.number
+  ended_begun : (entries : List EntryData) (d d' : DeskData) (o : Option BegunData) → d.entries ≡ entries → r.hands.clock.thread.0 ≡ looper_thread r.number
       → OfBegun (λ (b : BegunData). (b.position ≡ taken.position) × (b.item ≡ taken.item)) o
       → IfSome o (EndsDispatch r.hands.clock clock d d' made)
       → OfBegun (λ (b : BegunData). GoesOn l start so_far (ServesAll l so_far b.item b.asked b.heard) r) o
       → GoesOn l start so_far (CarriesOut l so_far taken made entries d'.entries) r'
-  ended_by entries d d' None same thread is ends served = absurd is
-  ended_by entries d d' (Some b) same thread is ends served = from_same entries d'.entries d.entries same (ended_as b d d' thread is.0 is.1 ends served)
+  ended_begun entries d d' None same thread is ends served = absurd is
+  ended_begun entries d d' (Some b) same thread is ends served = from_same entries d'.entries d.entries same (ended_as b d d' thread is.0 is.1 ends served)
 
   pub ended_so : (entries : List EntryData) (d d' : DeskData) → d.entries ≡ entries → r.hands.clock.thread.0 ≡ looper_thread r.number → IsOf taken d → IfSome d.begun (EndsDispatch r.hands.clock clock d d' made)
       → HasServed l start so_far d r → GoesOn l start so_far (CarriesOut l so_far taken made entries d'.entries) r'
-  ended_so entries d d' same thread is ends served = ended_by entries d d' d.begun same thread is ends served
+  ended_so entries d d' same thread is ends served = ended_begun entries d d' d.begun same thread is ends served
 
   -- it was given up
   pub given_up_so : (entries : List EntryData) (d d' : DeskData) → d.entries ≡ entries → r.hands.clock.thread.0 ≡ looper_thread r.number → GivesUp r.hands.clock clock d d' taken made
@@ -182,6 +181,15 @@ ended_history_by : (d d' : DeskData) (clock clock' : Clock) (made : Made) (taken
 ended_history_by d d' clock clock' made taken None is ends = absurd is
 ended_history_by d d' clock clock' made taken (Some b) is ends = ends.goes_on
 
-pub ended_history : (d d' : DeskData) (clock clock' : Clock) (made : Made) (taken : Taken) → d'.opening ≡ d.opening → IsOf taken d → IfSome d.begun (EndsDispatch clock clock' d d' made) → (after : DeskState) × IsHistory d'.opening d'.entries after
-ended_history d d' clock clock' made taken opening is ends =
+opens_by : (d : DeskData) (clock : Clock) (o : Option BegunData) → (ended_by d clock o).opening ≡ d.opening
+opens_by d clock None = refl
+opens_by d clock (Some b) = refl
+
+pub ended_history : (d d' : DeskData) (clock clock' : Clock) (made : Made) (taken : Taken) → d' ≡ ended d clock → IsOf taken d → IfSome d.begun (EndsDispatch clock clock' d d' made) → (after : DeskState) × IsHistory d'.opening d'.entries after
+ended_history d d' clock clock' made taken same is ends =
+    let opening : d'.opening ≡ d.opening = ap (λ (x : DeskData). x.opening) same ∙ opens_by d clock d.begun in
     (d'.state, subst (λ (o : DeskState). IsHistory o d'.entries d'.state) (sym opening) (ended_history_by d d' clock clock' made taken d.begun is ends))
+
+pub given_up_history : (d d' : DeskData) (clock clock' : Clock) (made : Made) (taken : Taken) → d' ≡ given_up d clock taken → GivesUp clock clock' d d' taken made → (after : DeskState) × IsHistory d'.opening d'.entries after
+given_up_history d d' clock clock' made taken same gives =
+    (d.state, subst (λ (o : DeskState). IsHistory o d'.entries d.state) (sym (ap (λ (x : DeskData). x.opening) same)) gives.goes_on)
