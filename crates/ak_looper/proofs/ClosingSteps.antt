@@ -38,10 +38,10 @@ still_standing P r r' is goes =
 
 -- ---- what no call changes stays so
 module _ {O L : Type 0} where
-  seat_same : (a : SeatData O L) → KeepsSeat a a
+  pub seat_same : (a : SeatData O L) → KeepsSeat a a
   seat_same a = record { lock = refl; opening = refl; thread = refl; joined = refl; turn = refl; names = refl }
 
-  seat_then : (a b c : SeatData O L) → KeepsSeat a b → KeepsSeat b c → KeepsSeat a c
+  pub seat_then : (a b c : SeatData O L) → KeepsSeat a b → KeepsSeat b c → KeepsSeat a c
   seat_then a b c first second = record {
     lock = second.lock ∙ first.lock;
     opening = second.opening ∙ first.opening;

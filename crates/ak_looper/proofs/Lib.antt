@@ -29,3 +29,4 @@ pub mod Tallies
 pub mod TeamWays
 pub mod ThroughDoors
 pub mod Turning
+pub mod Working

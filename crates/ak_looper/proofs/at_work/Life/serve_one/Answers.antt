@@ -8,7 +8,7 @@ use Rattle.ak_looper.proofs.Turning.{comes_to, due_is}
 use Rattle.ak_looper.proofs.at_work.Life.serve_one.Goals as goal
 
 pub dispatch-made-requires-clause-next : goal.dispatch-made-requires-clause-next
-dispatch-made-requires-clause-next g c lifetimes =
+dispatch-made-requires-clause-next g c lifetimes within =
     let h = c.requires.in_hand in
     next_in_hand h.0 h.1 h.2 c.args.taken c.args.self.now.reach c.args.self.now.desk_seat h.3
 
