@@ -1,9 +1,11 @@
 pub mod AtTurn
+pub mod Beginning
 pub mod Carried
 pub mod ClosingSteps
 pub mod Debts
 pub mod DeskSteps
 pub mod Doors
+pub mod Ending
 pub mod Going
 pub mod Granting
 pub mod Kept
