@@ -8,19 +8,21 @@ use Rattle.ak_roster.specs.declared.head.AppHead.{AppHead}
 use Rattle.ak_roster.specs.declared.entry.RosterEvent.{RosterEvent}
 use Rattle.ak_roster.specs.declared.entry.RosterEvent.TheVariants as event
 use Rattle.ak_port.specs.TakerLaws.{handed_by}
+use Rattle.ak_action.specs.declared.state.DeskState.{DeskState}
 use Rattle.ak_desk.specs.declared.entry.DeskEvent.{DeskEvent}
 use Rattle.ak_desk.specs.declared.entry.DeskEvent.TheVariants as desk_event
 use Rattle.ak_desk.specs.Entry.{EntryData}
 use Rattle.ak_desk.specs.Machine.{dispatches, gives_up}
 use Rattle.ak_diary.specs.Step.{Step, at_roster, at_book, at_port, at_desk, saw_roster, saw_book, saw_port, lacked, desk_entries, port_entries}
 
--- a looper: its number, its team, the team's first looper, how many loopers the team has, and the applications of the run
+-- a looper: its number, its team, the team's first looper, how many loopers the team has, the applications of the run, and its desk as it was opened
 pub record LooperFacts : Type 0 where
   pub number : ℕ
   pub team : ℕ
   pub first : ℕ
   pub loopers : ℕ
   pub heads : List AppHead
+  pub desk : DeskState
 
 -- it is its application's own
 abbrev pub is_own : LooperFacts → Bool

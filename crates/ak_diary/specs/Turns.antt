@@ -160,26 +160,24 @@ module _ (l : LooperFacts) where
   ClosesIf false steps = steps ≡ []
 
 -- ---- it dispatches
--- the entry of a dispatch that asked for these and heard these, or of one that was given up; and what it came to
-pub record Carried (taken : Taken) (asked : List Want) (heard : List Answer) (made : Made) (n : Noted EntryData) : Type 0 where
+-- the entry of a dispatch that asked for these and heard these, or of one that was given up, at a desk with that opening; and what it came to
+pub record Carried (opening : DeskState) (taken : Taken) (asked : List Want) (heard : List Answer) (made : Made) (n : Noted EntryData) : Type 0 where
   pub clock : Clock
   pub later : Clock
-  pub opening : DeskState
   pub before : DeskState
   pub after : DeskState
   pub dispatched : HasDispatched clock later taken.position taken.item asked heard opening before after n.before (n.before ++ n.entry ∷ []) made
 
-pub record GivenUp (taken : Taken) (asked : List Want) (heard : List Answer) (made : Made) (n : Noted EntryData) : Type 0 where
+pub record GivenUp (opening : DeskState) (taken : Taken) (asked : List Want) (heard : List Answer) (made : Made) (n : Noted EntryData) : Type 0 where
   pub clock : Clock
   pub later : Clock
-  pub opening : DeskState
   pub state : DeskState
   pub given_up : HasGivenUp clock later taken.position taken.item opening state n.before (n.before ++ n.entry ∷ []) made
   pub asked_none : asked ≡ []
   pub heard_none : heard ≡ []
 
-abbrev pub ComesTo : Taken → List Want → List Answer → Made → Noted EntryData → Type 0
-ComesTo taken asked heard made n = Carried taken asked heard made n ⊎ GivenUp taken asked heard made n
+abbrev pub ComesTo : DeskState → Taken → List Want → List Answer → Made → Noted EntryData → Type 0
+ComesTo opening taken asked heard made n = Carried opening taken asked heard made n ⊎ GivenUp opening taken asked heard made n
 
 abbrev pub lacked_if : Bool → List Step
 lacked_if true = lacked ∷ []
@@ -210,7 +208,7 @@ pub record IsDispatch (l : LooperFacts) (so_far turn : List Step) : Type 0 where
   pub serves : ServesAll l so_far taken.item asked heard served
   pub made : Made
   pub noted : Noted EntryData
-  pub comes : ComesTo taken asked heard made noted
+  pub comes : ComesTo l.desk taken asked heard made noted
   pub settled : List Step
   pub settles : Settles l (so_far ++ served ++ at_desk l.number noted ∷ lacked_if made.no_memory) taken.item.duty made.reply settled
   pub is : turn ≡ served ++ at_desk l.number noted ∷ lacked_if made.no_memory ++ settled

@@ -19,6 +19,8 @@ use Rattle.ak_desk.specs.Shared.{DeskSeat, by_number}
 use Rattle.ak_desk.specs.declared.made.Made.{Made}
 use Rattle.ak_diary.specs.Looper.{LooperFacts}
 use Rattle.ak_diary.specs.Step.{Step, at_desk, desk_entries, desk_entry}
+use Rattle.ak_diary.specs.Turns.{ComesTo}
+use Rattle.std.specs.Prelude.{unwrap_or}
 use Rattle.ak_looper.specs.declared.reach.Reach.{Reach}
 use Rattle.ak_looper.specs.Carrying.{CarriesOut, HasDispatchedOne, IsDeskOf, IsNext}
 use Rattle.ak_looper.specs.Stands.{DeskStands, GoesOn, IsStanding, Stands}
@@ -54,6 +56,9 @@ gave_none_up law d taken history next = (law d.opening.looper d.opening d.entrie
 
 pub dispatched_all : DispatchesAreOwn → (d : DeskData) (taken : Taken) → IsHistory d.opening d.entries d.state → IsNext taken (looper_thread d.opening.looper) d.entries → taken.position ≡ dispatches d.entries
 dispatched_all law d taken history next = next.position ∙ sym (law d.opening.looper d.opening d.entries d.state history.replays).0
+
+some_same : {A : Type 0} (a b : A) → Some a ≡ Some b → a ≡ b
+some_same a b same = ap (λ o. unwrap_or o a) same
 
 -- ---- what it leaves
 module _ (seat given : DeskSeat) (seen : IsGiven by_number seat given) where
@@ -92,14 +97,14 @@ entries_there l so_far served n nothing =
     ∙ ap (λ (m : List (Noted EntryData)). desk_entries l.number so_far ++ m)
       (flat_map-append (desk_entry l.number) served (at_desk l.number n ∷ []) ∙ ap (λ (m : List (Noted EntryData)). m ++ desk_entries l.number (at_desk l.number n ∷ [])) nothing ∙ own_entry l.number n)
 
-module _ (taken : Taken) (made : Made) (entries entries' : List EntryData) (seat given : DeskSeat) (seen : IsGiven by_number seat given) (list : entries ≡ given.front) (r r' : Reach)
+module _ (opening : DeskState) (taken : Taken) (made : Made) (entries entries' : List EntryData) (seat given : DeskSeat) (seen : IsGiven by_number seat given) (list : entries ≡ given.front) (r r' : Reach)
     (thread : seat.thread ≡ looper_thread r.number)
-    (carried : (l : LooperFacts) (start : ℕ) (so_far : List Step) → Stands l start so_far r → GoesOn l start so_far (CarriesOut l so_far taken made entries entries') r') where
+    (carried : (l : LooperFacts) (start : ℕ) (so_far : List Step) → Stands l start so_far r → GoesOn l start so_far (CarriesOut l so_far opening taken made entries entries') r') where
   -- one entry more, by the seat's thread
-  grown : (l : LooperFacts) (so_far steps : List Step) (c : CarriesOut l so_far taken made entries entries' steps) → entries' ≡ given.front ++ c.noted.entry ∷ []
+  grown : (l : LooperFacts) (so_far steps : List Step) (c : CarriesOut l so_far opening taken made entries entries' steps) → entries' ≡ given.front ++ c.noted.entry ∷ []
   grown l so_far steps c = c.grown ∙ ap (λ (x : List EntryData). x ++ c.noted.entry ∷ []) list
 
-  own : (l : LooperFacts) (start : ℕ) (so_far steps : List Step) → Stands l start so_far r → (c : CarriesOut l so_far taken made entries entries' steps) → by_number c.noted.entry ≡ seat.thread
+  own : (l : LooperFacts) (start : ℕ) (so_far steps : List Step) → Stands l start so_far r → (c : CarriesOut l so_far opening taken made entries entries' steps) → by_number c.noted.entry ≡ seat.thread
   own l start so_far steps stands c = c.mine ∙ ap looper_thread (sym stands.number) ∙ sym thread
 
   pub leaves_next : IsStanding r → seats.IsNext by_number given entries'
@@ -115,8 +120,8 @@ module _ (taken : Taken) (made : Made) (entries entries' : List EntryData) (seat
         let c = on.does in
         keeps seat given seen seat' c.noted.entry (entered c.noted.entry (grown is.facts is.steps on.steps c)) idle
 
-    pub dispatched_one : (l : LooperFacts) (start : ℕ) (so_far : List Step) → Stands l start so_far r → DeskStands l so_far seat → HasDispatchedOne l start so_far taken made seat' r'
-    dispatched_one l start so_far stands desk =
+    pub dispatched_one : seat.opening ≡ Some opening → (l : LooperFacts) (start : ℕ) (so_far : List Step) → Stands l start so_far r → DeskStands l so_far seat → HasDispatchedOne l start so_far taken made seat' r'
+    dispatched_one opens l start so_far stands desk =
         let on = carried l start so_far stands in
         let c = on.does in
         let n = c.noted in
@@ -125,9 +130,10 @@ module _ (taken : Taken) (made : Made) (entries entries' : List EntryData) (seat
             ∙ ap (λ (m : List (Noted EntryData)). m ++ n ∷ []) desk.noted_is
             ∙ sym (entries_there l so_far c.served n (serves_all l.number l so_far taken.item c.asked c.heard c.served c.serves))
             ∙ ap (λ (s : List Step). desk_entries l.number (so_far ++ s)) (sym c.is) in
+        let same_opening : opening ≡ l.desk = some_same opening l.desk (sym opens ∙ desk.opening) in
         record {
           steps = on.steps;
-          does = record { asked = c.asked; heard = c.heard; served = c.served; serves = c.serves; noted = n; comes = c.comes; is = c.is };
+          does = record { asked = c.asked; heard = c.heard; served = c.served; serves = c.serves; noted = n; comes = subst (λ (o : DeskState). ComesTo o taken c.asked c.heard made n) same_opening c.comes; is = c.is };
           stands = on.stands;
-          desk = record { noted_is = noted_so };
+          desk = record { opening = ap (λ (s : DeskSeat). s.opening) (whole seat given seen seat' n.entry (entered n.entry (grown l so_far on.steps c))) ∙ desk.opening; noted_is = noted_so };
         }

@@ -13,6 +13,9 @@ use Rattle.ak_desk.specs.Shared as desks
 use Rattle.ak_looper.specs.declared.at_work.Life.{Life}
 use Rattle.ak_looper.specs.declared.door.Door.{Door}
 use Rattle.ak_looper.specs.declared.job.LooperJob.{LooperJob}
+use Rattle.std.specs.Prelude.{IsSomeAnd}
+use Rattle.ak_action.specs.declared.state.DeskState.{DeskState}
+use Rattle.ak_looper.specs.Carrying.{IsDeskOf}
 use Rattle.ak_looper.specs.Job.{BeginsSo, IsReady, facts_of}
 use Rattle.ak_looper.specs.Living.{GoesOnWorking, IsWorking}
 use Rattle.ak_looper.specs.Rosters.{RosterSeat, maker_of, plain_of}
@@ -46,7 +49,7 @@ doors_apart l = kept_apart l (is_own l) refl
 -- ---- the thread as it begins
 module _ (job : LooperJob) (life : Life) (ready : IsReady job) (b : BeginsSo job life) where
   abbrev l : LooperFacts
-  l = facts_of job ready.heads
+  l = facts_of job ready.heads ready.desk_opening
 
   numbers : map (λ (door : ℕ × Door). door.0) life.reach.doors.items ≡ doors_kept l
   numbers = ap (λ (doors : List (ℕ × Door)). map (λ (door : ℕ × Door). door.0) doors) (ap vec_items b.doors) ∙ ready.doors
@@ -87,7 +90,10 @@ module _ (job : LooperJob) (life : Life) (ready : IsReady job) (b : BeginsSo job
     worked = record {
       works = begun;
       stands = begins_standing;
-      at_desk = record { noted_is = subst (λ (s : desks.DeskSeat). noted desks.by_number s.thread s.front ≡ []) (sym b.desk_seat) ready.desk_nothing };
+      at_desk = record {
+        opening = ap (λ (s : desks.DeskSeat). s.opening) b.desk_seat ∙ ready.desk_is;
+        noted_is = subst (λ (s : desks.DeskSeat). noted desks.by_number s.thread s.front ≡ []) (sym b.desk_seat) ready.desk_nothing;
+      };
     };
     rested = refl;
     not_closing = refl;
@@ -95,3 +101,8 @@ module _ (job : LooperJob) (life : Life) (ready : IsReady job) (b : BeginsSo job
 
   pub begins_so : IsWorking life.reach life.desk_seat
   begins_so = record { facts = l; start = job.hands.clock.time; work = []; goes_on = begins_working }
+
+  pub begins_at_its_desk : IsDeskOf life.reach.number life.desk_seat
+  begins_at_its_desk =
+      subst (λ (o : Option DeskState). IsSomeAnd o (λ (opening : DeskState). opening.looper ≡ life.reach.number)) (sym (ap (λ (s : desks.DeskSeat). s.opening) b.desk_seat ∙ ready.desk_is))
+      (ready.desk_looper ∙ sym b.number)

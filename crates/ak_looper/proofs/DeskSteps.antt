@@ -102,16 +102,16 @@ module _ (l : LooperFacts) (start : ℕ) (so_far : List Step) (r r' : Reach) (n 
 -- ---- what it asked for, and then its entry
 module _ (l : LooperFacts) (start : ℕ) (so_far : List Step) (r r' : Reach) (clock : Clock) (same_reach : IsWithClock clock r r') (taken : Taken) (made : Made) where
   -- behind what was served
-  entered : (asked : List Want) (heard : List Answer) (n : Noted EntryData) (entries' : List EntryData)
+  entered : (opening : DeskState) (asked : List Want) (heard : List Answer) (n : Noted EntryData) (entries' : List EntryData)
       → r.hands.clock.thread.0 ≡ looper_thread r.number
-      → ComesTo taken asked heard made n
+      → ComesTo opening taken asked heard made n
       → entries' ≡ n.before ++ n.entry ∷ []
       → n.entry.plain.by ≡ r.hands.clock.thread
       → n.entry.plain.stamp ≡ due stamp_number r.hands.clock.time n.before
       → clock.time ≡ n.entry.plain.stamp
       → GoesOn l start so_far (ServesAll l so_far taken.item asked heard) r
-      → GoesOn l start so_far (CarriesOut l so_far taken made n.before entries') r'
-  entered asked heard n entries' thread comes grown by stamp time served =
+      → GoesOn l start so_far (CarriesOut l so_far opening taken made n.before entries') r'
+  entered opening asked heard n entries' thread comes grown by stamp time served =
       let steps = served.steps ++ at_desk l.number n ∷ [] in
       record {
         steps = steps;
@@ -132,13 +132,15 @@ module _ (l : LooperFacts) (start : ℕ) (so_far : List Step) (r r' : Reach) (cl
             (stands_on l start (so_far ++ served.steps) r r' n clock same_reach served.stands stamp time);
       }
 
-  -- of a list that is the same
-  from_same : (entries entries' before : List EntryData) → before ≡ entries → GoesOn l start so_far (CarriesOut l so_far taken made before entries') r' → GoesOn l start so_far (CarriesOut l so_far taken made entries entries') r'
-  from_same entries entries' before is on = subst (λ b. GoesOn l start so_far (CarriesOut l so_far taken made b entries') r') is on
+  -- of an opening and a list that are the same
+  from_same : (opening opening' : DeskState) (entries entries' before : List EntryData) → opening' ≡ opening → before ≡ entries → GoesOn l start so_far (CarriesOut l so_far opening' taken made before entries') r'
+      → GoesOn l start so_far (CarriesOut l so_far opening taken made entries entries') r'
+  from_same opening opening' entries entries' before opens is on =
+      subst (λ o. GoesOn l start so_far (CarriesOut l so_far o taken made entries entries') r') opens (subst (λ b. GoesOn l start so_far (CarriesOut l so_far opening' taken made b entries') r') is on)
 
   -- it was ended
   ended_as : (b : BegunData) (d d' : DeskData) → r.hands.clock.thread.0 ≡ looper_thread r.number → b.position ≡ taken.position → b.item ≡ taken.item → EndsDispatch r.hands.clock clock d d' made b
-      → GoesOn l start so_far (ServesAll l so_far b.item b.asked b.heard) r → GoesOn l start so_far (CarriesOut l so_far taken made d.entries d'.entries) r'
+      → GoesOn l start so_far (ServesAll l so_far b.item b.asked b.heard) r → GoesOn l start so_far (CarriesOut l so_far d.opening taken made d.entries d'.entries) r'
   ended_as b d d' thread position_is item_is h served =
       let now = r.hands.clock in
       let n : Noted EntryData = note d.entries (dispatched_entry d.entries now b.position b.item b.before h.words h.quit) in
@@ -148,33 +150,33 @@ module _ (l : LooperFacts) (start : ℕ) (so_far : List Step) (r r' : Reach) (cl
           subst (λ (x : ℕ). HasDispatched now clock x b.item b.asked b.heard d.opening b.before d'.state n.before (n.before ++ n.entry ∷ []) made) position_is list in
       let item : HasDispatched now clock taken.position taken.item b.asked b.heard d.opening b.before d'.state n.before (n.before ++ n.entry ∷ []) made =
           subst (λ (x : ItemData). HasDispatched now clock taken.position x b.asked b.heard d.opening b.before d'.state n.before (n.before ++ n.entry ∷ []) made) item_is position in
-      let comes : Carried taken b.asked b.heard made n = record { clock = now; later = clock; opening = d.opening; before = b.before; after = d'.state; dispatched = item } in
-      entered b.asked b.heard n d'.entries thread (inl comes) h.grown refl refl (ap (λ (c : Clock). c.time) h.clocked)
+      let comes : Carried d.opening taken b.asked b.heard made n = record { clock = now; later = clock; before = b.before; after = d'.state; dispatched = item } in
+      entered d.opening b.asked b.heard n d'.entries thread (inl comes) h.grown refl refl (ap (λ (c : Clock). c.time) h.clocked)
       (subst (λ (x : ItemData). GoesOn l start so_far (ServesAll l so_far x b.asked b.heard) r) item_is served)
 
-  ended_begun : (entries : List EntryData) (d d' : DeskData) (o : Option BegunData) → d.entries ≡ entries → r.hands.clock.thread.0 ≡ looper_thread r.number
+  ended_begun : (opening : DeskState) (entries : List EntryData) (d d' : DeskData) (o : Option BegunData) → d.opening ≡ opening → d.entries ≡ entries → r.hands.clock.thread.0 ≡ looper_thread r.number
       → OfBegun (λ (b : BegunData). (b.position ≡ taken.position) × (b.item ≡ taken.item)) o
       → IfSome o (EndsDispatch r.hands.clock clock d d' made)
       → OfBegun (λ (b : BegunData). GoesOn l start so_far (ServesAll l so_far b.item b.asked b.heard) r) o
-      → GoesOn l start so_far (CarriesOut l so_far taken made entries d'.entries) r'
-  ended_begun entries d d' None same thread is ends served = absurd is
-  ended_begun entries d d' (Some b) same thread is ends served = from_same entries d'.entries d.entries same (ended_as b d d' thread is.0 is.1 ends served)
+      → GoesOn l start so_far (CarriesOut l so_far opening taken made entries d'.entries) r'
+  ended_begun opening entries d d' None opens same thread is ends served = absurd is
+  ended_begun opening entries d d' (Some b) opens same thread is ends served = from_same opening d.opening entries d'.entries d.entries opens same (ended_as b d d' thread is.0 is.1 ends served)
 
-  pub ended_so : (entries : List EntryData) (d d' : DeskData) → d.entries ≡ entries → r.hands.clock.thread.0 ≡ looper_thread r.number → IsOf taken d → IfSome d.begun (EndsDispatch r.hands.clock clock d d' made)
-      → HasServed l start so_far d r → GoesOn l start so_far (CarriesOut l so_far taken made entries d'.entries) r'
-  ended_so entries d d' same thread is ends served = ended_begun entries d d' d.begun same thread is ends served
+  pub ended_so : (opening : DeskState) (entries : List EntryData) (d d' : DeskData) → d.opening ≡ opening → d.entries ≡ entries → r.hands.clock.thread.0 ≡ looper_thread r.number → IsOf taken d → IfSome d.begun (EndsDispatch r.hands.clock clock d d' made)
+      → HasServed l start so_far d r → GoesOn l start so_far (CarriesOut l so_far opening taken made entries d'.entries) r'
+  ended_so opening entries d d' opens same thread is ends served = ended_begun opening entries d d' d.begun opens same thread is ends served
 
   -- it was given up
-  pub given_up_so : (entries : List EntryData) (d d' : DeskData) → d.entries ≡ entries → r.hands.clock.thread.0 ≡ looper_thread r.number → GivesUp r.hands.clock clock d d' taken made
-      → Stands l start so_far r → GoesOn l start so_far (CarriesOut l so_far taken made entries d'.entries) r'
-  given_up_so entries d d' same thread h stands =
+  pub given_up_so : (opening : DeskState) (entries : List EntryData) (d d' : DeskData) → d.opening ≡ opening → d.entries ≡ entries → r.hands.clock.thread.0 ≡ looper_thread r.number → GivesUp r.hands.clock clock d d' taken made
+      → Stands l start so_far r → GoesOn l start so_far (CarriesOut l so_far opening taken made entries d'.entries) r'
+  given_up_so opening entries d d' opens same thread h stands =
       let now = r.hands.clock in
       let n : Noted EntryData = note d.entries (given_up_entry d.entries now taken.position taken.item) in
       let list : HasGivenUp now clock taken.position taken.item d.opening d.state n.before (n.before ++ n.entry ∷ []) made =
           subst (λ (x : List EntryData). HasGivenUp now clock taken.position taken.item d.opening d.state d.entries x made) h.grown h in
-      let comes : GivenUp taken [] [] made n = record { clock = now; later = clock; opening = d.opening; state = d.state; given_up = list; asked_none = refl; heard_none = refl } in
-      from_same entries d'.entries d.entries same
-      (entered [] [] n d'.entries thread (inr comes) h.grown refl refl (ap (λ (c : Clock). c.time) h.clocked) (stays l start so_far (ServesAll l so_far taken.item [] []) r stands refl))
+      let comes : GivenUp d.opening taken [] [] made n = record { clock = now; later = clock; state = d.state; given_up = list; asked_none = refl; heard_none = refl } in
+      from_same opening d.opening entries d'.entries d.entries opens same
+      (entered d.opening [] [] n d'.entries thread (inr comes) h.grown refl refl (ap (λ (c : Clock). c.time) h.clocked) (stays l start so_far (ServesAll l so_far taken.item [] []) r stands refl))
 
 -- ---- the list that either leaves
 ended_history_by : (d d' : DeskData) (clock clock' : Clock) (made : Made) (taken : Taken) (o : Option BegunData) → OfBegun (λ (b : BegunData). (b.position ≡ taken.position) × (b.item ≡ taken.item)) o → IfSome o (EndsDispatch clock clock' d d' made) → IsHistory d.opening d'.entries d'.state

@@ -77,9 +77,9 @@ module _ (l : LooperFacts) (work answers : List Step) (n : Noted PortEntry) (ser
 
 -- ---- a life
 module _ (job : LooperJob) (first life : Life) (k : EndKind) (end : LooperEnd) (ready : IsReady job) (b : BeginsSo job first) (keeps : KeepsPlaces first.reach life.reach) (seat : KeepsSeat first.desk_seat life.desk_seat) (e : EndsSo life k end)
-    (w : Later (λ so_far. HasRestedSo (facts_of job ready.heads) job.hands.clock.time so_far k life.queue.items life.reach life.desk_seat) []) where
+    (w : Later (λ so_far. HasRestedSo (facts_of job ready.heads ready.desk_opening) job.hands.clock.time so_far k life.queue.items life.reach life.desk_seat) []) where
   abbrev l : LooperFacts
-  l = facts_of job ready.heads
+  l = facts_of job ready.heads ready.desk_opening
 
   abbrev work : List Step
   work = w.turn
@@ -120,6 +120,8 @@ module _ (job : LooperJob) (first life : Life) (k : EndKind) (end : LooperEnd) (
   has_lived = record {
     heads = ready.heads;
     heads_are = ready.heads_are;
+    desk_opening = ready.desk_opening;
+    desk_is = ready.desk_is;
     steps = steps;
     legal = record {
       work = work;
@@ -160,7 +162,7 @@ module _ (job : LooperJob) (first life : Life) (k : EndKind) (end : LooperEnd) (
     book = subst (λ (h : Hands). BookStands steps h.book_seat) (sym e.hands) stands.book;
     roster = subst (λ (s : RosterSeat). RosterStands steps s) (sym e.roster_seat) stands.roster;
     port = subst (λ (s : ports.PortSeat). PortStands steps job.number s) (sym e.port_seat) stands.port;
-    desk = subst (λ (s : desks.DeskSeat). DeskStands l steps s) (sym e.desk_seat) (record { noted_is = desk_now });
+    desk = subst (λ (s : desks.DeskSeat). DeskStands l steps s) (sym e.desk_seat) (record { opening = rest.so.at_desk.opening; noted_is = desk_now });
     doors =
         subst (λ (s : RosterSeat). All (DoorStands steps s) end.doors.items) (sym e.roster_seat)
         (subst (All (DoorStands steps e.reach.roster_seat)) (sym (ap vec_items e.doors)) stands.doors);

@@ -34,7 +34,7 @@ module _ (l : LooperFacts) (start : ℕ) (work : List Step) where
   -- a take makes no entry at the desk
   desk_as : (n : Noted PortEntry) (steps : List Step) (desk : DeskSeat) → steps ≡ at_port l.number n ∷ [] → DeskStands l work desk → DeskStands l (work ++ steps) desk
   desk_as n steps desk is stands =
-      record { noted_is = stands.noted_is ∙ sym (ap (λ s. desk_entries l.number (work ++ s)) is ∙ desk-append l.number work (at_port l.number n ∷ []) ∙ append-nil (desk_entries l.number work)) }
+      record { opening = stands.opening; noted_is = stands.noted_is ∙ sym (ap (λ s. desk_entries l.number (work ++ s)) is ∙ desk-append l.number work (at_port l.number n ∷ []) ∙ append-nil (desk_entries l.number work)) }
 
   -- one item was taken, which is in hand
   pub took_one : (count : ℕ) (queue : List Taken) (taken : Taken) (r r' : Reach) (desk : DeskSeat) → GoesOnWorking l start work r desk → (goes : GoesOn l start work (IsTaking l work (answered.Took count) queue) r') → queue ≡ taken ∷ []

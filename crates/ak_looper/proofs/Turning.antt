@@ -65,8 +65,8 @@ routed_goes_on s routes.Dropped position words quit = refl
 routed_goes_on s routes.NotUnderstood position words quit = refl
 routed_goes_on s (routes.Forward looper) position words quit = refl
 
-carried_tells : (taken : Taken) (asked : List Want) (heard : List Answer) (made : Made) (n : Noted EntryData) → Carried taken asked heard made n → EntryTells made n
-carried_tells taken asked heard made n c =
+carried_tells : (opening : DeskState) (taken : Taken) (asked : List Want) (heard : List Answer) (made : Made) (n : Noted EntryData) → Carried opening taken asked heard made n → EntryTells made n
+carried_tells opening taken asked heard made n c =
     let d = c.dispatched in
     let entry = same_last n.before n.entry (dispatched_entry n.before c.clock taken.position taken.item c.before d.words d.quit) d.grown in
     let what = ap (λ (e : EntryData). e.plain.event) entry in
@@ -79,8 +79,8 @@ carried_tells taken asked heard made n c =
       mark = ap has_quit_mark what ∙ sym quit;
     }
 
-given_up_tells : (taken : Taken) (asked : List Want) (heard : List Answer) (made : Made) (n : Noted EntryData) → GivenUp taken asked heard made n → EntryTells made n
-given_up_tells taken asked heard made n c =
+given_up_tells : (opening : DeskState) (taken : Taken) (asked : List Want) (heard : List Answer) (made : Made) (n : Noted EntryData) → GivenUp opening taken asked heard made n → EntryTells made n
+given_up_tells opening taken asked heard made n c =
     let d = c.given_up in
     let entry = same_last n.before n.entry (given_up_entry n.before c.clock taken.position taken.item) d.grown in
     let what = ap (λ (e : EntryData). e.plain.event) entry in
@@ -91,8 +91,8 @@ given_up_tells taken asked heard made n c =
       mark = ap has_quit_mark what ∙ sym (ap (λ (m : Made). m.quit) d.made_is);
     }
 
-pub entry_tells : (taken : Taken) (asked : List Want) (heard : List Answer) (made : Made) (n : Noted EntryData) → turns.ComesTo taken asked heard made n → EntryTells made n
-entry_tells taken asked heard made n c = ⊎_elim (carried_tells taken asked heard made n) (given_up_tells taken asked heard made n) c
+pub entry_tells : (opening : DeskState) (taken : Taken) (asked : List Want) (heard : List Answer) (made : Made) (n : Noted EntryData) → turns.ComesTo opening taken asked heard made n → EntryTells made n
+entry_tells opening taken asked heard made n c = ⊎_elim (carried_tells opening taken asked heard made n) (given_up_tells opening taken asked heard made n) c
 
 -- ---- a step for want of memory
 lacks_quiet : (b : Bool) → All IsQuiet (lacked_if b)
@@ -136,7 +136,7 @@ module _ (l : LooperFacts) (start : ℕ) (work : List Step) (taken : Taken) (mad
   serving = all_serving l work taken.item d.does.asked d.does.heard d.does.served d.does.serves
 
   tells : EntryTells made n
-  tells = entry_tells taken d.does.asked d.does.heard made n d.does.comes
+  tells = entry_tells l.desk taken d.does.asked d.does.heard made n d.does.comes
 
   steps_are : work ++ d.steps ≡ (work ++ d.does.served) ++ at_desk l.number n ∷ []
   steps_are = ap (λ k. work ++ k) d.does.is ∙ sym (append_assoc work d.does.served (at_desk l.number n ∷ []))
@@ -234,7 +234,7 @@ module _ (l : LooperFacts) (start : ℕ) (work : List Step) (taken : Taken) (mad
     worked = record {
       works = went_on work turn hand.worked.works (inr is_dispatch);
       stands = subst (λ k. Stands l start k r2) whole_is s.stands;
-      at_desk = subst (λ k. DeskStands l k desk1) whole_is (record { noted_is = d.desk.noted_is ∙ sym entries_are });
+      at_desk = subst (λ k. DeskStands l k desk1) whole_is (record { opening = d.desk.opening; noted_is = d.desk.noted_is ∙ sym entries_are });
     }
 
     rested : length (taken_in l (work ++ turn)) ≡ dispatched_in l (work ++ turn)

@@ -44,14 +44,14 @@ pub record IsNext (taken : Taken) (thread : ℕ) (entries : List EntryData) : Ty
   pub position : taken.position ≡ dispatches (made_by by_number thread entries)
   pub once : gave_up (made_by by_number thread entries) ≡ false
 
--- by these steps: what it asks for, and its entry, which the looper's own thread made, behind those of the desk
-pub record CarriesOut (l : LooperFacts) (so_far : List Step) (taken : Taken) (made : Made) (entries entries' : List EntryData) (steps : List Step) : Type 0 where
+-- by these steps: what it asks for, and its entry, which the looper's own thread made, behind those of the desk with that opening
+pub record CarriesOut (l : LooperFacts) (so_far : List Step) (opening : DeskState) (taken : Taken) (made : Made) (entries entries' : List EntryData) (steps : List Step) : Type 0 where
   pub asked : List Want
   pub heard : List Answer
   pub served : List Step
   pub serves : ServesAll l so_far taken.item asked heard served
   pub noted : Noted EntryData
-  pub comes : ComesTo taken asked heard made noted
+  pub comes : ComesTo opening taken asked heard made noted
   pub before : noted.before ≡ entries
   pub grown : entries' ≡ entries ++ noted.entry ∷ []
   pub mine : by_number noted.entry ≡ looper_thread l.number
@@ -64,7 +64,7 @@ pub record Dispatches (l : LooperFacts) (so_far : List Step) (taken : Taken) (ma
   pub served : List Step
   pub serves : ServesAll l so_far taken.item asked heard served
   pub noted : Noted EntryData
-  pub comes : ComesTo taken asked heard made noted
+  pub comes : ComesTo l.desk taken asked heard made noted
   pub is : steps ≡ served ++ at_desk l.number noted ∷ []
 
 pub record HasDispatchedOne (l : LooperFacts) (start : ℕ) (so_far : List Step) (taken : Taken) (made : Made) (seat' : DeskSeat) (r' : Reach) : Type 0 where

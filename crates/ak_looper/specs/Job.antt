@@ -1,5 +1,5 @@
 -- What a looper's thread is started with, and what its life comes to.
-use Rattle.std.specs.Prelude.{◌≡◌, ◌+◌, ◌≤◌, ℕ, ◌-◌, true, List, [], ◌∷◌, ◌++◌, map, All, Any, Option, None, Some, IsSomeAnd}
+use Rattle.std.specs.Prelude.{◌≡◌, ◌+◌, ◌≤◌, ℕ, ◌-◌, true, List, [], ◌∷◌, ◌++◌, map, All, Any, Option, None, Some}
 use Rattle.std.specs.VecDeque.{deque_len, deque_capacity}
 use Rattle.ak_base.specs.Limits.{looper_limit}
 use Rattle.ak_base.specs.declared.thread.ThreadId.{ThreadId}
@@ -27,17 +27,20 @@ use Rattle.ak_diary.specs.Diary.{IsDiary, ending_of}
 use Rattle.ak_diary.specs.Looper.{LooperFacts, doors_got, is_of_team}
 use Rattle.ak_diary.specs.Step.{Step, AreStamped, time_of}
 
--- the looper of a job, in a run of these applications
-abbrev pub facts_of : LooperJob → List AppHead → LooperFacts
-facts_of job heads = record { number = job.number; team = job.team; first = job.first; loopers = job.loopers; heads = heads }
+-- the looper of a job, in a run of these applications, whose desk was opened so
+abbrev pub facts_of : LooperJob → List AppHead → DeskState → LooperFacts
+facts_of job heads desk = record { number = job.number; team = job.team; first = job.first; loopers = job.loopers; heads = heads; desk = desk }
 
 -- the thread has made nothing at any of its seats; its own port is the one that it takes from; its desk is its own; it has the doors that
 -- it is to have; and its seat at the roster has seen the launch of its team
 pub record IsReady (job : LooperJob) : Type 0 where
   pub heads : List AppHead
   pub heads_are : job.roster_seat.opening ≡ Some heads
-  pub launched : Any (StartsTeam (facts_of job heads)) job.roster_seat.front
-  pub of_team : is_of_team (facts_of job heads) job.number ≡ true
+  pub desk_opening : DeskState
+  pub desk_is : job.own.desk_seat.opening ≡ Some desk_opening
+  pub desk_looper : desk_opening.looper ≡ job.number
+  pub launched : Any (StartsTeam (facts_of job heads desk_opening)) job.roster_seat.front
+  pub of_team : is_of_team (facts_of job heads desk_opening) job.number ≡ true
   pub within : job.first + job.loopers ≤ looper_limit
   pub book_nothing : noted books.maker_of job.hands.book_seat.thread job.hands.book_seat.front ≡ []
   pub roster_nothing : noted maker_of job.roster_seat.thread (plain_of job.roster_seat) ≡ []
@@ -45,8 +48,7 @@ pub record IsReady (job : LooperJob) : Type 0 where
   pub desk_nothing : noted desks.by_number job.own.desk_seat.thread job.own.desk_seat.front ≡ []
   pub takes : CanTake job.hands.clock.thread (deque_capacity job.queue - deque_len job.queue) job.own.port_seat
   pub queue : job.queue.items ≡ []
-  pub desk_is : IsSomeAnd job.own.desk_seat.opening (λ (opening : DeskState). opening.looper ≡ job.number)
-  pub doors : map (λ (door : ℕ × Door). door.0) job.doors.items ≡ doors_kept (facts_of job heads)
+  pub doors : map (λ (door : ℕ × Door). door.0) job.doors.items ≡ doors_kept (facts_of job heads desk_opening)
   pub doors_thread : All (λ (door : ℕ × Door). door.1.port_seat.thread ≡ job.hands.clock.thread.0) job.doors.items
   pub doors_stand : All (DoorStands [] job.roster_seat) job.doors.items
 
@@ -56,12 +58,14 @@ pub record IsReady (job : LooperJob) : Type 0 where
 pub record HasLived (job : LooperJob) (end : LooperEnd) : Type 0 where
   pub heads : List AppHead
   pub heads_are : job.roster_seat.opening ≡ Some heads
+  pub desk_opening : DeskState
+  pub desk_is : job.own.desk_seat.opening ≡ Some desk_opening
   pub steps : List Step
-  pub legal : IsDiary (facts_of job heads) steps
+  pub legal : IsDiary (facts_of job heads desk_opening) steps
   pub stamped : AreStamped job.hands.clock.time steps
   pub time : time_of job.hands.clock.time steps ≡ end.hands.clock.time
   pub number : end.number ≡ job.number
-  pub kind : end.kind ≡ kind_of (ending_of (facts_of job heads) steps)
+  pub kind : end.kind ≡ kind_of (ending_of (facts_of job heads desk_opening) steps)
   pub thread : end.hands.clock.thread ≡ job.hands.clock.thread
   pub book_lock : end.hands.book ≡ job.hands.book
   pub book_kept : KeepsSeat job.hands.book_seat end.hands.book_seat
@@ -71,7 +75,7 @@ pub record HasLived (job : LooperJob) (end : LooperEnd) : Type 0 where
   pub book : BookStands steps end.hands.book_seat
   pub roster : RosterStands steps end.roster_seat
   pub port : PortStands steps job.number end.own.port_seat
-  pub desk : DeskStands (facts_of job heads) steps end.own.desk_seat
+  pub desk : DeskStands (facts_of job heads desk_opening) steps end.own.desk_seat
   pub doors : All (DoorStands steps end.roster_seat) end.doors.items
   pub ways : map (λ (door : ℕ × Door). door.0) end.doors.items ≡ map (λ (door : ℕ × Door). door.0) job.doors.items ++ doors_got steps
 

@@ -38,6 +38,7 @@ pub record PortStands (steps : List Step) (looper : ℕ) (seat : ports.PortSeat)
   pub seen : All (StartsWith seat.front) (port_sights looper steps)
 
 pub record DeskStands (l : LooperFacts) (steps : List Step) (seat : desks.DeskSeat) : Type 0 where
+  pub opening : seat.opening ≡ Some l.desk
   pub noted_is : noted desks.by_number seat.thread seat.front ≡ desk_entries l.number steps
 
 -- ---- through each door

@@ -99,7 +99,7 @@ fn carried<R: Wait>(
     requires looper { reach.old.number ≡ desk.old.opening.looper }
     requires last { stamp_in desk.old.entries < 2 ^ 63 }
     requires stands { IsStanding reach.old }
-    ensures carried { (l : LooperFacts) (start : ℕ) (so_far : List Step) → Stands l start so_far reach.old → GoesOn l start so_far (CarriesOut l so_far taken.now result desk.old.entries desk.new.entries) reach.new }
+    ensures carried { (l : LooperFacts) (start : ℕ) (so_far : List Step) → Stands l start so_far reach.old → GoesOn l start so_far (CarriesOut l so_far desk.old.opening taken.now result desk.old.entries desk.new.entries) reach.new }
     ensures history { (after : DeskState) × IsHistory desk.new.opening desk.new.entries after }
     ensures opening { desk.new.opening ≡ desk.old.opening }
     ensures rest { desk.new.begun ≡ None }

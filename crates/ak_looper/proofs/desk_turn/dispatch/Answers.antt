@@ -20,7 +20,7 @@ finish-requires-clause-list g c =
     let turn = c.lock-turn.ensures in
     let book = c.book.ensures.value in
     let r = c.args.reach.now in
-    leaves_next c.args.taken.now c.carried-made.result c.book.result.now.entries c.carried-made.new.desk.entries c.args.seat.now c.lock-turn.new.seat turn.seen (ap (λ (d : DeskData). d.entries) book ∙ turn.list)
+    leaves_next c.book.result.now.opening c.args.taken.now c.carried-made.result c.book.result.now.entries c.carried-made.new.desk.entries c.args.seat.now c.lock-turn.new.seat turn.seen (ap (λ (d : DeskData). d.entries) book ∙ turn.list)
     r c.carried-made.new.reach (c.requires.thread ∙ r.looper) c.carried-made.ensures.carried c.requires.stands
 
 pub returns-clause-dispatched : goal.returns-clause-dispatched
@@ -28,13 +28,13 @@ returns-clause-dispatched g c l start so_far stands desk =
     let turn = c.lock-turn.ensures in
     let book = c.book.ensures.value in
     let r = c.args.reach.now in
-    dispatched_one c.args.taken.now c.carried-made.result c.book.result.now.entries c.carried-made.new.desk.entries c.args.seat.now c.lock-turn.new.seat turn.seen (ap (λ (d : DeskData). d.entries) book ∙ turn.list)
-    r c.carried-made.new.reach (c.requires.thread ∙ r.looper) c.carried-made.ensures.carried c.finish.new.seat c.finish.ensures.entered l start so_far stands desk
+    dispatched_one c.book.result.now.opening c.args.taken.now c.carried-made.result c.book.result.now.entries c.carried-made.new.desk.entries c.args.seat.now c.lock-turn.new.seat turn.seen (ap (λ (d : DeskData). d.entries) book ∙ turn.list)
+    r c.carried-made.new.reach (c.requires.thread ∙ r.looper) c.carried-made.ensures.carried c.finish.new.seat c.finish.ensures.entered (turn.opening ∙ ap (λ (d : DeskData). Some d.opening) (sym book)) l start so_far stands desk
 
 pub returns-clause-seat : goal.returns-clause-seat
 returns-clause-seat g c =
     let turn = c.lock-turn.ensures in
     let book = c.book.ensures.value in
     let r = c.args.reach.now in
-    keeps_seat_there c.args.taken.now c.carried-made.result c.book.result.now.entries c.carried-made.new.desk.entries c.args.seat.now c.lock-turn.new.seat turn.seen (ap (λ (d : DeskData). d.entries) book ∙ turn.list)
+    keeps_seat_there c.book.result.now.opening c.args.taken.now c.carried-made.result c.book.result.now.entries c.carried-made.new.desk.entries c.args.seat.now c.lock-turn.new.seat turn.seen (ap (λ (d : DeskData). d.entries) book ∙ turn.list)
     r c.carried-made.new.reach (c.requires.thread ∙ r.looper) c.carried-made.ensures.carried c.finish.new.seat c.finish.ensures.entered c.requires.idle c.requires.stands

@@ -3,12 +3,15 @@ use Rattle.std.proofs.Common.{◌≡◌, ℕ, List, [], sym, ap, subst}
 use Rattle.std.specs.VecDeque.{deque_len, deque_capacity}
 use Rattle.ak_looper.specs.Job.{facts_of}
 use Rattle.ak_diary.specs.Step.{Step}
-use Rattle.ak_looper.proofs.Beginning.{begins_so, begins_working}
+use Rattle.ak_looper.proofs.Beginning.{begins_at_its_desk, begins_so, begins_working}
 use Rattle.ak_looper.proofs.Ending.{has_lived}
 use Rattle.ak_looper.proofs.life.run_looper.Goals as goal
 
 pub work-kind-requires-clause-working : goal.work-kind-requires-clause-working
 work-kind-requires-clause-working g c lifetimes within = begins_so c.args.job c.begun-life.result c.requires c.begun-life.ensures.working
+
+pub work-kind-requires-clause-desk : goal.work-kind-requires-clause-desk
+work-kind-requires-clause-desk g c lifetimes within = begins_at_its_desk c.args.job c.begun-life.result c.requires c.begun-life.ensures.working
 
 pub returns : goal.returns
 returns g c =
@@ -18,4 +21,4 @@ returns g c =
     let w = c.work-kind.ensures in
     let ready = c.requires in
     let b = c.begun-life.ensures.working in
-    has_lived job first life c.work-kind.result c.ended.result ready b w.keeps w.desk.1 c.ended.ensures (w.rested (facts_of job ready.heads) job.hands.clock.time [] (begins_working job first ready b))
+    has_lived job first life c.work-kind.result c.ended.result ready b w.keeps w.desk.1 c.ended.ensures (w.rested (facts_of job ready.heads ready.desk_opening) job.hands.clock.time [] (begins_working job first ready b))

@@ -1,7 +1,18 @@
 -- The closing where it is due, the payment, and the late closing, one after another.
-use Rattle.ak_looper.proofs.ClosingSteps.{keeps_then}
+use Rattle.ak_diary.specs.Turns.{ClosesIf}
+use Rattle.ak_looper.specs.Debts.{PaysDebt}
+use Rattle.ak_looper.proofs.ClosingSteps.{keeps_then, still_standing}
 use Rattle.ak_looper.proofs.Settling.{ended_shut, settles}
 use Rattle.ak_looper.proofs.life.settle.Goals as goal
+
+pub pay-paid-requires-clause-stands : goal.pay-paid-requires-clause-stands
+pay-paid-requires-clause-stands g c = still_standing (λ l so_far. ClosesIf l c.is_due-due.result) c.args.reach.now c.close_if.new.self c.requires.stands c.close_if.ensures.goes
+
+pub close_if-requires-2 : goal.close_if-requires-2
+close_if-requires-2 g c =
+    let ready = c.prepare-debt in
+    let closed = still_standing (λ l so_far. ClosesIf l c.is_due-due.result) c.args.reach.now c.close_if.new.self c.requires.stands c.close_if.ensures.goes in
+    record { stands = still_standing (λ l so_far. PaysDebt l so_far ready.result.debt c.pay-paid.result) c.close_if.new.self c.pay-paid.new.self closed c.pay-paid.ensures.goes }
 
 pub returns-clause-settled : goal.returns-clause-settled
 returns-clause-settled g c =

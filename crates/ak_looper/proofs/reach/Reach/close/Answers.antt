@@ -1,8 +1,12 @@
 -- The team is left, and then its ports are shut; or its own port is.
-use Rattle.std.proofs.Common.{◌∙◌, sym}
-use Rattle.ak_looper.proofs.ClosingSteps.{closes_alone, closes_team, keeps_then}
+use Rattle.std.proofs.Common.{◌∙◌, sym, true}
+use Rattle.ak_diary.specs.Turns.{LeavesRoster}
+use Rattle.ak_looper.proofs.ClosingSteps.{closes_alone, closes_team, keeps_then, still_standing}
 use Rattle.ak_looper.proofs.Shutting.{closed_is_shut}
 use Rattle.ak_looper.proofs.reach.Reach.close.Goals as goal
+
+pub shut_team-requires-clause-stands : goal.shut_team-requires-clause-stands
+shut_team-requires-clause-stands g c = still_standing (λ l so_far. LeavesRoster l true) c.args.self.now c.leave.new.self c.requires.stands c.leave.ensures.goes
 
 pub returns-then-is_own-clause-goes : goal.returns-then-is_own-clause-goes
 returns-then-is_own-clause-goes g c =
