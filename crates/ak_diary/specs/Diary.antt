@@ -1,5 +1,5 @@
 -- The diary of a looper's thread: all that it did, turn by turn.
-use Rattle.std.specs.Prelude.{◌≡◌, ◌⊎◌, Bool, true, false, List, [], ◌∷◌, ◌++◌, if◌then◌else◌}
+use Rattle.std.specs.Prelude.{◌≡◌, ◌⊎◌, List, [], ◌++◌, if◌then◌else◌}
 use Rattle.ak_diary.specs.Looper.{LooperFacts, desk_list, last_quits}
 use Rattle.ak_diary.specs.Step.{Step, ran_short}
 use Rattle.ak_diary.specs.Turns.{IsDispatch, IsEnd, IsTake}

@@ -1,8 +1,8 @@
 -- A looper's thread, and what follows from the steps that it made so far.
-use Rattle.std.specs.Prelude.{ℕ, ◌+◌, ◌-◌, ◌==◌, ◌&&◌, ◌||◌, Bool, true, false, nat_le, nat_lt, List, [], ◌∷◌, length, map, drop, Option, None, Some, option_map, unwrap_or, slice_get, if◌then◌else◌}
+use Rattle.std.specs.Prelude.{ℕ, ◌+◌, ◌-◌, ◌==◌, ◌&&◌, ◌||◌, Bool, true, false, nat_le, nat_lt, List, [], ◌∷◌, length, map, drop, option_map, unwrap_or, slice_get, if◌then◌else◌}
 use Rattle.std.specs.List.{flat_map, list_any, range_with_len}
 use Rattle.ak_base.specs.Thread.{looper_thread}
-use Rattle.ak_turn.specs.Noted.{Noted, entry_of}
+use Rattle.ak_turn.specs.Noted.{entry_of}
 use Rattle.ak_flatten.specs.declared.item.Taken.{Taken}
 use Rattle.ak_roster.specs.declared.head.AppHead.{AppHead}
 use Rattle.ak_roster.specs.declared.entry.RosterEvent.{RosterEvent}
@@ -13,7 +13,7 @@ use Rattle.ak_desk.specs.declared.entry.DeskEvent.{DeskEvent}
 use Rattle.ak_desk.specs.declared.entry.DeskEvent.TheVariants as desk_event
 use Rattle.ak_desk.specs.Entry.{EntryData}
 use Rattle.ak_desk.specs.Machine.{dispatches, gives_up}
-use Rattle.ak_diary.specs.Step.{Step, at_roster, at_book, at_port, at_desk, saw_roster, saw_book, saw_port, lacked, desk_entries, port_entries}
+use Rattle.ak_diary.specs.Step.{Step, at_roster, at_desk, lacked, desk_entries, port_entries}
 
 -- a looper: its number, its team, the team's first looper, how many loopers the team has, the applications of the run, and its desk as it was opened
 pub record LooperFacts : Type 0 where

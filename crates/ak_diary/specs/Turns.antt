@@ -1,5 +1,5 @@
 -- The turns of a looper's thread: it takes items, dispatches them, and ends.
-use Rattle.std.specs.Prelude.{◌≡◌, ◌⊎◌, ℕ, ◌==◌, ◌&&◌, ◌||◌, not, Bool, true, false, List, [], ◌∷◌, ◌++◌, length, codes, Option, None, Some, if◌then◌else◌}
+use Rattle.std.specs.Prelude.{◌≡◌, ◌⊎◌, ℕ, ◌==◌, ◌&&◌, not, Bool, true, false, List, [], ◌∷◌, ◌++◌, length, codes, Option, None, Some}
 use Rattle.std.specs.List.{list_any}
 use Rattle.ak_message.specs.declared.address.Address.{Address}
 use Rattle.ak_message.specs.Message.{MessageData}

@@ -19,7 +19,6 @@ use Rattle.ak_port.specs.declared.port_entry.PortEntry.{PortEntry}
 use Rattle.ak_port.specs.declared.port_entry.PortEvent.{PortEvent}
 use Rattle.ak_port.specs.declared.port_entry.PortEvent.TheVariants as event
 use Rattle.ak_port.specs.declared.reply_entry.ReplyEntry.{ReplyEntry}
-use Rattle.ak_port.specs.declared.reply_entry.ReplyEvent.{ReplyEvent}
 use Rattle.ak_port.specs.declared.reply_entry.ReplyEvent.TheVariants as slot_event
 use Rattle.ak_port.specs.Reply.{FillsWith, IsFilled}
 use Rattle.ak_action.specs.declared.answer.Answer.{Answer}
@@ -27,7 +26,7 @@ use Rattle.ak_action.specs.declared.answer.Answer.TheVariants as answer
 use Rattle.ak_action.specs.declared.answer.Want.{Want}
 use Rattle.ak_action.specs.declared.answer.Want.TheVariants as want
 use Rattle.ak_diary.specs.Looper.{LooperFacts, has_door}
-use Rattle.ak_diary.specs.Step.{Step, at_roster, at_book, at_port, at_desk, saw_roster, saw_book, saw_port, lacked}
+use Rattle.ak_diary.specs.Step.{Step, at_roster, at_book, at_port, saw_book}
 
 -- ---- single steps
 -- one entry with that event, at the port of that looper

@@ -1,9 +1,8 @@
 -- A looper's thread that is ready begins so, and has done nothing yet.
-use Rattle.std.proofs.Common.{◌≡◌, ◌≢◌, ℕ, zero, suc, ◌+◌, ◌-◌, ◌<◌, ◌==◌, Bool, true, false, cond, List, [], ◌∷◌, ◌++◌, map, vec_items, All, AllPairs, Any, Option, Some, refl, sym, ap, ◌∙◌, subst, append-nil, eqb-true, arith}
+use Rattle.std.proofs.Common.{◌≡◌, ◌≢◌, ℕ, zero, suc, ◌+◌, ◌-◌, ◌<◌, Bool, true, false, cond, List, [], ◌∷◌, map, vec_items, All, AllPairs, Any, Option, refl, sym, ap, ◌∙◌, subst, append-nil, eqb-true, arith}
 use Rattle.std.proofs.lemmas.List.Elements.{All-nil}
 use Rattle.std.proofs.lemmas.List.FromFn.{length-range_with_len, get_or-range_with_len}
 use Rattle.std.specs.List.{range_with_len}
-use Rattle.ak_roster.specs.declared.head.AppHead.{AppHead}
 use Rattle.ak_turn.specs.Entries.{StartsWith}
 use Rattle.ak_turn.specs.Noted.{noted}
 use Rattle.ak_messenger.specs.declared.hands.Hands.{Hands}
@@ -22,7 +21,6 @@ use Rattle.ak_looper.specs.Rosters.{RosterSeat, maker_of, plain_of}
 use Rattle.ak_looper.specs.Stands.{DoorStands, IsAtOneOf, Stands, StartsTeam, doors_kept}
 use Rattle.ak_diary.specs.Diary.{begun}
 use Rattle.ak_diary.specs.Looper.{LooperFacts, is_own}
-use Rattle.ak_diary.specs.Step.{Step}
 
 -- ---- the numbers of its doors
 -- numbers that begin above one are none of them that one, and no two are the same

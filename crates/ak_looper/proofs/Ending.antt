@@ -9,7 +9,6 @@ use Rattle.ak_messenger.specs.declared.hands.Hands.{Hands}
 use Rattle.ak_turn.specs.Called.{KeepsSeat}
 use Rattle.ak_turn.specs.Noted.{Noted, entry_of, noted}
 use Rattle.ak_port.specs.PortCalls as ports
-use Rattle.ak_port.specs.ReplySeats as books
 use Rattle.ak_port.specs.Reply.{none_text}
 use Rattle.ak_port.specs.TakerLaws.{handed_at}
 use Rattle.ak_port.specs.declared.port_entry.PortEntry.{PortEntry}
@@ -19,14 +18,13 @@ use Rattle.ak_looper.specs.declared.door.Door.{Door}
 use Rattle.ak_looper.specs.declared.job.EndKind.{EndKind}
 use Rattle.ak_looper.specs.declared.job.LooperEnd.{LooperEnd}
 use Rattle.ak_looper.specs.declared.job.LooperJob.{LooperJob}
-use Rattle.ak_looper.specs.declared.reach.Reach.{Reach}
 use Rattle.ak_looper.specs.Job.{BeginsSo, EndsSo, HasLived, IsReady, facts_of}
 use Rattle.ak_looper.specs.Living.{HasRestedSo, Later, kind_of}
 use Rattle.ak_looper.specs.Rosters.{RosterSeat}
-use Rattle.ak_looper.specs.Stands.{BookStands, DeskStands, DoorStands, GoesOn, PortStands, RosterStands, Stands, doors_kept}
+use Rattle.ak_looper.specs.Stands.{BookStands, DeskStands, DoorStands, GoesOn, PortStands, RosterStands, Stands}
 use Rattle.ak_looper.specs.Ways.{KeepsPlaces}
 use Rattle.ak_looper.proofs.ClosingSteps.{seat_then}
-use Rattle.ak_looper.proofs.Quiet.{IsQuiet, IsServing, are_quiet, quiet_at_no_desk, serving_not_short}
+use Rattle.ak_looper.proofs.Quiet.{IsServing, are_quiet, quiet_at_no_desk, serving_not_short}
 use Rattle.ak_looper.proofs.Tallies.{desk-append, none_in_hand, short-append}
 use Rattle.ak_diary.specs.Diary.{by_quit, by_team, ending_of, without_memory}
 use Rattle.ak_diary.specs.Looper.{LooperFacts, desk_list, doors_got, in_hand, last_quits}

@@ -1,19 +1,14 @@
 -- The turns of a looper's thread: a take, a dispatch with what follows, the rest.
-use Rattle.std.proofs.Common.{◌≡◌, ℕ, zero, suc, ◌+◌, ◌-◌, ◌==◌, Bool, true, false, List, [], ◌∷◌, ◌++◌, length, map, Option, Some, None, All, cond, refl, sym, ap, ◌∙◌, subst, inl, inr, append_assoc, append-nil, length-append, arith}
+use Rattle.std.proofs.Common.{◌≡◌, ℕ, zero, suc, ◌+◌, ◌-◌, ◌==◌, Bool, true, false, List, [], ◌∷◌, ◌++◌, length, map, Option, Some, None, All, cond, refl, sym, ap, ◌∙◌, subst, inl, append-nil, length-append, arith}
 use Rattle.std.specs.Prelude.{◌||◌, slice_get, option_map, unwrap_or, IfSome}
 use Rattle.std.specs.Option.{option_to_list}
 use Rattle.std.proofs.lemmas.Bool.{false≢true}
 use Rattle.std.proofs.lemmas.List.{map-append}
 use Rattle.std.proofs.lemmas.List.Elements.{All-append, All-cons, All-head, All-nil, All-tail}
 use Rattle.ak_turn.specs.Noted.{Noted, entry_of}
-use Rattle.ak_flatten.specs.declared.item.Duty.{Duty}
 use Rattle.ak_flatten.specs.declared.item.Taken.{Taken}
-use Rattle.ak_flatten.specs.Item.{ItemData}
 use Rattle.ak_port.specs.declared.port_entry.PortEntry.{PortEntry}
-use Rattle.ak_port.specs.declared.port_entry.PortEvent.TheVariants as event
 use Rattle.ak_port.specs.declared.port_entry.TakeAnswer.TheVariants as answered
-use Rattle.ak_port.specs.PortMachine.{numbered}
-use Rattle.ak_port.specs.TakerLaws.{handed_at}
 use Rattle.ak_desk.specs.Shared.{DeskSeat}
 use Rattle.ak_desk.specs.Entry.{EntryData}
 use Rattle.ak_desk.specs.Machine.{gives_up}
@@ -21,13 +16,12 @@ use Rattle.ak_looper.specs.declared.job.EndKind.{EndKind}
 use Rattle.ak_looper.specs.declared.job.EndKind.TheVariants as kind
 use Rattle.ak_port.specs.declared.port_entry.TakeAnswer.{TakeAnswer}
 use Rattle.ak_looper.specs.declared.reach.Reach.{Reach}
-use Rattle.ak_looper.specs.Living.{GoesOnWorking, HasInHand, HasRested, HasRestedSo, HasStopped, HasWorked, kind_of}
+use Rattle.ak_looper.specs.Living.{GoesOnWorking, HasInHand, HasRested, HasRestedSo, HasStopped, kind_of}
 use Rattle.ak_looper.specs.Stands.{DeskStands, GoesOn, Stands}
 use Rattle.ak_looper.specs.Taking.{IsTaking, IsTheRest}
 use Rattle.ak_diary.specs.Diary.{Works, went_on, ending_of, by_quit, by_team, without_memory}
-use Rattle.ak_diary.specs.Looper.{LooperFacts, calls_for_closing, desk_list, dispatched_in, has_quit_mark, in_hand, is_closing, last_quits, taken_in}
-use Rattle.ak_diary.specs.Step.{Step, at_roster, at_book, at_port, at_desk, saw_roster, saw_book, saw_port, lacked, desk_entries, desk_entry, ran_short}
-use Rattle.ak_diary.specs.Turns.{IsTake}
+use Rattle.ak_diary.specs.Looper.{LooperFacts, calls_for_closing, desk_list, dispatched_in, has_quit_mark, is_closing, last_quits, taken_in}
+use Rattle.ak_diary.specs.Step.{Step, at_roster, at_book, at_port, at_desk, saw_roster, saw_book, saw_port, lacked, desk_entries, desk_entry}
 use Rattle.ak_looper.proofs.Tallies.{closing-append, desk-append, dispatched_as, last_position, none_in_hand, not_short, taken_more, those_in_hand}
 
 module _ (l : LooperFacts) (start : ℕ) (work : List Step) where

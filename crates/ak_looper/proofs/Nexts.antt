@@ -1,11 +1,9 @@
 -- The item in hand is the next one of the desk, and what a served item leaves.
-use Rattle.std.proofs.Common.{◌≡◌, ℕ, ◌==◌, Bool, true, false, List, [], ◌∷◌, ◌++◌, map, All, cond, refl, sym, ap, ◌∙◌, subst}
+use Rattle.std.proofs.Common.{◌≡◌, ℕ, ◌==◌, Bool, true, false, List, [], ◌∷◌, ◌++◌, map, cond, refl, sym, ap, ◌∙◌, subst}
 use Rattle.std.specs.Prelude.{◌||◌}
-use Rattle.std.specs.List.{list_any}
 use Rattle.std.proofs.lemmas.Bool.{false≢true}
 use Rattle.std.proofs.lemmas.List.{map-append}
 use Rattle.std.proofs.lemmas.List.Folds.{list_any-append}
-use Rattle.ak_base.specs.declared.thread.ThreadId.{ThreadId}
 use Rattle.ak_turn.specs.Entries.{made_by}
 use Rattle.ak_turn.specs.Noted.{Noted, entry_of}
 use Rattle.ak_turn.proofs.Surface.{noted_is_made}
@@ -20,7 +18,7 @@ use Rattle.ak_looper.specs.declared.at_work.After.{After}
 use Rattle.ak_looper.specs.declared.reach.Reach.{Reach}
 use Rattle.ak_looper.specs.Carrying.{HasDispatchedOne, IsNext}
 use Rattle.ak_looper.specs.Living.{CanWork, HasInHand, HasSettled}
-use Rattle.ak_looper.specs.Stands.{DeskStands, GoesOn, IsStanding, Stands}
+use Rattle.ak_looper.specs.Stands.{DeskStands, GoesOn, IsStanding}
 use Rattle.ak_looper.specs.Ways.{KeepsReach}
 use Rattle.ak_diary.specs.Looper.{LooperFacts, calls_for_closing, desk_list, has_quit_mark, is_closing}
 use Rattle.ak_diary.specs.Step.{Step, at_roster, at_book, at_port, at_desk, saw_roster, saw_book, saw_port, lacked, desk_entries, desk_entry}

@@ -1,5 +1,5 @@
 -- What steps leave alone: a want that is served, and what follows a dispatch, take nothing of the looper's own port and make no entry at its desk.
-use Rattle.std.proofs.Common.{◌≡◌, ◌⊎◌, ℕ, ◌+◌, ◌==◌, Bool, true, false, List, [], ◌∷◌, ◌++◌, Option, Some, None, All, cond, refl, sym, ap, ◌∙◌, subst, ⊎_elim, append_assoc}
+use Rattle.std.proofs.Common.{◌≡◌, ℕ, ◌==◌, Bool, true, false, List, [], ◌∷◌, ◌++◌, Option, Some, None, All, cond, refl, sym, ap, ◌∙◌, subst, ⊎_elim, append_assoc}
 use Rattle.std.specs.Prelude.{◌||◌}
 use Rattle.std.proofs.lemmas.Bool.{false≢true}
 use Rattle.std.proofs.lemmas.List.Elements.{All-append, All-cons, All-head, All-nil, All-tail}
@@ -8,7 +8,6 @@ use Rattle.ak_message.specs.declared.address.Address.{Address}
 use Rattle.ak_message.specs.Message.{MessageData}
 use Rattle.ak_flatten.specs.declared.item.Duty.{Duty}
 use Rattle.ak_flatten.specs.declared.item.Duty.TheVariants as duty
-use Rattle.ak_flatten.specs.declared.item.Taken.{Taken}
 use Rattle.ak_flatten.specs.Item.{ItemData}
 use Rattle.ak_turn.specs.Noted.{Noted}
 use Rattle.ak_port.specs.declared.port_entry.PortEntry.{PortEntry}

@@ -1,12 +1,11 @@
 -- What a take hands out, and that nothing but the rest is taken of a port that is shut.
-use Rattle.std.proofs.Common.{◌≡◌, ℕ, ◌+◌, ◌-◌, ◌≤◌, min, Bool, true, false, List, [], ◌∷◌, ◌++◌, length, take, drop, Option, Some, None, refl, sym, ap, ◌∙◌, subst, arith}
+use Rattle.std.proofs.Common.{◌≡◌, ℕ, ◌+◌, ◌≤◌, min, true, List, [], ◌∷◌, ◌++◌, length, drop, Option, Some, None, refl, sym, ap, ◌∙◌, subst, arith}
 use Rattle.std.specs.Prelude.{IsSomeAnd}
 use Rattle.std.proofs.lemmas.Bool.{false≢true}
 use Rattle.std.proofs.lemmas.List.{length-drop, length-take-le}
 use Rattle.ak_base.specs.declared.thread.ThreadId.{ThreadId}
 use Rattle.ak_turn.specs.declared.clock.Clock.{Clock}
 use Rattle.ak_turn.proofs.Surface.{same_before}
-use Rattle.ak_flatten.specs.Item.{ItemData}
 use Rattle.ak_flatten.specs.declared.item.Taken.{Taken}
 use Rattle.ak_port.specs.declared.port_entry.PortEntry.{PortEntry}
 use Rattle.ak_port.specs.declared.port_entry.PortEvent.{PortEvent}
@@ -14,7 +13,7 @@ use Rattle.ak_port.specs.declared.port_entry.PortEvent.TheVariants as event
 use Rattle.ak_port.specs.declared.port_entry.TakeAnswer.{TakeAnswer}
 use Rattle.ak_port.specs.declared.port_entry.TakeAnswer.TheVariants as taken
 use Rattle.ak_port.specs.PortCalls.{HasEntered, IfTook, IsAtPort, PortSeat, entry_now, take_count, take_event}
-use Rattle.ak_port.specs.PortMachine.{AreSteps, IsAllowed, IsPort, PortState, PortStep, handed_out, last_taken, numbered, pending_count, pending_items, replayed, state_after, state_of, unmade}
+use Rattle.ak_port.specs.PortMachine.{IsAllowed, IsPort, PortState, PortStep, handed_out, last_taken, pending_count, pending_items, replayed, state_after, state_of, unmade}
 use Rattle.ak_port.proofs.PortItems.{length-numbered, take-numbered}
 use Rattle.ak_port.proofs.PortLimits.{reached_by, unmade_reached}
 use Rattle.ak_port.proofs.PortReplays.{AreSteps-before, AreSteps-behind, state_of-push, replayed-append}

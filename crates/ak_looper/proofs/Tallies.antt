@@ -1,7 +1,6 @@
 -- What steps add to what a looper took and dispatched, and to whether it closes.
-use Rattle.std.proofs.Common.{◌≡◌, ◌≢◌, ℕ, ◌+◌, ◌==◌, Bool, true, false, List, [], ◌∷◌, ◌++◌, length, map, drop, get_or, All, cond, refl, sym, ap, ◌∙◌, subst, append_assoc, append-nil, eq-eqb, arith}
+use Rattle.std.proofs.Common.{◌≡◌, ℕ, ◌+◌, Bool, true, false, List, [], ◌∷◌, ◌++◌, length, map, drop, get_or, All, cond, refl, sym, ap, ◌∙◌, append-nil, eq-eqb, arith}
 use Rattle.std.specs.Prelude.{◌||◌}
-use Rattle.std.specs.List.{list_any}
 use Rattle.std.proofs.lemmas.Grind.{flat_map-append}
 use Rattle.std.proofs.lemmas.List.{map-append}
 use Rattle.std.proofs.lemmas.List.Folds.{list_any-append}
@@ -14,8 +13,7 @@ use Rattle.ak_port.specs.declared.port_entry.PortEntry.{PortEntry}
 use Rattle.ak_port.specs.PortMachine.{numbered}
 use Rattle.ak_port.specs.TakerLaws.{handed_at, handed_by}
 use Rattle.ak_desk.specs.Entry.{EntryData}
-use Rattle.ak_desk.specs.Machine.{counted, counted_all, dispatches}
-use Rattle.ak_desk.specs.declared.entry.DeskEvent.{DeskEvent}
+use Rattle.ak_desk.specs.Machine.{counted, dispatches}
 use Rattle.ak_desk.proofs.Surface.{counted_push}
 use Rattle.ak_diary.specs.Looper.{LooperFacts, calls_for_closing, desk_list, dispatched_in, in_hand, is_closing, taken_in}
 use Rattle.ak_diary.specs.Step.{Step, at_roster, at_book, at_port, at_desk, saw_roster, saw_book, saw_port, lacked, desk_entries, desk_entry, is_lack, port_entries, port_entry, ran_short}

@@ -1,21 +1,16 @@
 -- A message in hand is dispatched, and what follows is settled.
-use Rattle.std.proofs.Common.{◌≡◌, ℕ, ◌+◌, ◌-◌, ◌==◌, Bool, true, false, List, [], ◌∷◌, ◌++◌, length, map, get_or, Option, Some, None, All, cond, refl, sym, ap, ◌∙◌, subst, inl, inr, ⊎_elim, append_assoc, append-nil, length-append, arith}
-use Rattle.std.specs.Prelude.{◌||◌, ◌⊎◌, slice_get, option_map, unwrap_or}
-use Rattle.std.proofs.lemmas.Bool.{false≢true}
+use Rattle.std.proofs.Common.{◌≡◌, ℕ, ◌+◌, ◌-◌, Bool, true, false, List, [], ◌∷◌, ◌++◌, length, map, get_or, Some, All, cond, refl, sym, ap, ◌∙◌, subst, inr, ⊎_elim, append_assoc, append-nil, length-append, arith}
+use Rattle.std.specs.Prelude.{◌||◌, slice_get, option_map, unwrap_or}
 use Rattle.std.proofs.lemmas.List.{append_cancel_left}
-use Rattle.std.proofs.lemmas.List.Elements.{All-append, All-cons, All-nil}
+use Rattle.std.proofs.lemmas.List.Elements.{All-cons, All-nil}
 use Rattle.ak_turn.specs.Noted.{Noted, entry_of}
-use Rattle.ak_flatten.specs.declared.item.Duty.{Duty}
 use Rattle.ak_flatten.specs.declared.item.Taken.{Taken}
 use Rattle.ak_action.specs.declared.answer.Answer.{Answer}
 use Rattle.ak_action.specs.declared.answer.Want.{Want}
 use Rattle.ak_route.specs.declared.outcome.Route.{Route}
 use Rattle.ak_route.specs.declared.outcome.Route.TheVariants as routes
 use Rattle.ak_action.specs.declared.state.DeskState.{DeskState}
-use Rattle.ak_desk.specs.declared.entry.DeskEvent.{DeskEvent}
 use Rattle.ak_desk.specs.declared.entry.DeskEvent.TheVariants as desk_event
-use Rattle.ak_desk.specs.declared.entry.EntryRoute.{EntryRoute}
-use Rattle.ak_desk.specs.declared.entry.EntryRoute.TheVariants as went
 use Rattle.ak_desk.specs.declared.made.Made.{Made}
 use Rattle.ak_action.specs.declared.answer.AnswerWord.{AnswerWord}
 use Rattle.ak_desk.specs.Desk.{dispatched_entry, given_up_entry}
@@ -25,18 +20,16 @@ use Rattle.ak_desk.specs.Entry.{EntryData}
 use Rattle.ak_desk.specs.Machine.{counted, dispatches, gives_up}
 use Rattle.ak_desk.specs.Shared.{DeskSeat}
 use Rattle.ak_looper.specs.declared.at_work.After.{After}
-use Rattle.ak_looper.specs.declared.at_work.After.TheVariants as after
-use Rattle.ak_looper.specs.declared.job.EndKind.TheVariants as kind
 use Rattle.ak_looper.specs.declared.reach.Reach.{Reach}
-use Rattle.ak_looper.specs.Carrying.{Dispatches, HasDispatchedOne}
-use Rattle.ak_looper.specs.Living.{ComesTo, GoesOnWorking, HasInHand, HasSettled, HasStopped, HasWorked, Later, after_of, kind_of}
+use Rattle.ak_looper.specs.Carrying.{HasDispatchedOne}
+use Rattle.ak_looper.specs.Living.{ComesTo, HasInHand, HasSettled, HasWorked, Later, after_of, kind_of}
 use Rattle.ak_looper.specs.Stands.{DeskStands, GoesOn, Stands}
-use Rattle.ak_diary.specs.Diary.{Works, went_on, ending_of, by_quit, by_team, without_memory}
-use Rattle.ak_diary.specs.Looper.{LooperFacts, calls_for_closing, desk_list, dispatched_in, ends_it, has_quit_mark, in_hand, is_closing, last_quits, taken_in}
+use Rattle.ak_diary.specs.Diary.{went_on, ending_of, by_quit, by_team, without_memory}
+use Rattle.ak_diary.specs.Looper.{LooperFacts, desk_list, dispatched_in, ends_it, has_quit_mark, is_closing, last_quits, taken_in}
 use Rattle.ak_diary.specs.Step.{Step, at_desk, lacked, desk_entries, ran_short}
 use Rattle.ak_diary.specs.Turns.{Carried, GivenUp, IsDispatch, lacked_if}
 use Rattle.ak_diary.specs.Turns as turns
-use Rattle.ak_looper.proofs.Quiet.{IsQuiet, IsServing, all_serving, are_quiet, quiet_at_no_desk, quiet_calls, serving_not_short, settles_quiet}
+use Rattle.ak_looper.proofs.Quiet.{IsQuiet, IsServing, all_serving, are_quiet, quiet_calls, serving_not_short, settles_quiet}
 use Rattle.ak_looper.proofs.Tallies.{closing-append, desk_list_more, desk_quiet, dispatched_more, not_short, short-append, taken-append, taken_quiet}
 
 -- the last things of two lists that are the same

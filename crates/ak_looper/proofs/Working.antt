@@ -1,8 +1,7 @@
 -- Turn after turn: what holds later, and what no call changes.
-use Rattle.std.proofs.Common.{◌≡◌, ℕ, List, [], ◌∷◌, ◌++◌, refl, sym, ap, ◌∙◌, subst, append_assoc, append-nil}
-use Rattle.std.specs.Prelude.{Option, Some, None, IsSomeAnd}
+use Rattle.std.proofs.Common.{◌≡◌, ℕ, List, [], ◌++◌, refl, sym, ◌∙◌, subst, append_assoc, append-nil}
+use Rattle.std.specs.Prelude.{Option, IsSomeAnd}
 use Rattle.ak_turn.specs.Called.{KeepsSeat}
-use Rattle.ak_turn.specs.Seats.{SeatData}
 use Rattle.ak_action.specs.declared.state.DeskState.{DeskState}
 use Rattle.ak_desk.specs.Shared.{DeskSeat}
 use Rattle.ak_looper.specs.Carrying.{IsDeskOf}

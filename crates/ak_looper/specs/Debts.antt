@@ -1,5 +1,5 @@
 -- What is owed for a message, made ready and paid.
-use Rattle.std.specs.Prelude.{◌≡◌, ◌⊎◌, ℕ, Bool, true, false, if◌then◌else◌, List, [], ◌∷◌, ◌++◌, Option, None, Some}
+use Rattle.std.specs.Prelude.{◌≡◌, ◌⊎◌, ℕ, Bool, true, false, if◌then◌else◌, List, [], Option, None, Some}
 use Rattle.ak_message.specs.declared.address.Address.{Address}
 use Rattle.ak_message.specs.Message.{MessageData}
 use Rattle.ak_flatten.specs.declared.item.Duty.{Duty}
@@ -11,7 +11,7 @@ use Rattle.ak_looper.specs.declared.duty.Debt.{Debt}
 use Rattle.ak_looper.specs.declared.duty.Debt.TheVariants as debt
 use Rattle.ak_looper.specs.Heard.{RepliedSo}
 use Rattle.ak_diary.specs.Looper.{LooperFacts}
-use Rattle.ak_diary.specs.Step.{Step, lacked}
+use Rattle.ak_diary.specs.Step.{Step}
 use Rattle.ak_diary.specs.Turns.{Fills, LacksWay, is_no_reply}
 use Rattle.ak_diary.specs.Wants.{Through, sent_item}
 

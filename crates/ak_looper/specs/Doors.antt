@@ -1,5 +1,5 @@
 -- What a door leads to, and what is known of a new one.
-use Rattle.std.specs.Prelude.{◌≡◌, ℕ, List, [], Option, None, Some}
+use Rattle.std.specs.Prelude.{◌≡◌, ℕ, [], Option, None, Some}
 use Rattle.ak_turn.specs.Noted.{noted}
 use Rattle.ak_turn.specs.Seats.{LockId}
 use Rattle.ak_port.specs.PortCalls as ports

@@ -1,11 +1,9 @@
 -- What a looper's thread is started with, and what its life comes to.
-use Rattle.std.specs.Prelude.{◌≡◌, ◌+◌, ◌≤◌, ℕ, ◌-◌, true, List, [], ◌∷◌, ◌++◌, map, All, Any, Option, None, Some}
+use Rattle.std.specs.Prelude.{◌≡◌, ◌+◌, ◌≤◌, ℕ, ◌-◌, true, List, [], ◌++◌, map, All, Any, Some}
 use Rattle.std.specs.VecDeque.{deque_len, deque_capacity}
 use Rattle.ak_base.specs.Limits.{looper_limit}
-use Rattle.ak_base.specs.declared.thread.ThreadId.{ThreadId}
 use Rattle.ak_roster.specs.declared.head.AppHead.{AppHead}
 use Rattle.ak_turn.specs.Called.{KeepsSeat}
-use Rattle.ak_turn.specs.Entries.{StartsWith}
 use Rattle.ak_turn.specs.Noted.{noted}
 use Rattle.ak_port.specs.PortCalls as ports
 use Rattle.ak_port.specs.PortCalls.{CanTake}
@@ -18,7 +16,7 @@ use Rattle.ak_looper.specs.declared.job.EndKind.{EndKind}
 use Rattle.ak_looper.specs.declared.job.LooperJob.{LooperJob}
 use Rattle.ak_looper.specs.declared.job.LooperEnd.{LooperEnd}
 use Rattle.ak_looper.specs.Living.{kind_of}
-use Rattle.ak_looper.specs.Rosters.{LeadsTo, RosterSeat, maker_of, plain_of}
+use Rattle.ak_looper.specs.Rosters.{maker_of, plain_of}
 use Rattle.ak_looper.specs.declared.reach.Reach.{Reach}
 use Rattle.ak_looper.specs.Stands.{BookStands, DeskStands, DoorStands, GoesOn, PortStands, RosterStands, Stands, StartsTeam, doors_kept}
 use Rattle.ak_looper.specs.Ways.{KeepsReach}

@@ -1,5 +1,5 @@
 -- What each call at the roster says of the thread's clock and seat.
-use Rattle.std.specs.Prelude.{◌≡◌, ℕ, Bool, true, false, List, [], ◌∷◌, ◌++◌, Option, None, Some}
+use Rattle.std.specs.Prelude.{◌≡◌, ℕ, false, List, Some}
 use Rattle.std.specs.List.{list_any}
 use Rattle.std.specs.Arc.{arc_value}
 use Rattle.ak_base.specs.declared.app_word.AppWord.{AppWord}

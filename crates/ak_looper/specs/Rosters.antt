@@ -1,7 +1,5 @@
 -- What a thread does at the roster.
-use Rattle.std.specs.Prelude.{◌≡◌, ◌<◌, ◌≤◌, ℕ, Bool, true, false, List, [], ◌∷◌, ◌++◌, All, Option, None, Some, IfSome, slice_get}
-use Rattle.ak_base.specs.declared.app_word.AppWord.{AppWord}
-use Rattle.ak_base.specs.declared.thread.ThreadId.{ThreadId}
+use Rattle.std.specs.Prelude.{◌≡◌, ℕ, List, [], ◌++◌, All, Some, slice_get}
 use Rattle.ak_turn.specs.declared.clock.Clock.{Clock}
 use Rattle.ak_turn.specs.Called as at_lock
 use Rattle.ak_turn.specs.Called.{KeepsSeat}

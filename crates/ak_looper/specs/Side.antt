@@ -1,5 +1,5 @@
 -- What a thread does at the reply book and at one port: from its clock and its seats there to later ones, by some steps.
-use Rattle.std.specs.Prelude.{◌≡◌, ℕ, List, [], ◌∷◌, ◌++◌, All}
+use Rattle.std.specs.Prelude.{◌≡◌, ℕ, List, ◌++◌, All}
 use Rattle.ak_turn.specs.declared.clock.Clock.{Clock}
 use Rattle.ak_turn.specs.Called.{KeepsSeat}
 use Rattle.ak_turn.specs.Entries.{StartsWith}

@@ -1,5 +1,5 @@
 -- How a looper's thread stands, once it made these steps.
-use Rattle.std.specs.Prelude.{◌≡◌, ◌≢◌, ◌≤◌, ℕ, ◌+◌, ◌-◌, ◌==◌, Bool, true, false, List, [], ◌∷◌, ◌++◌, map, All, AllPairs, Any, Contains, Option, None, Some, slice_get, if◌then◌else◌}
+use Rattle.std.specs.Prelude.{◌≡◌, ◌≢◌, ◌≤◌, ℕ, ◌+◌, ◌-◌, true, List, [], ◌∷◌, ◌++◌, map, All, AllPairs, Any, Contains, Some, if◌then◌else◌}
 use Rattle.std.specs.List.{range_with_len}
 use Rattle.ak_base.specs.Limits.{looper_limit}
 use Rattle.ak_base.specs.declared.app_word.AppWord.{AppWord}
@@ -12,13 +12,11 @@ use Rattle.ak_roster.specs.Machine.{loopers_at}
 use Rattle.ak_port.specs.PortCalls as ports
 use Rattle.ak_port.specs.ReplySeats as books
 use Rattle.ak_desk.specs.Shared as desks
-use Rattle.ak_desk.specs.Entry.{EntryData}
-use Rattle.ak_action.specs.declared.state.DeskState.{DeskState}
 use Rattle.ak_looper.specs.declared.door.Door.{Door}
 use Rattle.ak_looper.specs.declared.reach.Reach.{Reach}
 use Rattle.ak_looper.specs.Rosters.{LeadsTo, Object, RosterSeat, maker_of, plain_of}
 use Rattle.ak_diary.specs.Looper.{LooperFacts, doors_got, is_of_team, is_own}
-use Rattle.ak_diary.specs.Step.{Step, at_roster, at_book, at_port, at_desk, saw_roster, saw_book, saw_port, lacked, AreStamped, book_entries, book_sights, desk_entries, port_entries, port_sights, roster_entries, roster_sights, time_of}
+use Rattle.ak_diary.specs.Step.{Step, at_port, saw_port, AreStamped, book_entries, book_sights, desk_entries, port_entries, port_sights, roster_entries, roster_sights, time_of}
 
 -- the loopers, besides itself, whose doors it has from its beginning: those of its team, where it is the application's own
 abbrev pub doors_kept : LooperFacts → List ℕ

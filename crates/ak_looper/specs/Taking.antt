@@ -1,5 +1,5 @@
 -- What a looper's thread takes from its own port.
-use Rattle.std.specs.Prelude.{◌≡◌, ℕ, List, [], ◌∷◌, ◌++◌}
+use Rattle.std.specs.Prelude.{◌≡◌, List, [], ◌∷◌, ◌++◌}
 use Rattle.ak_flatten.specs.declared.item.Taken.{Taken}
 use Rattle.ak_flatten.specs.Item.{ItemData}
 use Rattle.ak_turn.specs.declared.clock.Clock.{Clock}

@@ -1,8 +1,7 @@
 -- The ways of a looper's thread to ports, and what its calls keep.
-use Rattle.std.specs.Prelude.{◌≡◌, ◌≢◌, ◌<◌, ℕ, List, [], ◌∷◌, ◌++◌, length, map, Option, Some, slice_get, option_map, vec_len}
+use Rattle.std.specs.Prelude.{◌≡◌, ◌≢◌, ◌<◌, ℕ, Some, slice_get, option_map, vec_len}
 use Rattle.ak_base.specs.declared.thread.ThreadId.{ThreadId}
 use Rattle.ak_turn.specs.Called.{KeepsSeat}
-use Rattle.ak_turn.specs.Entries.{StartsWith}
 use Rattle.ak_port.specs.PortCalls.{CanTake}
 use Rattle.ak_looper.specs.declared.door.Door.{Door}
 use Rattle.ak_looper.specs.declared.reach.Reach.{Reach}

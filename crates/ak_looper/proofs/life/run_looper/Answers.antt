@@ -1,8 +1,6 @@
 -- From its beginning to its end.
-use Rattle.std.proofs.Common.{◌≡◌, ℕ, List, [], sym, ap, subst}
-use Rattle.std.specs.VecDeque.{deque_len, deque_capacity}
+use Rattle.std.proofs.Common.{[]}
 use Rattle.ak_looper.specs.Job.{facts_of}
-use Rattle.ak_diary.specs.Step.{Step}
 use Rattle.ak_looper.proofs.Beginning.{begins_at_its_desk, begins_so, begins_working}
 use Rattle.ak_looper.proofs.Ending.{has_lived}
 use Rattle.ak_looper.proofs.life.run_looper.Goals as goal

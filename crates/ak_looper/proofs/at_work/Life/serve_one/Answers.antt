@@ -1,5 +1,5 @@
 -- A message in hand is dispatched, and what follows is settled.
-use Rattle.std.proofs.Common.{◌++◌, sym}
+use Rattle.std.proofs.Common.{◌++◌}
 use Rattle.ak_diary.specs.Turns.{lacked_if}
 use Rattle.ak_looper.proofs.ClosingSteps.{keeps_then}
 use Rattle.ak_looper.proofs.Lacking.{stands_if}

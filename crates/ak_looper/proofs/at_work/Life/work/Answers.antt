@@ -1,7 +1,6 @@
 -- One item after the other, until it is closed.
-use Rattle.std.proofs.Common.{◌≡◌, ℕ, List, [], ◌∷◌, ◌++◌, refl, sym, ap, ◌∙◌, subst, arith}
+use Rattle.std.proofs.Common.{ℕ, List, ◌++◌, ◌∙◌, arith}
 use Rattle.std.proofs.lemmas.Grind.{common_steps}
-use Rattle.ak_flatten.specs.declared.item.Taken.{Taken}
 use Rattle.ak_diary.specs.Looper.{LooperFacts}
 use Rattle.ak_diary.specs.Step.{Step}
 use Rattle.ak_looper.specs.Living.{ComesTo, GoesOnWorking, HasInHand, HasRestedSo, Later}
