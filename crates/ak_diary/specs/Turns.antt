@@ -1,6 +1,7 @@
 -- The turns of a looper's thread: it takes items, dispatches them, and ends.
-use Rattle.std.specs.Prelude.{◌≡◌, ◌⊎◌, ℕ, ◌==◌, ◌&&◌, not, Bool, true, false, List, [], ◌∷◌, ◌++◌, length, codes, Option, None, Some}
+use Rattle.std.specs.Prelude.{◌≡◌, ◌⊎◌, ℕ, ◌==◌, ◌&&◌, not, Bool, true, false, List, [], ◌∷◌, ◌++◌, Any, length, codes, Option, None, Some}
 use Rattle.std.specs.List.{list_any}
+use Rattle.ak_base.specs.declared.app_word.AppWord.{AppWord}
 use Rattle.ak_message.specs.declared.address.Address.{Address}
 use Rattle.ak_message.specs.Message.{MessageData}
 use Rattle.ak_flatten.specs.declared.item.Duty.{Duty}
@@ -12,6 +13,7 @@ use Rattle.ak_turn.specs.declared.clock.Clock.{Clock}
 use Rattle.ak_turn.specs.Noted.{Noted}
 use Rattle.ak_roster.specs.declared.entry.RosterEntry.{RosterEntry}
 use Rattle.ak_roster.specs.declared.entry.RosterEvent.TheVariants as roster_event
+use Rattle.ak_roster.specs.declared.entry.LaunchOutcome.TheVariants as launch
 use Rattle.ak_roster.specs.Machine.{runs_team, state_of}
 use Rattle.ak_port.specs.declared.port_entry.PortEntry.{PortEntry}
 use Rattle.ak_port.specs.declared.port_entry.PortEvent.{PortEvent}
@@ -33,13 +35,12 @@ use Rattle.ak_diary.specs.Looper.{LooperFacts, closed_by, in_hand, is_closing, i
 use Rattle.ak_diary.specs.Step.{Step, at_roster, at_book, at_port, at_desk, saw_roster, saw_book, saw_port, lacked}
 use Rattle.ak_diary.specs.Wants.{EntersPort, LacksDoor, Through, ServesAll, sent_item}
 
--- ---- it takes: the oldest items of its port, where each one that it took before is dispatched, and nothing calls for its closing
+-- ---- it takes: the oldest item of its port, where each one that it took before is dispatched, and nothing calls for its closing
 pub record IsTake (l : LooperFacts) (so_far turn : List Step) : Type 0 where
   pub rested : in_hand l so_far ≡ []
   pub works : is_closing so_far ≡ false
   pub noted : Noted PortEntry
-  pub count : ℕ
-  pub event_is : noted.entry.event ≡ event.Took count
+  pub event_is : noted.entry.event ≡ event.Took 1
   pub is : turn ≡ at_port l.number noted ∷ []
 
 -- ---- what is owed is paid
@@ -136,8 +137,14 @@ module _ (l : LooperFacts) where
     pub event_is : noted.entry.event ≡ roster_event.Gone l.team
     pub is : steps ≡ at_roster noted ∷ []
 
+  -- the launch of its team
+  abbrev pub StartsIt : RosterEntry → Type 0
+  StartsIt entry = (word : AppWord) × (place : ℕ) × (entry.event ≡ roster_event.Launch word (launch.Started place l.team l.first))
+
+  -- where the team was started, and no longer runs
   pub record FindsGone (steps : List Step) : Type 0 where
     pub seen : List RosterEntry
+    pub started : Any StartsIt seen
     pub gone : list_any (runs_team l.team) (state_of l.heads seen).running ≡ false
     pub is : steps ≡ saw_roster seen ∷ []
 

@@ -43,7 +43,7 @@ still_made seat given seen =
 pub still_next : (taken : Taken) (thread : ℕ) (entries : List EntryData) (seat given : DeskSeat) → IsGiven by_number seat given → entries ≡ given.front → seat.thread ≡ thread → IsNext taken seat.thread seat.front → IsNext taken thread entries
 still_next taken thread entries seat given seen list same next =
     let made : made_by by_number seat.thread seat.front ≡ made_by by_number thread entries =
-        sym (still_made seat given seen) ∙ ap (λ (l : List EntryData). made_by by_number seat.thread l) (sym list) ∙ ap (λ (t : ℕ). made_by by_number t entries) same in
+    sym (still_made seat given seen) ∙ ap (λ (l : List EntryData). made_by by_number seat.thread l) (sym list) ∙ ap (λ (t : ℕ). made_by by_number t entries) same in
     record { position = next.position ∙ ap dispatches made; once = sym (ap gave_up made) ∙ next.once }
 
 -- the desk is the looper's, by the opening that the book has
@@ -95,7 +95,7 @@ entries_there : (l : LooperFacts) (so_far served : List Step) (n : Noted EntryDa
 entries_there l so_far served n nothing =
     flat_map-append (desk_entry l.number) so_far (served ++ at_desk l.number n ∷ [])
     ∙ ap (λ (m : List (Noted EntryData)). desk_entries l.number so_far ++ m)
-      (flat_map-append (desk_entry l.number) served (at_desk l.number n ∷ []) ∙ ap (λ (m : List (Noted EntryData)). m ++ desk_entries l.number (at_desk l.number n ∷ [])) nothing ∙ own_entry l.number n)
+    (flat_map-append (desk_entry l.number) served (at_desk l.number n ∷ []) ∙ ap (λ (m : List (Noted EntryData)). m ++ desk_entries l.number (at_desk l.number n ∷ [])) nothing ∙ own_entry l.number n)
 
 module _ (opening : DeskState) (taken : Taken) (made : Made) (entries entries' : List EntryData) (seat given : DeskSeat) (seen : IsGiven by_number seat given) (list : entries ≡ given.front) (r r' : Reach)
     (thread : seat.thread ≡ looper_thread r.number)
@@ -126,10 +126,10 @@ module _ (opening : DeskState) (taken : Taken) (made : Made) (entries entries' :
         let c = on.does in
         let n = c.noted in
         let noted_so : noted by_number seat'.thread seat'.front ≡ desk_entries l.number (so_far ++ on.steps) =
-            notes_one seat given seen n seat' (entered n.entry (grown l so_far on.steps c)) (c.before ∙ list) (own l start so_far on.steps stands c)
-            ∙ ap (λ (m : List (Noted EntryData)). m ++ n ∷ []) desk.noted_is
-            ∙ sym (entries_there l so_far c.served n (serves_all l.number l so_far taken.item c.asked c.heard c.served c.serves))
-            ∙ ap (λ (s : List Step). desk_entries l.number (so_far ++ s)) (sym c.is) in
+        notes_one seat given seen n seat' (entered n.entry (grown l so_far on.steps c)) (c.before ∙ list) (own l start so_far on.steps stands c)
+        ∙ ap (λ (m : List (Noted EntryData)). m ++ n ∷ []) desk.noted_is
+        ∙ sym (entries_there l so_far c.served n (serves_all l.number l so_far taken.item c.asked c.heard c.served c.serves))
+        ∙ ap (λ (s : List Step). desk_entries l.number (so_far ++ s)) (sym c.is) in
         let same_opening : opening ≡ l.desk = some_same opening l.desk (sym opens ∙ desk.opening) in
         record {
           steps = on.steps;

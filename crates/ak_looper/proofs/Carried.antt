@@ -135,8 +135,8 @@ module _ (l : LooperFacts) (start : ℕ) (so_far : List Step) (taken : Taken) (w
       let now = so_far ++ done.steps in
       let one : GoesOn l start now (Serves l now b.item w a) r' = subst (λ (x : ItemData). GoesOn l start now (Serves l now x w a) r') (sym item_is) (serves now done.stands) in
       let all : GoesOn l start so_far (ServesAll l so_far b.item (b.asked ++ w ∷ []) (b.heard ++ a ∷ [])) r' =
-          goes_further l start so_far (Serves l now b.item w a) (ServesAll l so_far b.item (b.asked ++ w ∷ []) (b.heard ++ a ∷ [])) done.steps r'
-          (λ more does. serves_more l b.item w a so_far b.asked b.heard done.steps more done.does does) one in
+      goes_further l start so_far (Serves l now b.item w a) (ServesAll l so_far b.item (b.asked ++ w ∷ []) (b.heard ++ a ∷ [])) done.steps r'
+      (λ more does. serves_more l b.item w a so_far b.asked b.heard done.steps more done.does does) one in
       all_done l start so_far r' b.item b2.item (b.asked ++ w ∷ []) b2.asked (b.heard ++ a ∷ []) b2.heard (hears.same.item_is ∙ asks.same.item_is) (hears.asked_is ∙ asks.asked_is) (hears.heard_is ∙ ap (λ h. h ++ a ∷ []) asks.heard_is) all
 
   module _ (asking : w ≢ want.Done) (s s1 s2 : DeskState) (serves : (now : List Step) → Stands l start now r → GoesOn l start now (Serves l now taken.item w a) r') where

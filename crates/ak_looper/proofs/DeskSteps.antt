@@ -145,11 +145,11 @@ module _ (l : LooperFacts) (start : ℕ) (so_far : List Step) (r r' : Reach) (cl
       let now = r.hands.clock in
       let n : Noted EntryData = note d.entries (dispatched_entry d.entries now b.position b.item b.before h.words h.quit) in
       let list : HasDispatched now clock b.position b.item b.asked b.heard d.opening b.before d'.state n.before (n.before ++ n.entry ∷ []) made =
-          subst (λ (x : List EntryData). HasDispatched now clock b.position b.item b.asked b.heard d.opening b.before d'.state d.entries x made) h.grown h in
+      subst (λ (x : List EntryData). HasDispatched now clock b.position b.item b.asked b.heard d.opening b.before d'.state d.entries x made) h.grown h in
       let position : HasDispatched now clock taken.position b.item b.asked b.heard d.opening b.before d'.state n.before (n.before ++ n.entry ∷ []) made =
-          subst (λ (x : ℕ). HasDispatched now clock x b.item b.asked b.heard d.opening b.before d'.state n.before (n.before ++ n.entry ∷ []) made) position_is list in
+      subst (λ (x : ℕ). HasDispatched now clock x b.item b.asked b.heard d.opening b.before d'.state n.before (n.before ++ n.entry ∷ []) made) position_is list in
       let item : HasDispatched now clock taken.position taken.item b.asked b.heard d.opening b.before d'.state n.before (n.before ++ n.entry ∷ []) made =
-          subst (λ (x : ItemData). HasDispatched now clock taken.position x b.asked b.heard d.opening b.before d'.state n.before (n.before ++ n.entry ∷ []) made) item_is position in
+      subst (λ (x : ItemData). HasDispatched now clock taken.position x b.asked b.heard d.opening b.before d'.state n.before (n.before ++ n.entry ∷ []) made) item_is position in
       let comes : Carried d.opening taken b.asked b.heard made n = record { clock = now; later = clock; before = b.before; after = d'.state; dispatched = item } in
       entered d.opening b.asked b.heard n d'.entries thread (inl comes) h.grown refl refl (ap (λ (c : Clock). c.time) h.clocked)
       (subst (λ (x : ItemData). GoesOn l start so_far (ServesAll l so_far x b.asked b.heard) r) item_is served)
@@ -173,7 +173,7 @@ module _ (l : LooperFacts) (start : ℕ) (so_far : List Step) (r r' : Reach) (cl
       let now = r.hands.clock in
       let n : Noted EntryData = note d.entries (given_up_entry d.entries now taken.position taken.item) in
       let list : HasGivenUp now clock taken.position taken.item d.opening d.state n.before (n.before ++ n.entry ∷ []) made =
-          subst (λ (x : List EntryData). HasGivenUp now clock taken.position taken.item d.opening d.state d.entries x made) h.grown h in
+      subst (λ (x : List EntryData). HasGivenUp now clock taken.position taken.item d.opening d.state d.entries x made) h.grown h in
       let comes : GivenUp d.opening taken [] [] made n = record { clock = now; later = clock; state = d.state; given_up = list; asked_none = refl; heard_none = refl } in
       from_same opening d.opening entries d'.entries d.entries opens same
       (entered d.opening [] [] n d'.entries thread (inr comes) h.grown refl refl (ap (λ (c : Clock). c.time) h.clocked) (stays l start so_far (ServesAll l so_far taken.item [] []) r stands refl))

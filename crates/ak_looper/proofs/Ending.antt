@@ -164,6 +164,9 @@ module _ (job : LooperJob) (first life : Life) (k : EndKind) (end : LooperEnd) (
     doors =
         subst (λ (s : RosterSeat). All (DoorStands steps s) end.doors.items) (sym e.roster_seat)
         (subst (All (DoorStands steps e.reach.roster_seat)) (sym (ap vec_items e.doors)) stands.doors);
+    doors_thread =
+        subst (λ (h : Hands). All (λ (door : ℕ × Door). door.1.port_seat.thread ≡ h.clock.thread.0) end.doors.items) (sym e.hands)
+        (subst (All (λ (door : ℕ × Door). door.1.port_seat.thread ≡ e.reach.hands.clock.thread.0)) (sym (ap vec_items e.doors)) e.reach.doors_thread);
     ways =
         ap (λ (doors : List (ℕ × Door)). map (λ (door : ℕ × Door). door.0) doors) (ap vec_items e.doors) ∙ stands.ways ∙ sym (ap (λ ns. ns ++ doors_got steps) ready.doors);
   }

@@ -14,6 +14,7 @@ use Rattle.ak_desk.specs.Entry.{EntryData}
 use Rattle.ak_desk.specs.Machine.{gives_up}
 use Rattle.ak_looper.specs.declared.job.EndKind.{EndKind}
 use Rattle.ak_looper.specs.declared.job.EndKind.TheVariants as kind
+use Rattle.ak_port.specs.declared.port_entry.PortEvent.TheVariants as event
 use Rattle.ak_port.specs.declared.port_entry.TakeAnswer.{TakeAnswer}
 use Rattle.ak_looper.specs.declared.reach.Reach.{Reach}
 use Rattle.ak_looper.specs.Living.{GoesOnWorking, HasInHand, HasRested, HasRestedSo, HasStopped, kind_of}
@@ -31,9 +32,9 @@ module _ (l : LooperFacts) (start : ℕ) (work : List Step) where
       record { opening = stands.opening; noted_is = stands.noted_is ∙ sym (ap (λ s. desk_entries l.number (work ++ s)) is ∙ desk-append l.number work (at_port l.number n ∷ []) ∙ append-nil (desk_entries l.number work)) }
 
   -- one item was taken, which is in hand
-  pub took_one : (count : ℕ) (queue : List Taken) (taken : Taken) (r r' : Reach) (desk : DeskSeat) → GoesOnWorking l start work r desk → (goes : GoesOn l start work (IsTaking l work (answered.Took count) queue) r') → queue ≡ taken ∷ []
+  pub took_one : (count : ℕ) (queue : List Taken) (taken : Taken) (r r' : Reach) (desk : DeskSeat) → GoesOnWorking l start work r desk → (goes : GoesOn l start work (IsTaking l work (answered.Took count) queue) r') → queue ≡ taken ∷ [] → count ≡ 1
       → HasInHand l start (work ++ goes.steps) taken r' desk
-  took_one count queue taken r r' desk working goes only =
+  took_one count queue taken r r' desk working goes only one =
       let t = goes.does in
       let hands : taken_in l (work ++ goes.steps) ≡ taken_in l work ++ taken ∷ [] = ap (λ s. taken_in l (work ++ s)) t.is ∙ taken_more l work t.noted_one ∙ ap (λ k. taken_in l work ++ k) (sym t.queue_is ∙ only) in
       let same : dispatched_in l (work ++ goes.steps) ≡ dispatched_in l work = ap (λ s. dispatched_in l (work ++ s)) t.is ∙ dispatched_as l work t.noted_one in
@@ -41,7 +42,7 @@ module _ (l : LooperFacts) (start : ℕ) (work : List Step) where
       record {
         worked = record {
           works = went_on work goes.steps working.worked.works
-              (inl (record { rested = none_in_hand l work working.rested; works = working.not_closing; noted = t.noted_one; count = count; event_is = t.event_is; is = t.is }));
+              (inl (record { rested = none_in_hand l work working.rested; works = working.not_closing; noted = t.noted_one; event_is = t.event_is ∙ ap (λ (k : ℕ). event.Took k) one; is = t.is }));
           stands = goes.stands;
           at_desk = desk_as t.noted_one goes.steps desk t.is working.worked.at_desk;
         };

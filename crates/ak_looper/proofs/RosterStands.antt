@@ -1,8 +1,8 @@
 -- A looper's thread stands as before, with steps at the roster more.
-use Rattle.std.proofs.Common.{◌≡◌, ◌≢◌, ℕ, ◌<◌, List, [], ◌∷◌, ◌++◌, length, map, All, AllPairs, Any, Some, refl, sym, ap, ◌∙◌, subst, append_assoc, append-nil, length-append, arith}
+use Rattle.std.proofs.Common.{◌≡◌, ◌≢◌, ℕ, List, [], ◌∷◌, ◌++◌, map, All, AllPairs, Any, Some, refl, sym, ap, ◌∙◌, subst, append_assoc, append-nil}
 use Rattle.std.specs.Prelude.{slice_get}
 use Rattle.std.specs.List.{flat_map}
-use Rattle.std.proofs.lemmas.List.{get_or_append_left, map-append}
+use Rattle.std.proofs.lemmas.List.{map-append}
 use Rattle.std.proofs.lemmas.List.Concat.{flat_map-append}
 use Rattle.std.proofs.lemmas.List.Elements.{All-append, All-head, All-nil, All-tail, All-weaker, Contains-append_left}
 use Rattle.ak_turn.specs.Entries.{StartsWith}
@@ -20,17 +20,12 @@ use Rattle.ak_looper.specs.declared.door.Door.{Door}
 use Rattle.ak_looper.specs.declared.reach.Reach.{Reach}
 use Rattle.ak_looper.specs.Rosters.{IsAtRoster, Object, RosterGoes, plain_of}
 use Rattle.ak_looper.specs.Stands.{BookStands, DoorStands, GoesOn, IsAtOneOf, PortStands, RosterStands, Stands, StartsTeam, doors_kept, numbers_of}
-use Rattle.ak_looper.proofs.RosterSteps.{DoesNoDoor}
+use Rattle.ak_looper.proofs.RosterSteps.{DoesNoDoor, any_still}
 use Rattle.ak_looper.proofs.RosterTurns.{leads_on}
 
 -- ---- lists that go on
 pub starts_still : {X : Type 0} (xs ys zs : List X) → StartsWith ys xs → StartsWith zs ys → StartsWith zs xs
 starts_still xs ys zs one two = (one.0 ++ two.0, two.1 ∙ ap (λ l. l ++ two.0) one.1 ∙ append_assoc xs one.0 two.0)
-
-pub any_still : {X : Type 0} (P : X → Type 0) (xs ys : List X) → Any P xs → Any P (xs ++ ys)
-any_still P xs ys there =
-    let within : there.0 < length (xs ++ ys) = omega (arith, length-append xs ys, there.2) in
-    (there.0, there.1, within, get_or_append_left xs ys there.1 there.0 there.2 ∙ there.3, there.4)
 
 plain_starts : (front front' : List (EntryWithObjects Object)) → StartsWith front' front → StartsWith (plain_entries front') (plain_entries front)
 plain_starts front front' on =

@@ -1,8 +1,8 @@
 -- What a call at the roster is as steps of the thread.
-use Rattle.std.proofs.Common.{◌≡◌, ◌≢◌, ℕ, ◌+◌, ◌-◌, max, Bool, true, List, [], ◌∷◌, ◌++◌, length, map, Option, None, Some, inl, inr, refl, sym, ap, ◌∙◌, subst, append_assoc, append-nil}
+use Rattle.std.proofs.Common.{◌≡◌, ◌≢◌, ℕ, ◌+◌, ◌-◌, ◌<◌, max, Bool, true, List, [], ◌∷◌, ◌++◌, length, map, Any, Option, None, Some, inl, inr, refl, sym, ap, ◌∙◌, subst, append_assoc, append-nil, length-append, arith}
 use Rattle.std.specs.Prelude.{option_map, slice_get, unwrap_or}
 use Rattle.std.specs.List.{list_any}
-use Rattle.std.proofs.lemmas.List.{length-map, map-append}
+use Rattle.std.proofs.lemmas.List.{get_or-map, get_or_append_left, length-map, map-append}
 use Rattle.std.proofs.lemmas.List.Elements.{All-cons, All-map, All-nil}
 use Rattle.std.proofs.lemmas.Option.{same_Some, slice_get-map}
 use Rattle.ak_base.specs.declared.app_word.AppWord.{AppWord}
@@ -24,9 +24,10 @@ use Rattle.ak_action.specs.declared.answer.Answer.TheVariants as answer
 use Rattle.ak_action.specs.Interp.{AnswersFind}
 use Rattle.ak_diary.specs.Looper.{LooperFacts, doors_got}
 use Rattle.ak_diary.specs.Step.{Step, at_roster, saw_roster, roster_stamp}
-use Rattle.ak_diary.specs.Turns.{LeavesRoster}
+use Rattle.ak_diary.specs.Turns.{LeavesRoster, StartsIt}
 use Rattle.ak_diary.specs.Wants.{LooksUp, ServesFind, found_answer}
 use Rattle.ak_looper.specs.Rosters.{HasEntered, HasLooked, IsAtRoster, Object, RosterGoes, RosterSeat, by_number, maker_of, plain_of}
+use Rattle.ak_looper.specs.Stands.{StartsTeam}
 use Rattle.ak_looper.specs.RosterCalls.{HasFound, HasLeft, HasLookedUp, HasSeenGone, entered, seen}
 use Rattle.ak_looper.proofs.RosterTurns.{keeps_called, keeps_seen}
 
@@ -193,14 +194,28 @@ left_entered l team clock clock' seat seat' is made =
       goes = entered_goes clock clock' (event.Gone team) seat seat' made;
     }
 
-left_seen : (l : LooperFacts) (team : ℕ) (clock clock' : Clock) (seat seat' : RosterSeat) → team ≡ l.team → seat.opening ≡ Some l.heads → HasSeenGone team clock clock' seat seat' → DoesNoDoor (LeavesRoster l true) clock clock' seat seat'
-left_seen l team clock clock' seat seat' is heads found =
+-- what stands in a list stands in each longer one
+pub any_still : {X : Type 0} (P : X → Type 0) (xs ys : List X) → Any P xs → Any P (xs ++ ys)
+any_still P xs ys there =
+    let within : there.0 < length (xs ++ ys) = omega (arith, length-append xs ys, there.2) in
+    (there.0, there.1, within, get_or_append_left xs ys there.1 there.0 there.2 ∙ there.3, there.4)
+
+any_plain : (l : LooperFacts) (front : List (EntryWithObjects Object)) → Any (StartsTeam l) front → Any (StartsIt l) (plain_entries front)
+any_plain l front there =
+    let plain : EntryWithObjects Object → RosterEntry = λ e. e.plain in
+    let x = there.1 in
+    let within : there.0 < length (plain_entries front) = omega (arith, length-map front plain, there.2) in
+    (there.0, plain x, within, get_or-map plain front there.0 x (plain x) there.2 ∙ ap plain there.3, (there.4.0, there.4.1, there.4.2))
+
+left_seen : (l : LooperFacts) (team : ℕ) (clock clock' : Clock) (seat seat' : RosterSeat) → team ≡ l.team → seat.opening ≡ Some l.heads → Any (StartsTeam l) seat.front → HasSeenGone team clock clock' seat seat' → DoesNoDoor (LeavesRoster l true) clock clock' seat seat'
+left_seen l team clock clock' seat seat' is heads launched found =
     let known : found.heads ≡ l.heads = same_heads l.heads found.heads seat seat' (ap (λ (s : RosterSeat). s.opening) found.looked.seen.after) heads found.opening in
     let runs : List AppHead → ℕ → Bool = λ hs t. list_any (runs_team t) (state_of hs (plain_of seat')).running in
     record {
       steps = saw_roster (plain_of seat') ∷ [];
       does = inr (record {
         seen = plain_of seat';
+        started = any_plain l seat'.front (subst (Any (StartsTeam l)) (sym (ap (λ (s : RosterSeat). s.front) found.looked.seen.after)) (any_still (StartsTeam l) seat.front found.looked.seen.between launched));
         gone = ap (λ (hs : List AppHead). runs hs l.team) (sym known) ∙ ap (runs found.heads) (sym is) ∙ found.gone;
         is = refl;
       });
@@ -208,6 +223,6 @@ left_seen l team clock clock' seat seat' is heads found =
       goes = saw_goes clock clock' seat seat' found.looked;
     }
 
-pub left_does : (l : LooperFacts) (team : ℕ) (clock clock' : Clock) (seat seat' : RosterSeat) → team ≡ l.team → seat.opening ≡ Some l.heads → HasLeft team clock clock' seat seat' → DoesNoDoor (LeavesRoster l true) clock clock' seat seat'
-left_does l team clock clock' seat seat' is heads (entered made) = left_entered l team clock clock' seat seat' is made
-left_does l team clock clock' seat seat' is heads (seen found) = left_seen l team clock clock' seat seat' is heads found
+pub left_does : (l : LooperFacts) (team : ℕ) (clock clock' : Clock) (seat seat' : RosterSeat) → team ≡ l.team → seat.opening ≡ Some l.heads → Any (StartsTeam l) seat.front → HasLeft team clock clock' seat seat' → DoesNoDoor (LeavesRoster l true) clock clock' seat seat'
+left_does l team clock clock' seat seat' is heads launched (entered made) = left_entered l team clock clock' seat seat' is made
+left_does l team clock clock' seat seat' is heads launched (seen found) = left_seen l team clock clock' seat seat' is heads launched found

@@ -96,11 +96,11 @@ module _ (l : LooperFacts) (start : ℕ) (so_far : List Step) (owed : Duty) (mad
         after_is = then_is ∙ ap (λ (b : Bool). after_of b (due || not paid)) (sym short_is) ∙ ap (λ (b : Bool). after_of (made.no_memory || ran_short steps) b) (sym closing_is);
       }
     where
-    and_both : (a b : Bool) → (a && b) ≡ (b && a)
-    and_both true true = refl
-    and_both true false = refl
-    and_both false true = refl
-    and_both false false = refl
+      and_both : (a b : Bool) → (a && b) ≡ (b && a)
+      and_both true true = refl
+      and_both true false = refl
+      and_both false true = refl
+      and_both false false = refl
 
 -- ---- by the calls, one after another
 abbrev pub GoesClosing : Bool → Reach → Reach → Type 0
@@ -124,8 +124,8 @@ module _ (owed : Duty) (made : Made) (short paid : Bool) (d : Debt) (r closed se
         stands = subst (λ (s : List Step). Stands l start s ended) (regroup so_far text first.steps second.steps third.steps) third.stands;
       }
     where
-    regroup : (a b c e f : List Step) → a ++ b ++ c ++ e ++ f ≡ a ++ (b ++ c ++ e ++ f)
-    regroup a b c e f = simp append_assoc
+      regroup : (a b c e f : List Step) → a ++ b ++ c ++ e ++ f ≡ a ++ (b ++ c ++ e ++ f)
+      regroup a b c e f = simp append_assoc
 
   pub settles : (soon late : Bool) (a : After) → soon ≡ (made.quit || made.no_memory || short) → late ≡ (not paid && not soon) → IsDebt r.team owed made.reply short d
       → GoesClosing soon r closed → GoesPaying d paid closed settling → GoesClosing late settling ended → a ≡ after_of (made.no_memory || short || not paid) (soon || not paid)

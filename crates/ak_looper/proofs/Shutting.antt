@@ -119,9 +119,9 @@ record ShutsFirst (looper : ℕ) (steps : List Step) : Type 0 where
 shut_first : (looper : ℕ) (others : List ℕ) (steps : List Step) → ShutsAll (looper ∷ others) steps → ShutsFirst looper steps
 shut_first looper others steps all = by_first all.2
   where
-  by_first : Shuts looper all.0 → ShutsFirst looper steps
-  by_first (inl enters) = record { step = at_port looper enters.noted; shutting = (refl, enters.event_is); others = all.1; are = all.4 ∙ ap (λ (s : List Step). s ++ all.1) enters.is }
-  by_first (inr finds) = record { step = saw_port looper finds.seen; shutting = (refl, finds.shut); others = all.1; are = all.4 ∙ ap (λ (s : List Step). s ++ all.1) finds.is }
+    by_first : Shuts looper all.0 → ShutsFirst looper steps
+    by_first (inl enters) = record { step = at_port looper enters.noted; shutting = (refl, enters.event_is); others = all.1; are = all.4 ∙ ap (λ (s : List Step). s ++ all.1) enters.is }
+    by_first (inr finds) = record { step = saw_port looper finds.seen; shutting = (refl, finds.shut); others = all.1; are = all.4 ∙ ap (λ (s : List Step). s ++ all.1) finds.is }
 
 -- so its port is shut behind that, whatever it did since
 ports_stay_shut : (l : LooperFacts) (start : ℕ) (before shut later : List Step) (r : Reach) → Stands l start (before ++ shut ++ later) r → ShutsAll (closed_by l) shut → IsShut r
@@ -129,13 +129,13 @@ ports_stay_shut l start before shut later r stands all =
     let order = own_first l (is_own l) refl stands.of_team in
     let first = shut_first l.number order.others shut (subst (λ (loopers : List ℕ). ShutsAll loopers shut) order.are all) in
     let here : before ++ shut ++ later ≡ before ++ first.step ∷ (first.others ++ later) =
-        ap (λ (s : List Step). before ++ s ++ later) first.are ∙ append_assoc before (first.step ∷ first.others) later in
+    ap (λ (s : List Step). before ++ s ++ later) first.are ∙ append_assoc before (first.step ∷ first.others) later in
     known_shut l.number before (first.others ++ later) first.step r.port_seat (subst (λ (s : List Step). PortStands s l.number r.port_seat) here stands.port) first.shutting
 
 pub closed_stays_shut : (l : LooperFacts) (start : ℕ) (so_far closing later : List Step) (r : Reach) → Stands l start (so_far ++ closing ++ later) r → Closes l closing → IsShut r
 closed_stays_shut l start so_far closing later r stands closes =
     let here : so_far ++ closing ++ later ≡ so_far ++ closes.gone ++ closes.shut ++ later =
-        ap (λ (s : List Step). so_far ++ s ++ later) closes.is ∙ ap (λ (s : List Step). s ++ later) (sym (append_assoc so_far closes.gone closes.shut)) in
+    ap (λ (s : List Step). so_far ++ s ++ later) closes.is ∙ ap (λ (s : List Step). s ++ later) (sym (append_assoc so_far closes.gone closes.shut)) in
     ports_stay_shut l start (so_far ++ closes.gone) closes.shut later r (subst (λ (s : List Step). Stands l start s r) here stands) closes.shuts
 
 -- a thread that has closed

@@ -24,7 +24,7 @@ use Rattle.ak_looper.specs.declared.reach.Reach.{Reach}
 use Rattle.ak_looper.specs.Rosters.{MayGetDoor, Object, RosterSeat, by_number, maker_of, plain_of}
 use Rattle.ak_looper.specs.Stands.{Stands, StartsTeam, doors_kept, numbers_of}
 use Rattle.ak_looper.proofs.Kept.{All-left, All-right, of_team_has, of_team_is, team_has_doors}
-use Rattle.ak_looper.proofs.RosterStands.{any_still}
+use Rattle.ak_looper.proofs.RosterSteps.{any_still}
 
 -- ---- the thread's own entries are of no such door
 not_of_door : (looper : ℕ) (e : RosterEvent) → All (λ number. number ≢ looper) (door_in e) → e ≢ event.Door looper

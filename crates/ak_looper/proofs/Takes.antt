@@ -62,6 +62,10 @@ if_one : (taker by : ℕ) (s : PortState) (answer : TakeAnswer) (queue : List Ta
 if_one taker by s (taken.Took k) queue allowed is most = ap (λ (l : List Taken). length l) is ∙ handed_length s k allowed.3 ∙ omega (arith, allowed.2, most)
 if_one taker by s (taken.Rest k) queue allowed is most = tt
 
+if_count : (taker by : ℕ) (s : PortState) (answer : TakeAnswer) → IsAllowed taker by s (take_event answer) → IfTook answer (λ k. k ≤ 1) → IfTook answer (λ k. k ≡ 1)
+if_count taker by s (taken.Took k) allowed most = omega (arith, allowed.2, most)
+if_count taker by s (taken.Rest k) allowed most = tt
+
 least : (answer : TakeAnswer) (m : ℕ) → IfTook answer (λ k. k ≡ min 1 (k + m)) → IfTook answer (λ k. k ≤ 1)
 least (taken.Took k) m is = omega arith
 least (taken.Rest k) m is = tt
@@ -73,6 +77,14 @@ takes_one answer queue clock clock' seat seat' takes at m most =
     let entry : PortEntry = entry_now clock entered.before (take_event answer) in
     let list : IsPort port.0.0 (entered.before ++ entry ∷ []) = subst (IsPort port.0.0) entered.front port.1 in
     if_one port.0.0 clock.thread.0 (state_of entered.before) answer queue (last_step port.0.0 entered.before entry list).allowed takes.items (least answer m most)
+
+pub counts_one : (answer : TakeAnswer) (queue : List Taken) (clock clock' : Clock) (seat seat' : PortSeat) → TakesSo answer queue clock clock' seat seat' → IsAtPort seat' → (m : ℕ) → IfTook answer (λ k. k ≡ min 1 (k + m)) → IfTook answer (λ k. k ≡ 1)
+counts_one answer queue clock clock' seat seat' takes at m most =
+    let entered = takes.entered in
+    let port = some_and seat'.opening (λ (t : ThreadId). IsPort t.0 seat'.front) at in
+    let entry : PortEntry = entry_now clock entered.before (take_event answer) in
+    let list : IsPort port.0.0 (entered.before ++ entry ∷ []) = subst (IsPort port.0.0) entered.front port.1 in
+    if_count port.0.0 clock.thread.0 (state_of entered.before) answer (last_step port.0.0 entered.before entry list).allowed (least answer m most)
 
 -- ---- a port that is shut stays so
 shut_after : (s : PortState) (e : PortEvent) → s.shut ≡ true → (state_after s e).shut ≡ true

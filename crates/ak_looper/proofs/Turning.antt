@@ -234,26 +234,32 @@ module _ (l : LooperFacts) (start : ℕ) (work : List Step) (taken : Taken) (mad
     rested = subst (λ k. length (taken_in l k) ≡ dispatched_in l k) whole_is rested_is
 
     finish : (q m t : Bool) → made.quit ≡ q → made.no_memory ≡ m → ran_short s.steps ≡ t → ComesTo l start (work ++ turn) (after_of (m || t) ((q || m) || t)) r2 desk1
-    finish q true t is_q is_m is_t =
-        (record {
-          worked = worked;
-          rested = rested;
-          kind_is = sym (ap (λ k. kind_of (ending_of l k)) (sym whole_is) ∙ ap (λ b. kind_of (cond b without_memory (cond (last_quits (desk_list l (so_far ++ s.steps))) by_quit by_team))) (short_is ∙ ap (λ b. b || ran_short s.steps) is_m));
-        }, ap is_closing (sym whole_is) ∙ closing_is ∙ ap (λ b. (made.quit || b) || ran_short s.steps) is_m ∙ ap (λ b. b || ran_short s.steps) (or_true made.quit))
-    finish q false true is_q is_m is_t =
-        (record {
-          worked = worked;
-          rested = rested;
-          kind_is = sym (ap (λ k. kind_of (ending_of l k)) (sym whole_is) ∙ ap (λ b. kind_of (cond b without_memory (cond (last_quits (desk_list l (so_far ++ s.steps))) by_quit by_team))) (short_is ∙ ap (λ b. made.no_memory || b) is_t ∙ or_true made.no_memory));
-        }, ap is_closing (sym whole_is) ∙ closing_is ∙ ap (λ b. (made.quit || made.no_memory) || b) is_t ∙ or_true (made.quit || made.no_memory))
-    finish true false false is_q is_m is_t =
-        (record {
-          worked = worked;
-          rested = rested;
-          kind_is = sym (ap (λ k. kind_of (ending_of l k)) (sym whole_is)
-              ∙ ap (λ b. kind_of (cond b without_memory (cond (last_quits (desk_list l (so_far ++ s.steps))) by_quit by_team))) (short_is ∙ ap (λ b. b || ran_short s.steps) is_m ∙ is_t)
-              ∙ ap (λ b. kind_of (cond b by_quit by_team)) (marked_is ∙ is_q));
-        }, ap is_closing (sym whole_is) ∙ closing_is ∙ ap (λ b. (b || made.no_memory) || ran_short s.steps) is_q)
+    finish q true t is_q is_m is_t = (
+      record {
+        worked = worked;
+        rested = rested;
+        kind_is = sym (ap (λ k. kind_of (ending_of l k)) (sym whole_is) ∙ ap (λ b. kind_of (cond b without_memory (cond (last_quits (desk_list l (so_far ++ s.steps))) by_quit by_team))) (short_is ∙ ap (λ b. b || ran_short s.steps) is_m));
+      },
+      ap is_closing (sym whole_is) ∙ closing_is ∙ ap (λ b. (made.quit || b) || ran_short s.steps) is_m ∙ ap (λ b. b || ran_short s.steps) (or_true made.quit),
+    )
+    finish q false true is_q is_m is_t = (
+      record {
+        worked = worked;
+        rested = rested;
+        kind_is = sym (ap (λ k. kind_of (ending_of l k)) (sym whole_is) ∙ ap (λ b. kind_of (cond b without_memory (cond (last_quits (desk_list l (so_far ++ s.steps))) by_quit by_team))) (short_is ∙ ap (λ b. made.no_memory || b) is_t ∙ or_true made.no_memory));
+      },
+      ap is_closing (sym whole_is) ∙ closing_is ∙ ap (λ b. (made.quit || made.no_memory) || b) is_t ∙ or_true (made.quit || made.no_memory),
+    )
+    finish true false false is_q is_m is_t = (
+      record {
+        worked = worked;
+        rested = rested;
+        kind_is = sym (ap (λ k. kind_of (ending_of l k)) (sym whole_is)
+            ∙ ap (λ b. kind_of (cond b without_memory (cond (last_quits (desk_list l (so_far ++ s.steps))) by_quit by_team))) (short_is ∙ ap (λ b. b || ran_short s.steps) is_m ∙ is_t)
+            ∙ ap (λ b. kind_of (cond b by_quit by_team)) (marked_is ∙ is_q));
+      },
+      ap is_closing (sym whole_is) ∙ closing_is ∙ ap (λ b. (b || made.no_memory) || ran_short s.steps) is_q,
+    )
     finish false false false is_q is_m is_t =
         record {
           worked = worked;

@@ -75,6 +75,7 @@ pub record HasLived (job : LooperJob) (end : LooperEnd) : Type 0 where
   pub port : PortStands steps job.number end.own.port_seat
   pub desk : DeskStands (facts_of job heads desk_opening) steps end.own.desk_seat
   pub doors : All (DoorStands steps end.roster_seat) end.doors.items
+  pub doors_thread : All (λ (door : ℕ × Door). door.1.port_seat.thread ≡ end.hands.clock.thread.0) end.doors.items
   pub ways : map (λ (door : ℕ × Door). door.0) end.doors.items ≡ map (λ (door : ℕ × Door). door.0) job.doors.items ++ doors_got steps
 
 -- the thread as it begins: with all that the job has

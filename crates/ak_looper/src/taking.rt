@@ -28,6 +28,7 @@ fn take_there<R: Wait>(
     requires empty { queue.old.items ≡ [] }
     ensures took { TakesSo result queue.new.items clock.old clock.new seat.old seat.new }
     ensures one { IfTook result (λ k. length queue.new.items ≡ 1) }
+    ensures count { IfTook result (λ k. k ≡ 1) }
     ensures rest { (state_of seat.old.front).shut ≡ true → IsTheRest result }
     ensures all { TakenSoFar seat.new }
     ensures can { (room : ℕ) → CanTake clock.old.thread room seat.old → IfTook result (λ _. CanTake clock.old.thread room seat.new) }
@@ -53,6 +54,7 @@ impl Reach {
         requires empty { queue.old.items ≡ [] }
         ensures goes { (l : LooperFacts) (start : ℕ) (so_far : List Step) → Stands l start so_far self.old → GoesOn l start so_far (IsTaking l so_far result queue.new.items) self.new }
         ensures one { IfTook result (λ k. length queue.new.items ≡ 1) }
+        ensures count { IfTook result (λ k. k ≡ 1) }
         ensures rest { (state_of self.old.port_seat.front).shut ≡ true → IsTheRest result }
         ensures can { (room : ℕ) → CanTake self.old.hands.clock.thread room self.old.port_seat → IfTook result (λ _. CanTake self.old.hands.clock.thread room self.new.port_seat) }
         ensures room { deque_capacity queue.new ≡ deque_capacity queue.old }

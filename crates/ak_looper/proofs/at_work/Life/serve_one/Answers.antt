@@ -27,7 +27,7 @@ returns-clause-served g c l start work hand =
     let d = c.dispatch-made.ensures.dispatched l start work hand.worked.stands hand.worked.at_desk in
     let so_far = (work ++ d.steps) ++ lacked_if made.no_memory in
     let s = settled_as l start so_far c.duty-owed.result c.args.taken.item.duty made c.settle.result c.settle.new.reach c.duty-owed.ensures
-        (c.settle.ensures.settled l start so_far (stands_if made.no_memory l start (work ++ d.steps) r1 d.stands) (due_is l start work c.args.taken made r r1 desk desk1 hand d)) in
+    (c.settle.ensures.settled l start so_far (stands_if made.no_memory l start (work ++ d.steps) r1 d.stands) (due_is l start work c.args.taken made r r1 desk desk1 hand d)) in
     comes_to l start work c.args.taken made r r1 desk desk1 hand d c.settle.result c.settle.new.reach s
 
 pub returns-clause-can : goal.returns-clause-can

@@ -11,7 +11,7 @@ returns-in-Took-clause-took g c l start work working =
     let queue = c.take.new.queue.items in
     each_some c.pop_front.result (λ (t : Taken). queue ≡ t ∷ []) (λ (t : Taken). Later (λ so_far. HasInHand l start so_far t c.take.new.self c.args.self.now.desk_seat) work)
     (popped_one c.pop_front.result queue c.pop_front.new.self.items c.pop_front.ensures.items c.in-Took.ensures.one)
-    (λ t only. record { turn = goes.steps; then_is = took_one l start work c.in-Took.field-0 queue t c.args.self.now.reach c.take.new.self c.args.self.now.desk_seat working goes only })
+    (λ t only. record { turn = goes.steps; then_is = took_one l start work c.in-Took.field-0 queue t c.args.self.now.reach c.take.new.self c.args.self.now.desk_seat working goes only c.in-Took.ensures.count })
 
 pub returns-in-Rest-clause-rested : goal.returns-in-Rest-clause-rested
 returns-in-Rest-clause-rested g c l start work working =

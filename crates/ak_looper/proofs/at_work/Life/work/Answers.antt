@@ -21,7 +21,7 @@ pub serve_one-requires-clause-in_hand : goal.serve_one-requires-clause-in_hand
 serve_one-requires-clause-in_hand g c lifetimes within =
     let is = c.loop.invariant.working in
     let took = c.in-Some-take_one.ensures.took is.facts is.start is.work is.goes_on in
-    let hand : (l : LooperFacts) × (start : ℕ) × (work : List Step) × HasInHand l start work c.in-Some-take_one.taken c.take_one.new.self.reach c.take_one.new.self.desk_seat = (is.facts , is.start , is.work ++ took.turn , took.then_is) in
+    let hand : (l : LooperFacts) × (start : ℕ) × (work : List Step) × HasInHand l start work c.in-Some-take_one.taken c.take_one.new.self.reach c.take_one.new.self.desk_seat = (is.facts, is.start, is.work ++ took.turn, took.then_is) in
     hand
 
 pub returns-in-Closed-clause-rested : goal.returns-in-Closed-clause-rested
@@ -60,8 +60,8 @@ loop-preserved g c =
     let keeps = places_then now.reach took.reach served.reach c.take_one.ensures.keeps (places_of took.reach served.reach c.serve_one.ensures.keeps) in
     let seat = desk_as now.desk_seat took.desk_seat served.desk_seat c.take_one.ensures.desk.1 c.serve_one.ensures.desk.1 in
     let later : (l : LooperFacts) (start : ℕ) (work : List Step) → GoesOnWorking l start work now.reach now.desk_seat → Later (λ so_far. GoesOnWorking l start so_far served.reach served.desk_seat) work
-        = λ l start work goes. later_then (λ so_far. HasInHand l start so_far taken took.reach took.desk_seat) (λ so_far. GoesOnWorking l start so_far served.reach served.desk_seat) work
-            (c.in-Some-take_one.ensures.took l start work goes) (λ so_far hand. c.in_default-serve_one.ensures.served l start so_far hand) in
+    = λ l start work goes. later_then (λ so_far. HasInHand l start so_far taken took.reach took.desk_seat) (λ so_far. GoesOnWorking l start so_far served.reach served.desk_seat) work
+    (c.in-Some-take_one.ensures.took l start work goes) (λ so_far hand. c.in_default-serve_one.ensures.served l start so_far hand) in
     record {
       next = grind (arith, common_steps);
       finite = grind (arith, common_steps);

@@ -9,4 +9,4 @@ pub returns-clause-goes : goal.returns-clause-goes
 returns-clause-goes g c l start so_far stands =
     let r = c.args.self.now in
     goes_beside l start so_far r _ (LeavesRoster l true) stands (record { number = refl; team = refl; first = refl; loopers = refl; book_seat = refl; port_seat = refl }) refl
-    (left_does l r.team r.hands.clock c.leave.new.clock r.roster_seat c.leave.new.seat stands.team stands.heads c.leave.ensures.left)
+    (left_does l r.team r.hands.clock c.leave.new.clock r.roster_seat c.leave.new.seat stands.team stands.heads stands.launched c.leave.ensures.left)

@@ -13,4 +13,3 @@ returns-in-Ok-clause-keeps g c = keeps_then c.args.self.now c.way_to.new.self c.
 pub returns-in-Err-clause-goes : goal.returns-in-Err-clause-goes
 returns-in-Err-clause-goes g c l start so_far stands =
     pays_without_door l start so_far c.args.to c.args.item c.way_to.new.self (c.in-Err.ensures.lacks l start so_far stands)
-
