@@ -13,17 +13,17 @@ use Rattle.ak_diary.specs.Looper.{LooperFacts}
 use Rattle.ak_diary.specs.Step.{Step, lacked}
 use Rattle.ak_diary.specs.Turns.{Fills}
 use Rattle.ak_diary.specs.Wants.{LacksDoor, Opens}
-use Rattle.ak_looper.proofs.ClosingSteps.{goes_as, goes_behind, goes_nowhere}
+use Rattle.ak_looper.proofs.Going.{goes_further, stays, tells}
 use Rattle.ak_looper.proofs.Lacking.{lacked_stands}
 
 module _ (l : LooperFacts) (start : ℕ) (so_far : List Step) (to : Address) (item : ItemData) where
   -- there is the door, and through it the reply is posted or not
   behind_door : (paid : Bool) (between r : Reach) (on : GoesOn l start so_far (Opens l so_far to.looper) between) → GoesOn l start (so_far ++ on.steps) (RepliedSo to.looper item paid) r → GoesOn l start so_far (PaysBack l so_far to item paid) r
   behind_door true between r on replies =
-      goes_behind l start so_far on.steps (RepliedSo to.looper item true) (PaysBack l so_far to item true) r
+      goes_further l start so_far (RepliedSo to.looper item true) (PaysBack l so_far to item true) on.steps r
       (λ s posts. record { door = on.steps; opens = on.does; rest = s; then_does = posts; is = refl }) replies
   behind_door false between r on replies =
-      goes_behind l start so_far on.steps (RepliedSo to.looper item false) (PaysBack l so_far to item false) r
+      goes_further l start so_far (RepliedSo to.looper item false) (PaysBack l so_far to item false) on.steps r
       (λ s lacks. inr (record { door = on.steps; opens = on.does; rest = s; then_does = lacks; is = refl })) replies
 
   pub pays_through : (paid : Bool) (between r : Reach) → GoesOn l start so_far (Opens l so_far to.looper) between
@@ -44,13 +44,13 @@ module _ (l : LooperFacts) (start : ℕ) (so_far : List Step) (d : Debt) (r : Re
   pays_as d' paid is on = subst (λ (x : Debt). GoesOn l start so_far (PaysDebt l so_far x paid) r) (sym is) on
 
   pub pays_nothing : d ≡ debt.Nothing → Stands l start so_far r → GoesOn l start so_far (PaysDebt l so_far d true) r
-  pays_nothing is stands = pays_as debt.Nothing true is (goes_nowhere l start so_far (PaysDebt l so_far debt.Nothing true) r stands (refl, refl))
+  pays_nothing is stands = pays_as debt.Nothing true is (stays l start so_far (PaysDebt l so_far debt.Nothing true) r stands (refl, refl))
 
   pub pays_text : (n : ℕ) (flat : List ℕ) → d ≡ debt.Text n flat → GoesOn l start so_far (Fills n flat) r → GoesOn l start so_far (PaysDebt l so_far d true) r
-  pays_text n flat is on = pays_as (debt.Text n flat) true is (goes_as l start so_far (Fills n flat) (PaysDebt l so_far (debt.Text n flat) true) r (λ s fills. (refl, fills)) on)
+  pays_text n flat is on = pays_as (debt.Text n flat) true is (tells l start so_far (Fills n flat) (PaysDebt l so_far (debt.Text n flat) true) r (λ s fills. (refl, fills)) on)
 
   pub pays_none : (n : ℕ) → d ≡ debt.NoReply n → GoesOn l start so_far (Fills n none_text) r → GoesOn l start so_far (PaysDebt l so_far d true) r
-  pays_none n is on = pays_as (debt.NoReply n) true is (goes_as l start so_far (Fills n none_text) (PaysDebt l so_far (debt.NoReply n) true) r (λ s fills. (refl, fills)) on)
+  pays_none n is on = pays_as (debt.NoReply n) true is (tells l start so_far (Fills n none_text) (PaysDebt l so_far (debt.NoReply n) true) r (λ s fills. (refl, fills)) on)
 
   pub pays_back : (to : Address) (item : ItemData) (paid : Bool) → d ≡ debt.Back to item → GoesOn l start so_far (PaysBack l so_far to item paid) r → GoesOn l start so_far (PaysDebt l so_far d paid) r
   pays_back to item paid is on = pays_as (debt.Back to item) paid is on

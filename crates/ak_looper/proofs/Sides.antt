@@ -17,6 +17,7 @@ use Rattle.ak_port.specs.PortCalls.{PortSeat}
 use Rattle.ak_port.specs.ReplySeats as books
 use Rattle.ak_port.specs.ReplySeats.{ReplySeat}
 use Rattle.ak_diary.specs.Step.{Step, at_book, at_port, saw_book, saw_port, lacked, AreStamped, book_entries, book_entry, book_sight, book_sights, port_entries, port_entry, port_sight, port_sights, time_after, time_of}
+use Rattle.ak_looper.proofs.Going.{keeps_seat, keeps_seat_on}
 use Rattle.ak_looper.specs.Side.{Side, SideDoes, SideGoes, IsOnSide, side}
 
 -- ---- stamps of steps behind others
@@ -42,19 +43,6 @@ module _ {L : Type 0} where
 
 -- ---- one seat
 module _ {O L : Type 0} where
-  pub keeps_still : (a : SeatData O L) → KeepsSeat a a
-  keeps_still a = record { lock = refl; opening = refl; thread = refl; joined = refl; turn = refl; names = refl }
-
-  pub keeps_then : (a b c : SeatData O L) → KeepsSeat a b → KeepsSeat b c → KeepsSeat a c
-  keeps_then a b c one two = record {
-    lock = two.lock ∙ one.lock;
-    opening = two.opening ∙ one.opening;
-    thread = two.thread ∙ one.thread;
-    joined = two.joined ∙ one.joined;
-    turn = two.turn ∙ one.turn;
-    names = two.names ∙ one.names;
-  }
-
   module _ (by : L → ℕ) where
     keeps_seen : (a b : SeatData O L) → HasSeen by a b → KeepsSeat a b
     keeps_seen a b seen =
@@ -73,7 +61,7 @@ module _ {O L : Type 0} where
       pub noted_is : noted by b.thread b.front ≡ noted by a.thread a.front ++ made
 
     pub stays : (a b : SeatData O L) → b ≡ a → SeatGoes [] a b
-    stays a b same = subst (λ (s : SeatData O L). SeatGoes [] a s) (sym same) (record { keeps = keeps_still a; on = starts_itself a.front; noted_is = sym (append-nil (noted by a.thread a.front)) })
+    stays a b same = subst (λ (s : SeatData O L). SeatGoes [] a s) (sym same) (record { keeps = keeps_seat a; on = starts_itself a.front; noted_is = sym (append-nil (noted by a.thread a.front)) })
 
     pub looks : (a b : SeatData O L) → HasSeen by a b → SeatGoes [] a b
     looks a b seen = record {
@@ -188,7 +176,7 @@ module _ (looper : ℕ) where
         thread = ap (λ (c : Clock). c.thread) entered.clocked;
         stamped = (refl, tt);
         time = ap (λ (c : Clock). c.time) (sym entered.clocked);
-        keeps_book = keeps_still book;
+        keeps_book = keeps_seat book;
         keeps_port = there.keeps;
         book_on = starts_itself book.front;
         port_on = there.on;
@@ -209,7 +197,7 @@ module _ (looper : ℕ) where
         stamped = (refl, tt);
         time = ap (λ (c : Clock). c.time) (sym entered.clocked);
         keeps_book = there.keeps;
-        keeps_port = keeps_still port;
+        keeps_port = keeps_seat port;
         book_on = there.on;
         port_on = starts_itself port.front;
         book_noted = there.noted_is;
@@ -225,8 +213,8 @@ module _ (looper : ℕ) where
     thread = two.thread ∙ one.thread;
     stamped = stamped_behind a.clock.time xs ys one.stamped (subst (λ (t : ℕ). AreStamped t ys) (sym one.time) two.stamped);
     time = time_behind a.clock.time xs ys ∙ ap (λ (t : ℕ). time_of t ys) one.time ∙ two.time;
-    keeps_book = keeps_then a.book b.book c.book one.keeps_book two.keeps_book;
-    keeps_port = keeps_then a.port b.port c.port one.keeps_port two.keeps_port;
+    keeps_book = keeps_seat_on a.book b.book c.book one.keeps_book two.keeps_book;
+    keeps_port = keeps_seat_on a.port b.port c.port one.keeps_port two.keeps_port;
     book_on = starts_then a.book.front b.book.front c.book.front one.book_on two.book_on;
     port_on = starts_then a.port.front b.port.front c.port.front one.port_on two.port_on;
     book_noted =

@@ -8,7 +8,7 @@ use Rattle.ak_looper.specs.Carrying.{IsDeskOf}
 use Rattle.ak_looper.specs.Living.{GoesOnWorking, IsWorking, Later}
 use Rattle.ak_looper.specs.Ways.{KeepsPlaces, KeepsReach}
 use Rattle.ak_looper.specs.declared.reach.Reach.{Reach}
-use Rattle.ak_looper.proofs.ClosingSteps.{seat_same, seat_then}
+use Rattle.ak_looper.proofs.Going.{keeps_seat, keeps_seat_on}
 use Rattle.ak_diary.specs.Looper.{LooperFacts}
 use Rattle.ak_diary.specs.Step.{Step}
 
@@ -33,10 +33,10 @@ works_on r r' desk desk' is later =
 
 -- ---- what no call changes
 pub desk_same : (a : DeskSeat) → KeepsSeat a a
-desk_same a = seat_same a
+desk_same a = keeps_seat a
 
 pub desk_then : (a b c : DeskSeat) → KeepsSeat a b → KeepsSeat b c → KeepsSeat a c
-desk_then a b c first second = seat_then a b c first second
+desk_then a b c first second = keeps_seat_on a b c first second
 
 pub desk_as : (a b c : DeskSeat) → b ≡ a → KeepsSeat b c → KeepsSeat a c
 desk_as a b c same keeps = subst (λ (s : DeskSeat). KeepsSeat s c) same keeps
@@ -70,9 +70,9 @@ places_same r = record {
   port = refl;
   roster = refl;
   thread = refl;
-  book_seat = seat_same r.hands.book_seat;
-  port_seat = seat_same r.port_seat;
-  roster_seat = seat_same r.roster_seat;
+  book_seat = keeps_seat r.hands.book_seat;
+  port_seat = keeps_seat r.port_seat;
+  roster_seat = keeps_seat r.roster_seat;
 }
 
 pub places_then : (a b c : Reach) → KeepsPlaces a b → KeepsPlaces b c → KeepsPlaces a c
@@ -85,7 +85,7 @@ places_then a b c first second = record {
   port = second.port ∙ first.port;
   roster = second.roster ∙ first.roster;
   thread = second.thread ∙ first.thread;
-  book_seat = seat_then a.hands.book_seat b.hands.book_seat c.hands.book_seat first.book_seat second.book_seat;
-  port_seat = seat_then a.port_seat b.port_seat c.port_seat first.port_seat second.port_seat;
-  roster_seat = seat_then a.roster_seat b.roster_seat c.roster_seat first.roster_seat second.roster_seat;
+  book_seat = keeps_seat_on a.hands.book_seat b.hands.book_seat c.hands.book_seat first.book_seat second.book_seat;
+  port_seat = keeps_seat_on a.port_seat b.port_seat c.port_seat first.port_seat second.port_seat;
+  roster_seat = keeps_seat_on a.roster_seat b.roster_seat c.roster_seat first.roster_seat second.roster_seat;
 }

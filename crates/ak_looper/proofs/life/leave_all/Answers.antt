@@ -5,7 +5,7 @@ use Rattle.ak_flatten.specs.declared.item.Duty.{Duty}
 use Rattle.ak_flatten.specs.declared.item.Taken.{Taken}
 use Rattle.ak_diary.specs.Turns.{LeavesOne}
 use Rattle.ak_looper.specs.Stands.{GoesOn}
-use Rattle.ak_looper.proofs.ClosingSteps.{keeps_same, keeps_then}
+use Rattle.ak_looper.proofs.Going.{keeps_all, keeps_on}
 use Rattle.ak_looper.proofs.Leaving.{GoesLeaving, begins_leaving, goes_on_leaving, has_left}
 use Rattle.ak_looper.proofs.life.leave_all.Goals as goal
 
@@ -14,7 +14,7 @@ loop-taken-init g c =
     let all : c.args.left.items ≡ c.into_iter-taken-iterator.result.rest.items = ap (λ d. d.items) (sym c.into_iter-taken-iterator.ensures.into_iter_gives.0) in
     record {
       goes = subst (λ (rest : List Taken). GoesLeaving c.args.left.items rest c.args.reach.now c.args.reach.now) all (begins_leaving c.args.left.items c.args.reach.now);
-      keeps = keeps_same c.args.reach.now;
+      keeps = keeps_all c.args.reach.now;
     }
 
 pub loop-taken-preserved : goal.loop-taken-preserved
@@ -27,7 +27,7 @@ loop-taken-preserved g c =
       goes =
           goes_on_leaving c.args.left.items c.next.new.self.rest.items c.in-Some.taken r c.loop-taken.reach c.leave_one.new.reach before
           (λ l start from stands. subst (λ (owed : Duty). GoesOn l start from (LeavesOne owed) c.leave_one.new.reach) c.duty.ensures (c.leave_one.ensures.goes l start from stands));
-      keeps = keeps_then r c.loop-taken.reach c.leave_one.new.reach so_far.keeps c.leave_one.ensures.keeps;
+      keeps = keeps_on r c.loop-taken.reach c.leave_one.new.reach so_far.keeps c.leave_one.ensures.keeps;
     }
 
 pub returns : goal.returns

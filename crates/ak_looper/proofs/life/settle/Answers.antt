@@ -1,7 +1,7 @@
 -- The closing where it is due, the payment, and the late closing, one after another.
 use Rattle.ak_diary.specs.Turns.{ClosesIf}
 use Rattle.ak_looper.specs.Debts.{PaysDebt}
-use Rattle.ak_looper.proofs.ClosingSteps.{keeps_then, still_standing}
+use Rattle.ak_looper.proofs.Going.{keeps_on, still_standing}
 use Rattle.ak_looper.proofs.Settling.{ended_shut, settles}
 use Rattle.ak_looper.proofs.life.settle.Goals as goal
 
@@ -30,5 +30,5 @@ returns-clause-shut g c =
 
 pub returns-clause-keeps : goal.returns-clause-keeps
 returns-clause-keeps g c =
-    keeps_then c.args.reach.now c.pay-paid.new.self c.close_if-2.new.self
-    (keeps_then c.args.reach.now c.close_if.new.self c.pay-paid.new.self c.close_if.ensures.keeps c.pay-paid.ensures.keeps) c.close_if-2.ensures.keeps
+    keeps_on c.args.reach.now c.pay-paid.new.self c.close_if-2.new.self
+    (keeps_on c.args.reach.now c.close_if.new.self c.pay-paid.new.self c.close_if.ensures.keeps c.pay-paid.ensures.keeps) c.close_if-2.ensures.keeps

@@ -1,7 +1,7 @@
 -- A message in hand is dispatched, and what follows is settled.
 use Rattle.std.proofs.Common.{◌++◌}
 use Rattle.ak_diary.specs.Turns.{lacked_if}
-use Rattle.ak_looper.proofs.ClosingSteps.{keeps_then}
+use Rattle.ak_looper.proofs.Going.{keeps_on}
 use Rattle.ak_looper.proofs.Lacking.{stands_if}
 use Rattle.ak_looper.proofs.Nexts.{can_still, next_in_hand, settled_as, then_stands}
 use Rattle.ak_looper.proofs.Turning.{comes_to, due_is}
@@ -32,7 +32,7 @@ returns-clause-served g c l start work hand =
 
 pub returns-clause-can : goal.returns-clause-can
 returns-clause-can g c =
-    can_still _ _ c.args.self.now.reach c.settle.new.reach (keeps_then c.args.self.now.reach c.dispatch-made.new.reach c.settle.new.reach c.dispatch-made.ensures.keeps c.settle.ensures.keeps) c.requires.can
+    can_still _ _ c.args.self.now.reach c.settle.new.reach (keeps_on c.args.self.now.reach c.dispatch-made.new.reach c.settle.new.reach c.dispatch-made.ensures.keeps c.settle.ensures.keeps) c.requires.can
 
 pub returns-clause-keeps : goal.returns-clause-keeps
-returns-clause-keeps g c = keeps_then c.args.self.now.reach c.dispatch-made.new.reach c.settle.new.reach c.dispatch-made.ensures.keeps c.settle.ensures.keeps
+returns-clause-keeps g c = keeps_on c.args.self.now.reach c.dispatch-made.new.reach c.settle.new.reach c.dispatch-made.ensures.keeps c.settle.ensures.keeps

@@ -1,7 +1,8 @@
 -- The team is left, and then its ports are shut; or its own port is.
 use Rattle.std.proofs.Common.{◌∙◌, sym, true}
 use Rattle.ak_diary.specs.Turns.{LeavesRoster}
-use Rattle.ak_looper.proofs.ClosingSteps.{closes_alone, closes_team, keeps_then, still_standing}
+use Rattle.ak_looper.proofs.ClosingSteps.{closes_alone, closes_team}
+use Rattle.ak_looper.proofs.Going.{keeps_on, still_standing}
 use Rattle.ak_looper.proofs.Shutting.{closed_is_shut}
 use Rattle.ak_looper.proofs.reach.Reach.close.Goals as goal
 
@@ -13,7 +14,7 @@ returns-then-is_own-clause-goes g c =
     closes_team c.args.self.now c.leave.new.self c.shut_team.new.self (sym c.is_own.ensures ∙ c.if-is_own.true) c.leave.ensures.goes c.shut_team.ensures.goes
 
 pub returns-then-is_own-clause-keeps : goal.returns-then-is_own-clause-keeps
-returns-then-is_own-clause-keeps g c = keeps_then c.args.self.now c.leave.new.self c.shut_team.new.self c.leave.ensures.keeps c.shut_team.ensures.keeps
+returns-then-is_own-clause-keeps g c = keeps_on c.args.self.now c.leave.new.self c.shut_team.new.self c.leave.ensures.keeps c.shut_team.ensures.keeps
 
 pub returns-else-is_own-clause-goes : goal.returns-else-is_own-clause-goes
 returns-else-is_own-clause-goes g c = closes_alone c.args.self.now c.shut.new.self (sym c.is_own.ensures ∙ c.if-is_own.false) c.shut.ensures.goes

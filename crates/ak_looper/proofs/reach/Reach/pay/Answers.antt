@@ -1,5 +1,5 @@
 -- Each debt is paid in its way.
-use Rattle.ak_looper.proofs.ClosingSteps.{keeps_same}
+use Rattle.ak_looper.proofs.Going.{keeps_all}
 use Rattle.ak_looper.proofs.Paying.{pays_back, pays_none, pays_nothing, pays_text}
 use Rattle.ak_looper.proofs.reach.Reach.pay.Goals as goal
 
@@ -7,7 +7,7 @@ pub returns-in-Nothing-clause-goes : goal.returns-in-Nothing-clause-goes
 returns-in-Nothing-clause-goes g c l start so_far stands = pays_nothing l start so_far c.args.debt c.args.self.now c.in-Nothing.is stands
 
 pub returns-in-Nothing-clause-keeps : goal.returns-in-Nothing-clause-keeps
-returns-in-Nothing-clause-keeps g c = keeps_same c.args.self.now
+returns-in-Nothing-clause-keeps g c = keeps_all c.args.self.now
 
 pub returns-in-Text-clause-goes : goal.returns-in-Text-clause-goes
 returns-in-Text-clause-goes g c l start so_far stands =

@@ -1,13 +1,14 @@
 -- One port more, and at the end all of them.
 use Rattle.std.proofs.Common.{◌≡◌, ℕ, ◌+◌, ◌∙◌, ap, sym, arith}
 use Rattle.std.specs.List.{range_with_len}
-use Rattle.ak_looper.proofs.ClosingSteps.{begins_shutting, goes_on_shutting, has_shut, keeps_same, keeps_then, numbers_within, still_standing}
+use Rattle.ak_looper.proofs.ClosingSteps.{begins_shutting, goes_on_shutting, has_shut, numbers_within}
+use Rattle.ak_looper.proofs.Going.{keeps_all, keeps_on, still_standing}
 use Rattle.ak_looper.proofs.Shutting.{team_is_shut}
 use Rattle.ak_diary.specs.Turns.{ShutsAll}
 use Rattle.ak_looper.proofs.reach.Reach.shut_team.Goals as goal
 
 pub loop-place-init : goal.loop-place-init
-loop-place-init g c = record { goes = begins_shutting c.args.self.now; keeps = keeps_same c.args.self.now }
+loop-place-init g c = record { goes = begins_shutting c.args.self.now; keeps = keeps_all c.args.self.now }
 
 pub overflow_add-looper : goal.overflow_add-looper
 overflow_add-looper g c =
@@ -33,7 +34,7 @@ loop-place-preserved g c =
       goes =
           goes_on_shutting c.loop-place.place looper c.args.self.now c.loop-place.self c.shut.new.self (ap (λ (n : ℕ). n + c.loop-place.place) so_far.keeps.first)
           so_far.goes c.shut.ensures.goes;
-      keeps = keeps_then c.args.self.now c.loop-place.self c.shut.new.self so_far.keeps c.shut.ensures.keeps;
+      keeps = keeps_on c.args.self.now c.loop-place.self c.shut.new.self so_far.keeps c.shut.ensures.keeps;
     }
 
 pub returns : goal.returns
