@@ -1,0 +1,6 @@
+pub mod Diary
+pub mod Histories
+pub mod Looper
+pub mod Step
+pub mod Turns
+pub mod Wants

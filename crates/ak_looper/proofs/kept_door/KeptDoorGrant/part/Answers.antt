@@ -1,0 +1,22 @@
+-- A new name beside one more was new before, and a new thread has made nothing.
+use Rattle.std.proofs.Common.{subst, sym}
+use Rattle.ak_turn.specs.Steps.{IsNewName}
+use Rattle.ak_port.specs.PortCalls as ports
+use Rattle.ak_desk.specs.Shared as desks
+use Rattle.ak_looper.proofs.Doors.{known_still, new_door, new_name}
+use Rattle.ak_looper.proofs.kept_door.KeptDoorGrant.part.Goals as goal
+
+pub invariant_of-self-2-clause-port_known : goal.invariant_of-self-2-clause-port_known
+invariant_of-self-2-clause-port_known c =
+    known_still ports.by_number c.args.thread.0 c.args.self.now.port_seat c.split-port_seat.new.seat c.split-port_seat.ensures.old c.args.self.now.port_known
+
+pub invariant_of-self-2-clause-desk_known : goal.invariant_of-self-2-clause-desk_known
+invariant_of-self-2-clause-desk_known c =
+    known_still desks.by_number c.args.thread.0 c.args.self.now.desk_seat c.split-desk_seat.new.seat c.split-desk_seat.ensures.old c.args.self.now.desk_known
+
+pub returns-clause-thread : goal.returns-clause-thread
+returns-clause-thread c =
+    let door = c.args.self.now in
+    let new = new_name door.port_seat.names c.args.thread.0 door.head c.requires.new in
+    new_door c.args.thread.0 door.port_seat c.split-port_seat.result door.desk_seat c.split-desk_seat.result c.split-port_seat.ensures.new c.split-desk_seat.ensures.new (door.port_known c.args.thread.0 new)
+    (door.desk_known c.args.thread.0 (subst (λ names. IsNewName names c.args.thread.0) (sym door.names) new))

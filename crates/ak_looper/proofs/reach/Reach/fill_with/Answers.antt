@@ -1,0 +1,12 @@
+-- One step at the book.
+use Rattle.std.proofs.Common.{refl}
+use Rattle.ak_diary.specs.Turns.{Fills}
+use Rattle.ak_looper.proofs.Lifting.{own_does}
+use Rattle.ak_looper.proofs.Sendings.{fills_by}
+use Rattle.ak_looper.proofs.reach.Reach.fill_with.Goals as goal
+
+pub returns-clause-goes : goal.returns-clause-goes
+returns-clause-goes g c l start so_far was =
+    let r = c.args.self.now in
+    own_does l start so_far r _ (record { number = refl; team = refl; first = refl; loopers = refl; roster_seat = refl }) was l.number (Fills c.args.slot c.args.flat) refl refl
+    (fills_by l.number r.hands.clock c.fill.new.clock r.hands.book_seat c.fill.new.seat r.port_seat c.args.slot c.args.flat c.fill.result c.fill.ensures.filled c.fill.ensures.duplicate)

@@ -1,0 +1,13 @@
+pub mod Carrying
+pub mod Closing
+pub mod Debts
+pub mod Doors
+pub mod Heard
+pub mod Job
+pub mod RosterCalls
+pub mod Rosters
+pub mod Side
+pub mod Living
+pub mod Stands
+pub mod Taking
+pub mod Ways
