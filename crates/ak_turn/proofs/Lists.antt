@@ -1,14 +1,10 @@
 -- Queues and places of lists: what is one place longer or shorter, and how many distinct numbers there are below a bound.
-use Rattle.std.proofs.Common.{◌≡◌, ◌≢◌, ℕ, zero, suc, ◌+◌, ◌*◌, ◌/◌, ◌%◌, ◌<◌, ◌≤◌, ◌⊎◌, List, [], ◌∷◌, ◌++◌, length, get_or, set, drop, remove, All, AllPairs, Contains, sym, refl, ap, ◌∙◌, subst, inl, inr, ⊎_elim, arith, div-add-mod'}
+use Rattle.std.proofs.Common.{◌≡◌, ◌≢◌, ℕ, zero, suc, ◌+◌, ◌*◌, ◌/◌, ◌%◌, ◌<◌, ◌≤◌, ◌⊎◌, List, [], ◌∷◌, ◌++◌, length, get_or, set, drop, All, Contains, sym, refl, ap, ◌∙◌, subst, inl, inr, ⊎_elim, arith, div-add-mod'}
 use Rattle.std.proofs.Math.Nat.{mul-add-mod_self_right}
-use Rattle.std.proofs.lemmas.List.Edits.{length-remove}
-use Rattle.std.proofs.lemmas.List.Elements.{All-head}
-use Rattle.std.proofs.lemmas.List.Sorted.{IsPermutation-remove, Contains-permutation}
 use mathlib.Core.Option.{some, some-injective, some-ne-none}
-use mathlib.Core.Logic.{dite}
-use native.Mathlib.Decide.{ℕ_discrete}
 use lib.ListN.{get_elem?}
 use Rattle.atomic_table.proofs.Lists.{at_set}
+use Rattle.ak_base.proofs.Surface.{few_below}
 use Rattle.ak_turn.specs.Rule.{Absent, AreDistinct}
 
 -- ---- places
@@ -68,52 +64,10 @@ distinct_push xs x differ new i j y at_i at_j =
 pub distinct_behind : (xs : List ℕ) → AreDistinct xs → AreDistinct (drop 1 xs)
 distinct_behind xs differ i j y at_i at_j = let e : suc i ≡ suc j = differ (suc i) (suc j) y (sym (at_behind xs i) ∙ at_i) (sym (at_behind xs j) ∙ at_j) in omega arith
 
-module _ {X : Type 0} where
-  behind : (x y : X) (ys : List X) (k : ℕ) → k < length (x ∷ ys) → get_or (x ∷ ys) k y ≡ y → x ≢ y → Contains ys y
-  behind x y ys zero lt e other = absurd (other e)
-  behind x y ys (suc k) lt e other = (k, omega arith, e)
-
-  -- what is there, and is not x, is there without x
-  Contains-remove : (xs : List X) (x y : X) → (at : Contains xs x) → Contains xs y → x ≢ y → Contains (remove xs at.0) y
-  Contains-remove xs x y at there other =
-      let moved = Contains-permutation xs (x ∷ remove xs at.0) y (IsPermutation-remove xs at.0 x at.1 (sym at.2)) there in
-      behind x y (remove xs at.0) moved.0 moved.1 moved.2 other
-
-  -- where things that all differ are each among some others, there are no more of them than of those
-  pigeons : (xs ys : List X) → AllPairs (λ a b. a ≢ b) xs → All (λ x. Contains ys x) xs → length xs ≤ length ys
-  pigeons [] ys differ there = omega arith
-  pigeons (x ∷ xs) ys differ there =
-      let at = All-head (λ x. Contains ys x) x xs there in
-      let rest = pigeons xs (remove ys at.0)
-      (λ i j d lt within. differ (suc i) (suc j) d (omega arith) (omega arith))
-      (λ k d lt. Contains-remove ys x (get_or xs k d) at (there (suc k) d (omega arith)) (differ zero (suc k) d (omega arith) (omega arith))) in
-      omega (arith, rest, length-remove ys at.0 at.1)
-
--- the numbers below n
-all_below : ℕ → List ℕ
-all_below zero = []
-all_below (suc n) = n ∷ all_below n
-
-length-all_below : (n : ℕ) → length (all_below n) ≡ n
-unfolding all_below
-length-all_below zero = refl
-length-all_below (suc n) = ap suc (length-all_below n)
-
-later : (x y : ℕ) (xs : List ℕ) → Contains xs x → Contains (y ∷ xs) x
-later x y xs at = (suc at.0, omega (arith, at.1), at.2)
-
-Contains-all_below : (n x : ℕ) → x < n → Contains (all_below n) x
-unfolding all_below
-Contains-all_below zero x lt = absurd (omega arith)
-Contains-all_below (suc n) x lt = dite (ℕ_discrete n x) (λ e. (zero, omega arith, e)) (λ ne. later x n (all_below n) (Contains-all_below n x (omega arith)))
-
 -- distinct numbers below n are at most n
 pub at_most : (n : ℕ) (xs : List ℕ) → AreDistinct xs → All (λ x. x < n) xs → length xs ≤ n
 at_most n xs differ below =
-    let differ' : AllPairs (λ a b. a ≢ b) xs =
-    λ i j d lt within e. let same : i ≡ j = differ i j (get_or xs j d) (at_or xs i d (omega arith) ∙ ap some e) (at_or xs j d within) in omega arith in
-    let most = pigeons xs (all_below n) differ' (λ k d lt. Contains-all_below n (get_or xs k d) (below k d lt)) in
-    omega (arith, most, length-all_below n)
+    few_below n xs (λ i j d lt within e. let same : i ≡ j = differ i j (get_or xs j d) (at_or xs i d (omega arith) ∙ ap some e) (at_or xs j d within) in omega arith) below
 
 -- ---- words
 -- a word that counts one more

@@ -4,8 +4,8 @@ use Rattle.std.proofs.lemmas.List.Elements.{All-cons, All-head, All-nil, All-tai
 use Rattle.std.proofs.Math.Seq.{take-append_seam}
 use mathlib.Core.Logic.{dite}
 use native.Mathlib.Decide.{ℕ_discrete}
-use Rattle.ak_turn.specs.Entries.{AreByOthers, StartsWith, made_by}
-use Rattle.ak_turn.specs.Noted.{Noted, note, noted, noted_from, entry_of, StandsIn}
+use Rattle.ak_turn.specs.Entries.{AreByOthers, made_by}
+use Rattle.ak_turn.specs.Noted.{note, noted, noted_from, entry_of, StandsIn}
 use Rattle.ak_turn.specs.Seats.{SeatData, HasSeen, HasCalled}
 use Rattle.ak_turn.proofs.NewSeats.{made_own, made_other}
 
