@@ -144,6 +144,14 @@ module _ (m : MessageData) (name : List ℕ) (room : HasRoomFor m.fields name) (
       ∙ ap (λ (t : List FieldData). record m { fields = t }) next ∙ ap (λ (l : List ValueData). with_new m name (filter is_shallow (take (i + 1) l))) (sym is)
 
 -- ---- one field more
+-- no name but those of the fields
+pub named-other : (other name : List ℕ) (vs : List ValueData) (rest : List FieldData) → other ≢ name → field_named rest name ≡ None → field_named (field_of_values other vs ++ rest) name ≡ None
+named-other other name [] rest differ e = e
+named-other other name (v ∷ vs) rest differ e =
+    let first : FieldData = record { name = other; kind = kind_of v; values = v ∷ vs } in
+    let other_name : is_named name first ≡ false = false_from_ne_true (is_named name first) (λ t. differ ((bytes_eq-Decides other name).0 t)) in
+    rw other_name e
+
 module _ (row : DeskRow) (m : MessageData) where
   built-append : (gs hs : List TemplateField) → built_fields row m (gs ++ hs) ≡ built_fields row m gs ++ built_fields row m hs
   built-append [] hs = refl
@@ -154,14 +162,6 @@ module _ (row : DeskRow) (m : MessageData) where
   built-next fields i f lt e =
       let more : take (i + 1) fields ≡ take i fields ++ f ∷ [] = take_more fields i f lt ∙ ap (λ (g : TemplateField). take i fields ++ g ∷ []) (sym e) in
       ap (built_fields row m) more ∙ built-append (take i fields) (f ∷ []) ∙ ap (λ (t : List FieldData). built_fields row m (take i fields) ++ t) (append-nil (field_of_values f.name (given_values row m f.given)))
-
-  -- no name but those of the fields
-  named-other : (other name : List ℕ) (vs : List ValueData) (rest : List FieldData) → other ≢ name → field_named rest name ≡ None → field_named (field_of_values other vs ++ rest) name ≡ None
-  named-other other name [] rest differ e = e
-  named-other other name (v ∷ vs) rest differ e =
-      let first : FieldData = record { name = other; kind = kind_of v; values = v ∷ vs } in
-      let other_name : is_named name first ≡ false = false_from_ne_true (is_named name first) (λ t. differ ((bytes_eq-Decides other name).0 t)) in
-      rw other_name e
 
   unnamed : (gs : List TemplateField) (name : List ℕ) → All (λ (g : TemplateField). g.name ≢ name) gs → field_named (built_fields row m gs) name ≡ None
   unnamed [] name all = refl

@@ -11,6 +11,7 @@ use Rattle.ak_message.specs.Fields.{is_named, field_named}
 use Rattle.ak_action.specs.declared.template.TemplateField.{TemplateField}
 use Rattle.ak_action.specs.Building.{HasRoomFor, field_of_values}
 use Rattle.ak_action.specs.Template.{AreTemplateFields}
+use Rattle.ak_action.proofs.Surface.{named-other}
 use Rattle.ak_describe.specs.Actions.{written_values, written_fields}
 
 written-append : (gs hs : List TemplateField) → written_fields (gs ++ hs) ≡ written_fields gs ++ written_fields hs
@@ -22,14 +23,6 @@ pub written-next : (fields : List TemplateField) (i : ℕ) (f : TemplateField) �
 written-next fields i f lt e =
     let more : take (i + 1) fields ≡ take i fields ++ f ∷ [] = take_more fields i f lt ∙ ap (λ (g : TemplateField). take i fields ++ g ∷ []) (sym e) in
     ap (written_fields) more ∙ written-append (take i fields) (f ∷ []) ∙ ap (λ (t : List FieldData). written_fields (take i fields) ++ t) (append-nil (field_of_values f.name (written_values f.given)))
-
--- no name but those of the fields
-named-other : (other name : List ℕ) (vs : List ValueData) (rest : List FieldData) → other ≢ name → field_named rest name ≡ None → field_named (field_of_values other vs ++ rest) name ≡ None
-named-other other name [] rest differ e = e
-named-other other name (v ∷ vs) rest differ e =
-    let first : FieldData = record { name = other; kind = kind_of v; values = v ∷ vs } in
-    let other_name : is_named name first ≡ false = false_from_ne_true (is_named name first) (λ t. differ ((bytes_eq-Decides other name).0 t)) in
-    rw other_name e
 
 unnamed : (gs : List TemplateField) (name : List ℕ) → All (λ (g : TemplateField). g.name ≢ name) gs → field_named (written_fields gs) name ≡ None
 unnamed [] name all = refl
