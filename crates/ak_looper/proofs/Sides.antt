@@ -232,26 +232,3 @@ module _ (looper : ℕ) where
         subst (All (StartsWith c.port.front)) (sym (flat_map-append (port_sight looper) xs ys))
         (All-append (StartsWith c.port.front) (port_sights looper xs) (port_sights looper ys) (seen_still b.port.front c.port.front (port_sights looper xs) two.port_on one.port_seen) two.port_seen);
   }
-
--- ---- a turn at a port
--- what was answered in the turn, as it was before the turn was given
-pub answered_at_turn : (e : Option PortEvent) (k l : Clock) (a b c : PortSeat) → a.turn ≡ false → a.thread ≡ k.thread.0 → IsGiven ports.by_number a b → ports.HasAnsweredAtTurn e k l b c → ports.HasAnswered e k l a c
-answered_at_turn None k l a b c idle is given answered =
-    let left : PortSeat → PortSeat = λ s. record s { turn = false } in
-    let as_was : Bool → PortSeat = λ t. record a { front = a.front ++ given.between; turn = t } in
-    record {
-      seen = record { between = given.between; others = given.others; after = answered.0 ∙ ap left given.after ∙ ap as_was (sym idle) };
-      clocked = answered.1;
-    }
-answered_at_turn (Some event) k l a b c idle is given answered =
-    let before = a.front ++ given.between in
-    let x = ports.entry_now k before event in
-    let left : PortSeat → PortSeat = λ s. record s { front = s.front ++ ports.entry_now k s.front event ∷ []; own = s.own ++ length s.front ∷ []; turn = false } in
-    let as_was : Bool → PortSeat = λ t. record a { front = before ++ x ∷ []; own = a.own ++ length before ∷ []; turn = t } in
-    let after : c ≡ with_own a given.between x = answered.0 ∙ ap left given.after ∙ ap as_was (sym idle) in
-    record {
-      before = before;
-      front = ap (λ s. s.front) after;
-      called = record { between = given.between; others = given.others; mine = sym is; after = after };
-      clocked = answered.1 ∙ ap (λ (s : PortSeat). ports.clock_after k s.front) given.after;
-    }

@@ -14,10 +14,7 @@ use Rattle.ak_port.specs.declared.port_entry.TakeAnswer.{TakeAnswer}
 use Rattle.ak_port.specs.declared.port_entry.TakeAnswer.TheVariants as taken
 use Rattle.ak_port.specs.PortCalls.{HasEntered, IfTook, IsAtPort, PortSeat, entry_now, take_count, take_event}
 use Rattle.ak_port.specs.PortMachine.{IsAllowed, IsPort, PortState, PortStep, handed_out, last_taken, pending_count, pending_items, replayed, state_after, state_of, unmade}
-use Rattle.ak_port.proofs.PortItems.{length-numbered, take-numbered}
-use Rattle.ak_port.proofs.PortLimits.{reached_by, unmade_reached}
-use Rattle.ak_port.proofs.PortReplays.{AreSteps-before, AreSteps-behind, state_of-push, replayed-append}
-use Rattle.ak_port.proofs.PortSound.{rest_items, took_items}
+use Rattle.ak_port.proofs.Surface.{AreSteps-before, AreSteps-behind, length-numbered, reached_by, replayed-append, rest_items, state_of-push, take-numbered, took_items, unmade_reached}
 use Rattle.ak_port.specs.TakerLaws.{handed_at, handed_by}
 use Rattle.ak_turn.specs.Noted.{Noted}
 use Rattle.ak_diary.specs.Looper.{LooperFacts}

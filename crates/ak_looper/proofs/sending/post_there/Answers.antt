@@ -1,7 +1,7 @@
 -- What the post came to in its turn, as it was before the turn was given.
+use Rattle.ak_port.proofs.Surface.{answered_at_turn}
 use Rattle.ak_messenger.specs.Sends.{post_event}
 use Rattle.ak_looper.proofs.Sendings.{posts}
-use Rattle.ak_looper.proofs.Sides.{answered_at_turn}
 use Rattle.ak_looper.proofs.sending.post_there.Goals as goal
 
 pub returns-clause-does : goal.returns-clause-does

@@ -1,7 +1,7 @@
 -- What the write came to in its turn, as it was before the turn was given.
 use Rattle.ak_port.specs.PortCalls.{write_entry}
+use Rattle.ak_port.proofs.Surface.{answered_at_turn}
 use Rattle.ak_looper.proofs.Sendings.{replies_so}
-use Rattle.ak_looper.proofs.Sides.{answered_at_turn}
 use Rattle.ak_looper.proofs.sending.reply_there.Goals as goal
 
 pub returns-clause-does : goal.returns-clause-does

@@ -10,7 +10,7 @@ use denote.Param.Send.{IsSend, sendable}
 use Rattle.std.proofs.Crossing.{crosses}
 use Rattle.ak_turn.proofs.lock.TurnLock.TheSendSync as TurnLock'
 use Rattle.ak_turn.proofs.seat.Seat.TheSendSync as Seat'
-use Rattle.ak_desk.proofs.Sending.{Desk-send}
+use Rattle.ak_desk.proofs.Surface.{Desk-send}
 use Rattle.uses_rules.specs.contracts.desk.moving.Job as Job
 use Rattle.uses_rules.proofs.desk.moving.start_edits.Goals as goal
 
