@@ -1,9 +1,11 @@
 pub mod AppName
 pub mod Code
 pub mod Error
+pub mod Limited
 pub mod Limits
 pub mod Number
 pub mod Option
+pub mod Refusal
 pub mod Text
 pub mod Thread
 pub mod Trail

@@ -52,6 +52,11 @@ pub enum RefusalKind {
 }
 
 impl fmt::Display for RefusalKind {
+    ghost use Rattle.std.specs.Prelude.{Some};
+    ghost use Rattle.ak_base.specs.Refusal.{text_of};
+
+    ghost output = { λ kind. Some (text_of kind) };
+
     fn fmt<W: fmt::Write>(&self, f: &mut fmt::Formatter<W>) -> fmt::Result {
         match self {
             RefusalKind::InputTooLong => f.write_str("over 1,048,576 bytes"),

@@ -1,10 +1,13 @@
--- The further words of the lines of actions, for a handler with these properties. None of what passes a limit is kept.
+-- The further words of the lines of actions, for a handler with these properties. Of what passes a limit nothing is kept.
 use Rattle.std.specs.Prelude.{ℕ, Bool, true, false, ◌==◌, nat_le, if◌then◌else◌, List, [], ◌∷◌, ◌++◌, length, filter, codes, Option, Some, None, option_map}
 use Rattle.std.specs.List.{list_any}
 use Rattle.std.specs.Str.{bytes_eq}
 use Rattle.ak_base.specs.declared.app_word.AppWord.{AppWord}
 use Rattle.ak_base.specs.declared.app_word.AppWord.TheVariants as app
 use Rattle.ak_base.specs.declared.code.Code.{Code}
+use Rattle.ak_base.specs.declared.limited.Limited.{Limited}
+use Rattle.ak_base.specs.declared.limited.Limited.TheVariants.{Within, Over}
+use Rattle.ak_base.specs.Limited.{limited_map}
 use Rattle.ak_message.specs.Message.{ValueData, FieldData, MessageData}
 use Rattle.ak_base.specs.Option.{where_true, ◌>>=◌}
 use Rattle.ak_message.specs.Reading.{field_split}
@@ -24,7 +27,7 @@ use Rattle.ak_action.specs.Building.{field_of_values}
 use Rattle.ak_action.specs.Template.{add_fault}
 use Rattle.ak_action.specs.Values.{ValuesData, is_shallow}
 use Rattle.ak_describe.specs.declared.parts.PropertyParts.{PropertyParts}
-use Rattle.ak_describe.specs.Made.{values_from, one_from, number_from}
+use Rattle.ak_describe.specs.Made.{values_from, one_from, number_from, limited_then}
 use Rattle.ak_describe.specs.Parts.{property_named}
 use Rattle.ak_describe.specs.Words.{first_of, last_of, ends, name_at, code_at, name_of, app_word_of}
 
@@ -78,52 +81,52 @@ abbrev pub copied_from : List PropertyParts → List ℕ → Option (Option Give
 copied_from properties [] = Some None
 copied_from properties (sign ∷ name) = copied_by properties sign name
 
-abbrev pub given_values : Option ValuesData → Option Given
-given_values values = option_map gets.Values values
+abbrev pub given_values : Limited ValuesData → Limited Given
+given_values values = limited_map gets.Values values
 
 -- what is copied, or else the values
-abbrev pub copied_or : Option Given → Option (Option ValuesData) → Option (Option Given)
-copied_or (Some g) values = Some (Some g)
+abbrev pub copied_or : Option Given → Option (Limited ValuesData) → Option (Limited Given)
+copied_or (Some g) values = Some (Within g)
 copied_or None values = option_map given_values values
 
-unfoldable pub given_from : List PropertyParts → List ℕ → Option (Option Given)
+unfoldable pub given_from : List PropertyParts → List ℕ → Option (Limited Given)
 given_from properties text = copied_from properties text >>= λ copied. copied_or copied (values_from text)
 
 -- one value alone
-unfoldable pub set_given : List PropertyParts → List ℕ → Option (Option Given)
+unfoldable pub set_given : List PropertyParts → List ℕ → Option (Limited Given)
 set_given properties word = copied_from properties word >>= λ copied. copied_or copied (one_from word)
 
 -- ---- the message of an action: a code, and then a field in each word
 -- the names of the fields, and the fields where they pass no limit
 pub record Built : Type 0 where
   pub names : List (List ℕ)
-  pub fields : Option (List TemplateField)
+  pub fields : Limited (List TemplateField)
 
 abbrev pub has_name : List (List ℕ) → List ℕ → Bool
 has_name names name = list_any (λ other. bytes_eq other name) names
 
 -- over 64 fields pass the limit
-abbrev pub field_kept : Option TemplateFault → List TemplateField → Option (Option (List TemplateField))
-field_kept None fields = Some (Some fields)
-field_kept (Some fault.FieldLimit) fields = Some None
+abbrev pub field_kept : Option TemplateFault → List TemplateField → Option (Limited (List TemplateField))
+field_kept None fields = Some (Within fields)
+field_kept (Some fault.FieldLimit) fields = Some Over
 field_kept (Some fault.BadName) fields = None
 field_kept (Some fault.NameInUse) fields = None
 field_kept (Some fault.NoMemory) fields = None
 
 -- the fields and one more, where they and it pass no limit
-abbrev pub with_field : Option (List TemplateField) → List ℕ → Option Given → Option (Option (List TemplateField))
-with_field None name g = Some None
-with_field (Some fields) name None = Some None
-with_field (Some fields) name (Some g) = field_kept (add_fault fields name) (fields ++ (record { name = name; given = g }) ∷ [])
+abbrev pub with_field : Limited (List TemplateField) → List ℕ → Limited Given → Option (Limited (List TemplateField))
+with_field Over name g = Some Over
+with_field (Within fields) name Over = Some Over
+with_field (Within fields) name (Within g) = field_kept (add_fault fields name) (fields ++ (record { name = name; given = g }) ∷ [])
 
-abbrev pub named_too : Built → List ℕ → Option Given → Option Built
+abbrev pub named_too : Built → List ℕ → Limited Given → Option Built
 named_too b name g = do
   n ← name_of name
   fields ← with_field b.fields n g
   Some (record { names = b.names ++ name ∷ []; fields = fields })
 
 -- its name has to be a new one
-abbrev pub field_added : Built → List ℕ → Option Given → Option Built
+abbrev pub field_added : Built → List ℕ → Limited Given → Option Built
 field_added b name g = if has_name b.names name then None else named_too b name g
 
 unfoldable pub field_behind : List PropertyParts → Built → List ℕ → Option Built
@@ -150,22 +153,23 @@ abbrev pub written : Code → List TemplateField → MessageData
 written what fields = record { what = what.0; fields = written_fields fields; popped = 0 }
 
 -- at most 4,096 bytes of flat text
-abbrev pub short_template : Code → List TemplateField → Option Template
-short_template what fields = where_true (nat_le (length (spelling (written what fields))) flat_limit) (record { what = what; fields = fields })
+abbrev pub short_template : Code → List TemplateField → Limited Template
+short_template what fields =
+    if nat_le (length (spelling (written what fields))) flat_limit then Within (record { what = what; fields = fields }) else Over
 
 abbrev pub nothing_built : Built
-nothing_built = record { names = []; fields = Some [] }
+nothing_built = record { names = []; fields = Within [] }
 
-unfoldable pub template_form : List PropertyParts → List (List ℕ) → Option (Option Template)
+unfoldable pub template_form : List PropertyParts → List (List ℕ) → Option (Limited Template)
 template_form properties words = do
   what ← code_at words
   b ← fields_behind properties nothing_built what.1
-  Some (b.fields >>= short_template what.0)
+  Some (limited_then (short_template what.0) b.fields)
 
 -- ---- lines of actions
 -- `MESSAGE`
-unfoldable pub reply_form : List PropertyParts → List (List ℕ) → Option (Option Action)
-reply_form properties words = option_map (λ (t : Option Template). option_map action.Reply t) (template_form properties words)
+unfoldable pub reply_form : List PropertyParts → List (List ℕ) → Option (Limited Action)
+reply_form properties words = option_map (λ (t : Limited Template). limited_map action.Reply t) (template_form properties words)
 
 abbrev pub back_at : List (List ℕ) → Option (List ℕ × List (List ℕ)) → Bool × List (List ℕ)
 back_at words None = (false, words)
@@ -175,11 +179,11 @@ back_at words (Some last) = if bytes_eq last.0 (codes "back") then (true, last.1
 abbrev pub back_behind : List (List ℕ) → Bool × List (List ℕ)
 back_behind words = back_at words (last_of words)
 
-abbrev pub post_action : Dest → Bool → Option Template → Option Action
-post_action to back t = option_map (λ (m : Template). action.Post to m back) t
+abbrev pub post_action : Dest → Bool → Limited Template → Limited Action
+post_action to back t = limited_map (λ (m : Template). action.Post to m back) t
 
 -- `DEST MESSAGE [back]`
-unfoldable pub post_form : List PropertyParts → List (List ℕ) → Option (Option Action)
+unfoldable pub post_form : List PropertyParts → List (List ℕ) → Option (Limited Action)
 post_form properties words = do
   to ← dest_at words
   t ← template_form properties (back_behind to.1).1
@@ -199,11 +203,11 @@ into_found properties words (Some last) = property_name properties last.0 >>= λ
 abbrev pub into_behind : List PropertyParts → List (List ℕ) → Option (Option (List ℕ) × List (List ℕ))
 into_behind properties words = into_found properties words (into_at_end words)
 
-abbrev pub ask_action : Dest → Option (List ℕ) → Option Template → Option Action
-ask_action to into t = option_map (λ (m : Template). action.Ask to m into) t
+abbrev pub ask_action : Dest → Option (List ℕ) → Limited Template → Limited Action
+ask_action to into t = limited_map (λ (m : Template). action.Ask to m into) t
 
 -- `DEST MESSAGE [into NAME]`, to what may be asked
-unfoldable pub ask_form : List PropertyParts → List (List ℕ) → Option (Option Action)
+unfoldable pub ask_form : List PropertyParts → List (List ℕ) → Option (Limited Action)
 ask_form properties words = do
   to ← dest_at words
   asked ← where_true (may_be_asked to.0) to.1
@@ -218,11 +222,11 @@ two_words words = do
   second ← first_of first.1
   where_true (ends second.1) (first.0, second.0)
 
-abbrev pub set_action : List ℕ → Option Given → Option Action
-set_action property g = option_map (λ (value : Given). action.Set property value) g
+abbrev pub set_action : List ℕ → Limited Given → Limited Action
+set_action property g = limited_map (λ (value : Given). action.Set property value) g
 
 -- `NAME VALUE`, `NAME $NAME` or `NAME @NAME`
-unfoldable pub set_form : List PropertyParts → List (List ℕ) → Option (Option Action)
+unfoldable pub set_form : List PropertyParts → List (List ℕ) → Option (Limited Action)
 set_form properties words = do
   two ← two_words words
   property ← property_name properties two.0

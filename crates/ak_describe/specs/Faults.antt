@@ -1,6 +1,8 @@
 -- Faults as they are passed on.
-use Rattle.std.specs.Prelude.{ℕ, Option, Some, None, Result, Ok, Err}
+use Rattle.std.specs.Prelude.{ℕ, Result, Ok, Err}
 use Rattle.ak_base.specs.declared.ending.RefusalKind.TheVariants as refusal
+use Rattle.ak_base.specs.declared.limited.Limited.{Limited}
+use Rattle.ak_base.specs.declared.limited.Limited.TheVariants.{Within, Over}
 use Rattle.ak_action.specs.declared.action.ActionFault.{ActionFault}
 use Rattle.ak_action.specs.declared.action.ActionFault.TheVariants as actions
 use Rattle.ak_action.specs.declared.values.ValuesFault.{ValuesFault}
@@ -47,11 +49,11 @@ fault_at line.NameInUse number = answer.Refused number refusal.NameInUse
 fault_at line.Limit number = answer.Refused number refusal.Limit
 fault_at line.NoMemory number = answer.NoMemory
 
--- what was read, or none where it passes a limit
-abbrev pub kept : {T : Type 0} → Result T ParseFault → Result (Option T) FormFault
-kept (Ok x) = Ok (Some x)
+-- what was read, where it passes no limit
+abbrev pub kept : {T : Type 0} → Result T ParseFault → Result (Limited T) FormFault
+kept (Ok x) = Ok (Within x)
 kept (Err read.BadValue) = Err form.BadValue
-kept (Err read.Limit) = Ok None
+kept (Err read.Limit) = Ok Over
 kept (Err read.NoMemory) = Err form.NoMemory
 
 -- a value that a field can't hold is a bad value

@@ -3,6 +3,8 @@
 use Rattle.std.specs.Prelude.{ℕ, Bool, true, false, ◌&&◌, if◌then◌else◌, List, [], codes, Option, Some, None}
 use Rattle.std.specs.Str.{bytes_eq}
 use Rattle.ak_base.specs.declared.code.Code.{Code}
+use Rattle.ak_base.specs.declared.limited.Limited.{Limited}
+use Rattle.ak_base.specs.declared.limited.Limited.TheVariants.{Within, Over}
 use Rattle.ak_base.specs.Limits.{capacity_limit}
 use Rattle.ak_filter.specs.declared.filter.DeliveryIs.{DeliveryIs}
 use Rattle.ak_filter.specs.declared.filter.DeliveryIs.TheVariants as ways
@@ -146,12 +148,12 @@ commands_at words = some_behind code_of words (behind words (codes "commands"))
 abbrev pub forms_at : List (List ℕ) → Option (List ℕ × List (List ℕ))
 forms_at words = some_behind form_of words (behind words (codes "forms"))
 
--- the empty text where the key does not stand there, and none where the text passes a limit
-abbrev pub text_found : List (List ℕ) → Option (List (List ℕ)) → Option (Option (List ℕ) × List (List ℕ))
-text_found words None = Some (Some [], words)
+-- the empty text where the key does not stand there, and else the one behind it, where that passes no limit
+abbrev pub text_found : List (List ℕ) → Option (List (List ℕ)) → Option (Limited (List ℕ) × List (List ℕ))
+text_found words None = Some (Within [], words)
 text_found words (Some rest) = first_of rest >>= λ word. quoted_from word.0 >>= λ text. Some (text, word.1)
 
-abbrev pub text_behind : List (List ℕ) → List ℕ → Option (Option (List ℕ) × List (List ℕ))
+abbrev pub text_behind : List (List ℕ) → List ℕ → Option (Limited (List ℕ) × List (List ℕ))
 text_behind words key = text_found words (behind words key)
 
 -- `NAME KIND [commands CODE ...] [forms NUMBER ...] [usage TEXT]`
@@ -164,14 +166,14 @@ property_form words = do
   usage ← text_behind forms.1 (codes "usage")
   where_true (ends usage.1) (record { name = name.0; kind = kind.0; commands = commands.0; forms = forms.0; usage = usage.0 })
 
--- both, where there are both
-abbrev pub both : {A B : Type 0} → Option A → Option B → Option (A × B)
-both None y = None
-both (Some x) None = None
-both (Some x) (Some y) = Some (x, y)
+-- both, where both pass no limit
+abbrev pub both : {A B : Type 0} → Limited A → Limited B → Limited (A × B)
+both Over y = Over
+both (Within x) Over = Over
+both (Within x) (Within y) = Within (x, y)
 
 -- `VALUE [name TEXT]`, the value of that kind: the name and the value, where neither passes a limit
-unfoldable pub element_form : Kind → List (List ℕ) → Option (Option (List ℕ × ValueData))
+unfoldable pub element_form : Kind → List (List ℕ) → Option (Limited (List ℕ × ValueData))
 element_form kind words = do
   word ← first_of words
   value ← value_of_kind kind word.0

@@ -1,6 +1,6 @@
 -- What the lines of descriptions say, as a relation on words, apart from how they are read: to be read beside docs/language.md.
 -- Values and texts are those of the input (ak_message); where one passes a limit, the line is of its form and says none.
-use Rattle.std.specs.Prelude.{◌≡◌, ◌≢◌, ℕ, ◌<◌, ◌≤◌, nat_le, nat_lt, Bool, true, false, ◌&&◌, if◌then◌else◌, ◌⊎◌, List, [], ◌∷◌, ◌++◌, length, slice_index_or, codes, Any, Option, Some, None, option_map}
+use Rattle.std.specs.Prelude.{◌≡◌, ◌≢◌, ℕ, ◌<◌, ◌≤◌, nat_le, Bool, true, false, ◌&&◌, if◌then◌else◌, ◌⊎◌, List, [], ◌∷◌, ◌++◌, length, slice_index_or, codes, Any, Option, Some, None}
 use Rattle.std.specs.List.{AllZip}
 use Rattle.std.specs.Fmt.{decimal}
 use Rattle.ak_base.specs.Code.{IsCodeText}
@@ -8,6 +8,9 @@ use Rattle.ak_base.specs.Word.{is_word}
 use Rattle.ak_base.specs.declared.app_word.AppWord.{AppWord}
 use Rattle.ak_base.specs.declared.app_word.AppWord.TheVariants as app
 use Rattle.ak_base.specs.declared.code.Code.{Code}
+use Rattle.ak_base.specs.declared.limited.Limited.{Limited}
+use Rattle.ak_base.specs.declared.limited.Limited.TheVariants.{Within, Over}
+use Rattle.ak_base.specs.Limited.{limited_map}
 use Rattle.ak_base.specs.Limits.{capacity_limit}
 use Rattle.ak_filter.specs.declared.filter.DeliveryIs.{DeliveryIs}
 use Rattle.ak_filter.specs.declared.filter.DeliveryIs.TheVariants as ways
@@ -17,7 +20,7 @@ use Rattle.ak_filter.specs.declared.filter.SourceIs.TheVariants as sides
 use Rattle.ak_message.specs.declared.kind.Kind.{Kind}
 use Rattle.ak_message.specs.declared.kind.Kind.TheVariants as k
 use Rattle.ak_message.specs.Kind.{kind_letters}
-use Rattle.ak_message.specs.Message.{ValueData, depth_of_value, text_value, kind_of}
+use Rattle.ak_message.specs.Message.{ValueData, text_value, kind_of}
 use Rattle.ak_message.specs.Reading.{got, over, text_from, read_value, read_values}
 use Rattle.ak_flatten.specs.Spelling.{spelling}
 use Rattle.ak_action.specs.declared.action.Action.{Action}
@@ -58,9 +61,9 @@ abbrev pub WritesNumber : ℕ → ℕ → List ℕ → ℕ → Type 0
 WritesNumber least most word n = (word ≡ decimal n) × (least ≤ n) × (n ≤ most)
 
 -- a text in quotes, or one that is too long
-abbrev pub WritesText : List ℕ → Option (List ℕ) → Type 0
-WritesText word (Some text) = text_from word ≡ Some (got (text_value text))
-WritesText word None = text_from word ≡ Some (over k.Text)
+abbrev pub WritesText : List ℕ → Limited (List ℕ) → Type 0
+WritesText word (Within text) = text_from word ≡ Some (got (text_value text))
+WritesText word Over = text_from word ≡ Some (over k.Text)
 
 abbrev pub mode_word : Mode → List ℕ
 mode_word mode.Single = codes "single"
@@ -79,9 +82,9 @@ AreParts key Writes [] words = words ≡ []
 AreParts key Writes (x ∷ xs) words = (texts : List (List ℕ)) × (words ≡ key ∷ texts) × AllZip Writes texts (x ∷ xs)
 
 -- a text behind the key, or the empty one where the key does not stand there
-abbrev pub IsTextPart : List ℕ → Option (List ℕ) → List (List ℕ) → Type 0
+abbrev pub IsTextPart : List ℕ → Limited (List ℕ) → List (List ℕ) → Type 0
 IsTextPart key text words =
-    ((words ≡ []) × (text ≡ Some [])) ⊎ ((word : List ℕ) × (words ≡ key ∷ word ∷ []) × WritesText word text)
+    ((words ≡ []) × (text ≡ Within [])) ⊎ ((word : List ℕ) × (words ≡ key ∷ word ∷ []) × WritesText word text)
 
 -- ---- heads
 -- `PATH SIGNATURE MODE`
@@ -155,19 +158,19 @@ pub record SaysProperty (words : List (List ℕ)) (p : PropertyForm) : Type 0 wh
   pub usage_is : IsTextPart (codes "usage") p.usage usage_part
 
 -- a name and a value, where neither passes a limit
-abbrev pub IsElement : Option (List ℕ) → Option ValueData → Option (List ℕ × ValueData) → Type 0
-IsElement (Some name) (Some value) e = e ≡ Some (name, value)
-IsElement None value e = e ≡ None
-IsElement (Some name) None e = e ≡ None
+abbrev pub IsElement : Limited (List ℕ) → Limited ValueData → Limited (List ℕ × ValueData) → Type 0
+IsElement (Within name) (Within value) e = e ≡ Within (name, value)
+IsElement Over value e = e ≡ Over
+IsElement (Within name) Over e = e ≡ Over
 
 -- `VALUE [name TEXT]`, the value of that kind
-pub record SaysElement (kind : Kind) (words : List (List ℕ)) (e : Option (List ℕ × ValueData)) : Type 0 where
+pub record SaysElement (kind : Kind) (words : List (List ℕ)) (e : Limited (List ℕ × ValueData)) : Type 0 where
   pub word : List ℕ
   pub part : List (List ℕ)
   pub all : words ≡ word ∷ part
-  pub value : Option ValueData
+  pub value : Limited ValueData
   pub value_is : read_value word ≡ Some (record { kind = kind; value = value })
-  pub name : Option (List ℕ)
+  pub name : Limited (List ℕ)
   pub name_is : IsTextPart (codes "name") name part
   pub kept : IsElement name value e
 
@@ -183,28 +186,28 @@ IsCopied properties text (gets.Property name) = (text ≡ 64 ∷ name) × IsProp
 IsCopied properties text (gets.Values v) = ⊥
 
 -- values of one kind, where they pass no limit
-abbrev pub AreValues : List ℕ → Option Given → Type 0
-AreValues text None = (kind : Kind) × (read_values text ≡ Some (record { kind = kind; values = None }))
-AreValues text (Some (gets.Values v)) = read_values text ≡ Some (record { kind = v.kind; values = Some v.list })
-AreValues text (Some (gets.Field name)) = ⊥
-AreValues text (Some (gets.Property name)) = ⊥
+abbrev pub AreValues : List ℕ → Limited Given → Type 0
+AreValues text Over = (kind : Kind) × (read_values text ≡ Some (record { kind = kind; values = Over }))
+AreValues text (Within (gets.Values v)) = read_values text ≡ Some (record { kind = v.kind; values = Within v.list })
+AreValues text (Within (gets.Field name)) = ⊥
+AreValues text (Within (gets.Property name)) = ⊥
 
-abbrev pub IsCopiedTo : List PropertyParts → List ℕ → Option Given → Type 0
-IsCopiedTo properties text None = ⊥
-IsCopiedTo properties text (Some g) = IsCopied properties text g
+abbrev pub IsCopiedTo : List PropertyParts → List ℕ → Limited Given → Type 0
+IsCopiedTo properties text Over = ⊥
+IsCopiedTo properties text (Within g) = IsCopied properties text g
 
 -- what begins with a sign is copied, and no value
 abbrev pub HasNoSign : List ℕ → Type 0
 HasNoSign [] = Unit {0}
 HasNoSign (b ∷ bytes) = (b ≢ 36) × (b ≢ 64)
 
-abbrev pub IsGiven : List PropertyParts → List ℕ → Option Given → Type 0
+abbrev pub IsGiven : List PropertyParts → List ℕ → Limited Given → Type 0
 IsGiven properties text g = IsCopiedTo properties text g ⊎ HasNoSign text × AreValues text g
 
--- a field as it is written: what it gets is none where it passes a limit
+-- a field as it is written: its name and what it gets, where that passes no limit
 pub record FieldText : Type 0 where
   pub name : List ℕ
-  pub content : Option Given
+  pub content : Limited Given
 
 -- `NAME=` and what it gets
 pub record SaysField (properties : List PropertyParts) (word : List ℕ) (f : FieldText) : Type 0 where
@@ -218,29 +221,29 @@ abbrev pub NamesDiffer : List FieldText → Type 0
 NamesDiffer fields =
     (i j : ℕ) (d : FieldText) → i < j → j < length fields → (slice_index_or fields i d).name ≢ (slice_index_or fields j d).name
 
-abbrev pub with_given : List ℕ → List TemplateField → Option Given → Option (List TemplateField)
-with_given name others None = None
-with_given name others (Some g) = Some ((record { name = name; given = g }) ∷ others)
+abbrev pub with_given : List ℕ → List TemplateField → Limited Given → Limited (List TemplateField)
+with_given name others Over = Over
+with_given name others (Within g) = Within ((record { name = name; given = g }) ∷ others)
 
 -- the fields, where what each of them gets passes no limit
-abbrev pub onto_field : FieldText → Option (List TemplateField) → Option (List TemplateField)
-onto_field f None = None
-onto_field f (Some others) = with_given f.name others f.content
+abbrev pub onto_field : FieldText → Limited (List TemplateField) → Limited (List TemplateField)
+onto_field f Over = Over
+onto_field f (Within others) = with_given f.name others f.content
 
-abbrev pub all_fields : List FieldText → Option (List TemplateField)
-all_fields [] = Some []
+abbrev pub all_fields : List FieldText → Limited (List TemplateField)
+all_fields [] = Within []
 all_fields (f ∷ fs) = onto_field f (all_fields fs)
 
 -- at most 64 fields, and 4,096 bytes of the message of the written values alone
 abbrev pub is_small : Code → List TemplateField → Bool
 is_small what fields = nat_le (length fields) field_limit && nat_le (length (spelling (written what fields))) flat_limit
 
-abbrev pub small_template : Code → Option (List TemplateField) → Option Template
-small_template what None = None
-small_template what (Some fields) = if is_small what fields then Some (record { what = what; fields = fields }) else None
+abbrev pub small_template : Code → Limited (List TemplateField) → Limited Template
+small_template what Over = Over
+small_template what (Within fields) = if is_small what fields then Within (record { what = what; fields = fields }) else Over
 
 -- CODE and fields
-pub record SaysMessage (properties : List PropertyParts) (words : List (List ℕ)) (t : Option Template) : Type 0 where
+pub record SaysMessage (properties : List PropertyParts) (words : List (List ℕ)) (t : Limited Template) : Type 0 where
   pub word : List ℕ
   pub texts : List (List ℕ)
   pub all : words ≡ word ∷ texts
@@ -277,29 +280,29 @@ MayBeAsked (dest.App (app.Path path)) = Unit {0}
 MayBeAsked (dest.App (app.Signature signature)) = Unit {0}
 MayBeAsked (dest.App (app.Name name)) = Unit {0}
 
--- ---- actions: none where a limit is passed
+-- ---- actions, where they pass no limit
 abbrev pub IsBack : Bool → List (List ℕ) → Type 0
 IsBack true words = words ≡ codes "back" ∷ []
 IsBack false words = words ≡ []
 
-pub record SaysPost (properties : List PropertyParts) (words : List (List ℕ)) (a : Option Action) : Type 0 where
+pub record SaysPost (properties : List PropertyParts) (words : List (List ℕ)) (a : Limited Action) : Type 0 where
   pub to_part : List (List ℕ)
   pub message_part : List (List ℕ)
   pub back_part : List (List ℕ)
   pub all : words ≡ to_part ++ (message_part ++ back_part)
   pub to : Dest
   pub to_is : SaysDest to_part to
-  pub message : Option Template
+  pub message : Limited Template
   pub message_is : SaysMessage properties message_part message
   pub back : Bool
   pub back_is : IsBack back back_part
-  pub kept : a ≡ option_map (λ (m : Template). action.Post to m back) message
+  pub kept : a ≡ limited_map (λ (m : Template). action.Post to m back) message
 
 abbrev pub IsInto : List PropertyParts → Option (List ℕ) → List (List ℕ) → Type 0
 IsInto properties None words = words ≡ []
 IsInto properties (Some name) words = (words ≡ codes "into" ∷ name ∷ []) × IsProperty properties name × (is_word name ≡ true)
 
-pub record SaysAsk (properties : List PropertyParts) (words : List (List ℕ)) (a : Option Action) : Type 0 where
+pub record SaysAsk (properties : List PropertyParts) (words : List (List ℕ)) (a : Limited Action) : Type 0 where
   pub to_part : List (List ℕ)
   pub message_part : List (List ℕ)
   pub into_part : List (List ℕ)
@@ -307,37 +310,37 @@ pub record SaysAsk (properties : List PropertyParts) (words : List (List ℕ)) (
   pub to : Dest
   pub to_is : SaysDest to_part to
   pub to_may : MayBeAsked to
-  pub message : Option Template
+  pub message : Limited Template
   pub message_is : SaysMessage properties message_part message
   pub into : Option (List ℕ)
   pub into_is : IsInto properties into into_part
-  pub kept : a ≡ option_map (λ (m : Template). action.Ask to m into) message
+  pub kept : a ≡ limited_map (λ (m : Template). action.Ask to m into) message
 
 -- one value alone, where it is no message of over 4,096 bytes; it may be a message that no field can hold
-abbrev pub small_value : ValueData → Option Given
-small_value v = if is_short v then Some (gets.Values (one_value v)) else None
+abbrev pub small_value : ValueData → Limited Given
+small_value v = if is_short v then Within (gets.Values (one_value v)) else Over
 
-abbrev pub set_value : Option ValueData → Option Given
-set_value None = None
-set_value (Some v) = small_value v
+abbrev pub set_value : Limited ValueData → Limited Given
+set_value Over = Over
+set_value (Within v) = small_value v
 
-abbrev pub IsOne : List ℕ → Option Given → Type 0
-IsOne text g = (kind : Kind) × (value : Option ValueData) × (read_value text ≡ Some (record { kind = kind; value = value })) × (g ≡ set_value value)
+abbrev pub IsOne : List ℕ → Limited Given → Type 0
+IsOne text g = (kind : Kind) × (value : Limited ValueData) × (read_value text ≡ Some (record { kind = kind; value = value })) × (g ≡ set_value value)
 
-pub record SaysSet (properties : List PropertyParts) (words : List (List ℕ)) (a : Option Action) : Type 0 where
+pub record SaysSet (properties : List PropertyParts) (words : List (List ℕ)) (a : Limited Action) : Type 0 where
   pub name : List ℕ
   pub word : List ℕ
   pub all : words ≡ name ∷ word ∷ []
   pub name_is : IsProperty properties name × (is_word name ≡ true)
-  pub value : Option Given
+  pub value : Limited Given
   pub value_is : IsCopiedTo properties word value ⊎ HasNoSign word × IsOne word value
-  pub kept : a ≡ option_map (λ (g : Given). action.Set name g) value
+  pub kept : a ≡ limited_map (λ (g : Given). action.Set name g) value
 
 -- the first property of that name is of the number's kind
 abbrev pub IsPropertyOf : List PropertyParts → List ℕ → Kind → Type 0
 IsPropertyOf properties name kind = (p : PropertyParts) × (property_named properties name ≡ Some p) × (p.row.kind ≡ kind)
 
-pub record SaysAdd (properties : List PropertyParts) (words : List (List ℕ)) (a : Option Action) : Type 0 where
+pub record SaysAdd (properties : List PropertyParts) (words : List (List ℕ)) (a : Limited Action) : Type 0 where
   pub name : List ℕ
   pub word : List ℕ
   pub all : words ≡ name ∷ word ∷ []
@@ -345,4 +348,4 @@ pub record SaysAdd (properties : List PropertyParts) (words : List (List ℕ)) (
   pub amount : Number
   pub amount_is : read_value word ≡ Some (got (number_value amount))
   pub kind_is : IsPropertyOf properties name (kind_of (number_value amount))
-  pub kept : a ≡ Some (action.Add name amount)
+  pub kept : a ≡ Within (action.Add name amount)

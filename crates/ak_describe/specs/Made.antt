@@ -1,6 +1,8 @@
 -- Values in a line: of what passes a limit nothing is kept.
-use Rattle.std.specs.Prelude.{ℕ, Bool, true, ◌&&◌, ◌==◌, nat_le, if◌then◌else◌, is_none, List, [], ◌∷◌, length, Option, Some, None, option_map}
+use Rattle.std.specs.Prelude.{ℕ, Bool, true, ◌==◌, nat_le, if◌then◌else◌, is_none, List, [], ◌∷◌, length, Option, Some, None, option_map}
 use Rattle.std.specs.List.{starts_with}
+use Rattle.ak_base.specs.declared.limited.Limited.{Limited}
+use Rattle.ak_base.specs.declared.limited.Limited.TheVariants.{Within, Over}
 use Rattle.ak_message.specs.declared.kind.Kind.{Kind}
 use Rattle.ak_message.specs.declared.kind.Kind.TheVariants as k
 use Rattle.ak_message.specs.Kind.{is_same_kind}
@@ -13,6 +15,11 @@ use Rattle.ak_flatten.specs.Limits.{flat_limit}
 use Rattle.ak_action.specs.declared.number.Number.{Number}
 use Rattle.ak_action.specs.Number.{number_of, number_kind}
 use Rattle.ak_action.specs.Values.{ValuesData, one_value, with_last, depth_fault, push_fault}
+
+-- one step behind another, where the first passes no limit
+abbrev pub limited_then : {A B : Type 0} → (A → Limited B) → Limited A → Limited B
+limited_then f (Within x) = f x
+limited_then f Over = Over
 
 -- ---- texts
 abbrev pub text_bytes : ValueData → Option (List ℕ)
@@ -30,16 +37,18 @@ text_bytes (message_value _ _ _) = None
 text_bytes (messenger_value _) = None
 text_bytes (raw_value _) = None
 
-abbrev pub text_in : reading.Got → Option (List ℕ)
-text_in g = g.value >>= text_bytes
+-- what a text is read as has no other value
+abbrev pub text_in : Limited ValueData → Option (Limited (List ℕ))
+text_in Over = Some Over
+text_in (Within v) = option_map Within (text_bytes v)
 
 -- a text in quotes
-abbrev pub quoted_from : List ℕ → Option (Option (List ℕ))
-quoted_from word = option_map text_in (reading.text_from word)
+abbrev pub quoted_from : List ℕ → Option (Limited (List ℕ))
+quoted_from word = reading.text_from word >>= λ g. text_in g.value
 
 -- ---- one value
 -- the value that a word writes
-abbrev pub value_from : List ℕ → Option (Option ValueData)
+abbrev pub value_from : List ℕ → Option (Limited ValueData)
 value_from word = option_map (λ (g : reading.Got). g.value) (reading.read_value word)
 
 abbrev pub begins_as : ℕ → List ℕ → Bool
@@ -49,24 +58,28 @@ begins_as letter word = starts_with ◌==◌ word (letter ∷ [])
 abbrev pub kind_over : List ℕ → Kind
 kind_over word = if begins_as 77 word then k.Message else if begins_as 82 word then k.Raw else k.Text
 
-abbrev pub kind_read : Option ValueData → List ℕ → Kind
-kind_read None word = kind_over word
-kind_read (Some v) word = message.kind_of v
+abbrev pub kind_read : Limited ValueData → List ℕ → Kind
+kind_read Over word = kind_over word
+kind_read (Within v) word = message.kind_of v
 
 -- a value of that kind
-unfoldable pub value_of_kind : Kind → List ℕ → Option (Option ValueData)
+unfoldable pub value_of_kind : Kind → List ℕ → Option (Limited ValueData)
 value_of_kind kind word = reading.read_value word >>= λ g. where_true (is_same_kind g.kind kind) g.value
 
 -- the same for words of bytes, where the first letter tells the kind of what passes a limit
-unfoldable pub value_by_letter : Kind → List ℕ → Option (Option ValueData)
+unfoldable pub value_by_letter : Kind → List ℕ → Option (Limited ValueData)
 value_by_letter kind word = value_from word >>= λ v. where_true (is_same_kind (kind_read v word) kind) v
 
 -- a number of that kind, which no limit is for
 abbrev pub number_of_kind : Kind → ValueData → Option Number
 number_of_kind kind v = number_of v >>= λ n. where_true (is_same_kind (number_kind n) kind) n
 
+abbrev pub number_in : Kind → Limited ValueData → Option Number
+number_in kind Over = None
+number_in kind (Within v) = number_of_kind kind v
+
 unfoldable pub number_from : Kind → List ℕ → Option Number
-number_from kind word = value_from word >>= λ v. v >>= number_of_kind kind
+number_from kind word = value_from word >>= number_in kind
 
 -- ---- values of a field
 -- with one value more, where a field can hold it
@@ -78,11 +91,12 @@ unfoldable pub values_of : Option ValuesData → List ValueData → Option (Opti
 values_of all [] = Some all
 values_of all (v ∷ vs) = with_value all v >>= λ more. values_of (Some more) vs
 
-abbrev pub values_kept : Option (List ValueData) → Option (Option ValuesData)
-values_kept None = Some None
-values_kept (Some vs) = values_of None vs
+-- one value or more
+abbrev pub values_kept : Limited (List ValueData) → Option (Limited ValuesData)
+values_kept Over = Some Over
+values_kept (Within vs) = values_of None vs >>= option_map Within
 
-unfoldable pub values_from : List ℕ → Option (Option ValuesData)
+unfoldable pub values_from : List ℕ → Option (Limited ValuesData)
 values_from text = option_map (λ (g : reading.GotValues). g.values) (reading.read_values text) >>= values_kept
 
 -- ---- one value alone, of any kind
@@ -103,8 +117,8 @@ is_short (messenger_value _) = true
 is_short (raw_value _) = true
 
 -- a message that is too long passes a limit
-abbrev pub one_kept : ValueData → Option ValuesData
-one_kept v = where_true (is_short v) (one_value v)
+abbrev pub one_kept : ValueData → Limited ValuesData
+one_kept v = if is_short v then Within (one_value v) else Over
 
-unfoldable pub one_from : List ℕ → Option (Option ValuesData)
-one_from word = option_map (λ (v : Option ValueData). v >>= one_kept) (value_from word)
+unfoldable pub one_from : List ℕ → Option (Limited ValuesData)
+one_from word = option_map (limited_then one_kept) (value_from word)

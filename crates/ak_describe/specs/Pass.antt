@@ -3,6 +3,8 @@ use Rattle.std.specs.Prelude.{ℕ, ◌+◌, ◌-◌, ◌^◌, min, Bool, true, f
 use Rattle.ak_base.specs.declared.ending.RefusalKind.{RefusalKind}
 use Rattle.ak_base.specs.declared.ending.RefusalKind.TheVariants as refusal
 use Rattle.ak_base.specs.declared.code.Code.{Code}
+use Rattle.ak_base.specs.declared.limited.Limited.{Limited}
+use Rattle.ak_base.specs.declared.limited.Limited.TheVariants.{Within, Over}
 use Rattle.ak_base.specs.Limits.{app_looper_limit}
 use Rattle.ak_roster.specs.Limits.{app_limit}
 use Rattle.ak_message.specs.declared.line.Line.{Line}
@@ -61,9 +63,9 @@ or_bad None f = Err refusal.BadValue
 or_bad (Some x) f = f x
 
 -- what passes a limit is told by that
-abbrev pub or_limit : {A B : Type 0} → Option A → (A → Result B RefusalKind) → Result B RefusalKind
-or_limit None f = Err refusal.Limit
-or_limit (Some x) f = f x
+abbrev pub or_limit : {A B : Type 0} → Limited A → (A → Result B RefusalKind) → Result B RefusalKind
+or_limit Over f = Err refusal.Limit
+or_limit (Within x) f = f x
 
 -- a name that is in use, and then that there is no room
 abbrev pub judged : {A : Type 0} → Bool → Bool → A → Result A RefusalKind
@@ -181,7 +183,7 @@ new_property p usage =
       elements = described p.kind [];
     }
 
-abbrev pub property_added : RowData → PropertyForm → Option (List ℕ) → Result (RowData × Option Need) RefusalKind
+abbrev pub property_added : RowData → PropertyForm → Limited (List ℕ) → Result (RowData × Option Need) RefusalKind
 property_added r p usage =
     or_limit usage (λ text. judged false (nat_lt (length r.properties) row_limit) (record r { properties = r.properties ++ new_property p text ∷ [] }, None))
 
@@ -220,13 +222,13 @@ reaction_line r words =
     or_bad (only_code words) (λ what. judged (has_reaction r.reactions what.0) (nat_lt (length r.reactions) reaction_limit) (record r { reactions = r.reactions ++ new_reaction what ∷ [] }, None))
 
 -- an action alone, as `drop` and `quit` are
-abbrev pub bare : Action → List (List ℕ) → Option (Option Action)
-bare a words = if ends words then Some (Some a) else None
+abbrev pub bare : Action → List (List ℕ) → Option (Limited Action)
+bare a words = if ends words then Some (Within a) else None
 
-abbrev pub added_form : List PropertyParts → List (List ℕ) → Option (Option Action)
-added_form properties words = option_and_then (λ (a : Action). Some (Some a)) (add_form properties words)
+abbrev pub added_form : List PropertyParts → List (List ℕ) → Option (Limited Action)
+added_form properties words = option_and_then (λ (a : Action). Some (Within a)) (add_form properties words)
 
-abbrev pub action_from : List PropertyParts → Keyword → List (List ℕ) → Result (Option Action) RefusalKind
+abbrev pub action_from : List PropertyParts → Keyword → List (List ℕ) → Result (Limited Action) RefusalKind
 action_from properties key.Reply words = or_bad (reply_form properties words) (λ a. Ok a)
 action_from properties key.Post words = or_bad (post_form properties words) (λ a. Ok a)
 action_from properties key.Ask words = or_bad (ask_form properties words) (λ a. Ok a)

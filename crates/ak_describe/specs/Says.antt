@@ -1,6 +1,8 @@
 -- What each line says, and what lines describe: all lines by what each of them says, from nothing on, with nothing against any.
 use Rattle.std.specs.Prelude.{◌≡◌, ◌≢◌, ℕ, ◌-◌, ◌<◌, ◌≤◌, true, false, ◌⊎◌, List, [], ◌∷◌, ◌++◌, length, slice_set, codes, Any, Option, Some, None}
 use Rattle.ak_base.specs.declared.code.Code.{Code}
+use Rattle.ak_base.specs.declared.limited.Limited.{Limited}
+use Rattle.ak_base.specs.declared.limited.Limited.TheVariants.{Within, Over}
 use Rattle.ak_base.specs.Limits.{app_looper_limit}
 use Rattle.ak_roster.specs.Limits.{app_limit}
 use Rattle.ak_filter.specs.declared.filter.Filter.{Filter}
@@ -42,9 +44,9 @@ pub data Form : Type 0 where
   says_suite : List ℕ → Form
   says_filter : Filter → Form
   says_property : PropertyForm → Form
-  says_element : Option (List ℕ × ValueData) → Form
+  says_element : Limited (List ℕ × ValueData) → Form
   says_on : Code → Form
-  says_action : Option Action → Form
+  says_action : Limited Action → Form
 
 -- ---- what is open: the last application, its last looper, the last handler of that
 abbrev pub open_row : State → Option RowData
@@ -123,21 +125,21 @@ MayStand s key.Drop = s.after ≡ following.Action
 MayStand s key.Quit = s.after ≡ following.Action
 
 -- ---- the further words
-abbrev pub SaysAction : (List PropertyParts → List (List ℕ) → Option Action → Type 0) → State → List (List ℕ) → Form → Type 0
-SaysAction Says s words form = (a : Option Action) × (form ≡ says_action a) × Says (open_properties s) words a
+abbrev pub SaysAction : (List PropertyParts → List (List ℕ) → Limited Action → Type 0) → State → List (List ℕ) → Form → Type 0
+SaysAction Says s words form = (a : Limited Action) × (form ≡ says_action a) × Says (open_properties s) words a
 
-abbrev pub replied : Option Template → Option Action
-replied None = None
-replied (Some m) = Some (action.Reply m)
+abbrev pub replied : Limited Template → Limited Action
+replied Over = Over
+replied (Within m) = Within (action.Reply m)
 
-abbrev pub SaysReply : List PropertyParts → List (List ℕ) → Option Action → Type 0
-SaysReply properties words a = (t : Option Template) × SaysMessage properties words t × (a ≡ replied t)
+abbrev pub SaysReply : List PropertyParts → List (List ℕ) → Limited Action → Type 0
+SaysReply properties words a = (t : Limited Template) × SaysMessage properties words t × (a ≡ replied t)
 
-abbrev pub SaysBare : Action → List PropertyParts → List (List ℕ) → Option Action → Type 0
-SaysBare bare properties words a = (words ≡ []) × (a ≡ Some bare)
+abbrev pub SaysBare : Action → List PropertyParts → List (List ℕ) → Limited Action → Type 0
+SaysBare bare properties words a = (words ≡ []) × (a ≡ Within bare)
 
 -- of the property that is open, whose kind an element has
-abbrev pub SaysOpenElement : State → List (List ℕ) → Option (List ℕ × ValueData) → Type 0
+abbrev pub SaysOpenElement : State → List (List ℕ) → Limited (List ℕ × ValueData) → Type 0
 SaysOpenElement s words e = (p : PropertyParts) × (last_item (open_properties s) ≡ Some p) × SaysElement p.row.kind words e
 
 -- what the words behind the first one say, by that
@@ -152,7 +154,7 @@ Says s key.Next words form = (name : List ℕ) × (form ≡ says_next name) × S
 Says s key.Suite words form = (name : List ℕ) × (form ≡ says_suite name) × SaysName words name
 Says s key.Filter words form = (f : Filter) × (form ≡ says_filter f) × SaysFilter words f
 Says s key.Property words form = (p : PropertyForm) × (form ≡ says_property p) × SaysProperty words p
-Says s key.Element words form = (e : Option (List ℕ × ValueData)) × (form ≡ says_element e) × SaysOpenElement s words e
+Says s key.Element words form = (e : Limited (List ℕ × ValueData)) × (form ≡ says_element e) × SaysOpenElement s words e
 Says s key.On words form = (code : Code) × (form ≡ says_on code) × SaysCode words code
 Says s key.Reply words form = SaysAction SaysReply s words form
 Says s key.Post words form = SaysAction SaysPost s words form
@@ -212,9 +214,9 @@ abbrev pub reactions_in : Option RowData → List Reaction
 reactions_in None = []
 reactions_in (Some r) = r.reactions
 
-abbrev pub IsThere : {A : Type 0} → Option A → Type 0
-IsThere None = ⊥
-IsThere (Some x) = Unit {0}
+abbrev pub IsKept : {A : Type 0} → Limited A → Type 0
+IsKept Over = ⊥
+IsKept (Within x) = Unit {0}
 
 -- there is room for what the line says, and it passes no limit itself
 abbrev pub IsWithin : State → Form → Type 0
@@ -227,10 +229,10 @@ IsWithin s (says_handler name) = LooperHas (open_looper s.apps) (λ l. length l.
 IsWithin s (says_next name) = Unit {0}
 IsWithin s (says_suite name) = RowHas (open_row s) (λ r. length r.suites < suite_limit)
 IsWithin s (says_filter f) = RowHas (open_row s) (λ r. length r.filters < filter_limit)
-IsWithin s (says_property p) = IsThere p.usage × RowHas (open_row s) (λ r. length r.properties < row_limit)
-IsWithin s (says_element e) = IsThere e × PropertyHas (last_item (open_properties s)) (λ p. length p.elements.list < element_limit)
+IsWithin s (says_property p) = IsKept p.usage × RowHas (open_row s) (λ r. length r.properties < row_limit)
+IsWithin s (says_element e) = IsKept e × PropertyHas (last_item (open_properties s)) (λ p. length p.elements.list < element_limit)
 IsWithin s (says_on code) = RowHas (open_row s) (λ r. length r.reactions < reaction_limit)
-IsWithin s (says_action a) = IsThere a × ReactionHas (last_item (reactions_in (open_row s))) (λ r. length r.actions < action_limit)
+IsWithin s (says_action a) = IsKept a × ReactionHas (last_item (reactions_in (open_row s))) (λ r. length r.actions < action_limit)
 
 -- ---- what the line adds
 abbrev pub changed : {A : Type 0} → (A → A) → List A → Option A → List A
@@ -250,17 +252,17 @@ in_looper change apps = in_app (λ a. record a { loopers = with_changed change a
 abbrev pub in_row : (RowData → RowData) → List AppData → List AppData
 in_row change apps = in_looper (λ l. record l { rows = with_changed change l.rows }) apps
 
-abbrev pub usage_of : Option (List ℕ) → List ℕ
-usage_of None = []
-usage_of (Some text) = text
+abbrev pub usage_of : Limited (List ℕ) → List ℕ
+usage_of Over = []
+usage_of (Within text) = text
 
-abbrev pub element_added : Option (List ℕ × ValueData) → PropertyParts → PropertyParts
-element_added None p = p
-element_added (Some e) p = record p { elements = with_last p.elements e.0 e.1 }
+abbrev pub element_added : Limited (List ℕ × ValueData) → PropertyParts → PropertyParts
+element_added Over p = p
+element_added (Within e) p = record p { elements = with_last p.elements e.0 e.1 }
 
-abbrev pub action_added : Option Action → Reaction → Reaction
-action_added None reaction = reaction
-action_added (Some a) reaction = record reaction { actions = reaction.actions ++ a ∷ [] }
+abbrev pub action_added : Limited Action → Reaction → Reaction
+action_added Over reaction = reaction
+action_added (Within a) reaction = record reaction { actions = reaction.actions ++ a ∷ [] }
 
 abbrev pub with_form : List AppData → Form → List AppData
 with_form apps (says_app f) = apps ++ new_app f ∷ []
@@ -277,9 +279,9 @@ with_form apps (says_element e) = in_row (λ r. record r { properties = with_cha
 with_form apps (says_on code) = in_row (λ r. record r { reactions = r.reactions ++ new_reaction code ∷ [] }) apps
 with_form apps (says_action a) = in_row (λ r. record r { reactions = with_changed (action_added a) r.reactions }) apps
 
-abbrev pub action_names : Option Action → Option Need
-action_names None = None
-action_names (Some a) = need_of_action a
+abbrev pub action_names : Limited Action → Option Need
+action_names Over = None
+action_names (Within a) = need_of_action a
 
 -- the name in the line that may be given later
 abbrev pub names_in : Form → Option Need

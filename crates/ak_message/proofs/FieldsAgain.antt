@@ -10,6 +10,8 @@ use Rattle.std.proofs.lemmas.Slice.Eq.{bytes_eq-Decides}
 use Rattle.ak_base.specs.Code.{code_text}
 use Rattle.ak_base.specs.Word.{is_word_byte, is_word}
 use Rattle.ak_base.proofs.Surface.{printed_codes_are_read, word_parts}
+use Rattle.ak_base.specs.declared.limited.Limited.{Limited}
+use Rattle.ak_base.specs.declared.limited.Limited.TheVariants.{Within}
 use Rattle.ak_message.specs.declared.kind.Kind.{Kind}
 use Rattle.ak_message.specs.Fields.{field_named, added, add_fault, new_field, IsField, IsMessage}
 use Rattle.ak_message.specs.Kind.{is_same_kind}
@@ -42,7 +44,7 @@ abbrev name_of : FieldData → List ℕ
 name_of f = f.name
 
 abbrev built : ℕ → List FieldData → Built
-built what fields = record { names = map name_of fields; message = Some (with_fields what fields) }
+built what fields = record { names = map name_of fields; message = Within (with_fields what fields) }
 
 -- ---- names
 
@@ -105,10 +107,10 @@ split_again name text word =
 
 module _ (message : List ℕ → Option Got) (what : ℕ) (name : List ℕ) (kind : Kind) (front : List FieldData) (word : is_word name ≡ true) (new : NoneNamed name front) where
   -- the message, with these values in the field
-  abbrev read_so_far : List ValueData → Option MessageData
-  read_so_far values = Some (with_fields what (front ++ field name kind values ∷ []))
+  abbrev read_so_far : List ValueData → Limited MessageData
+  read_so_far values = Within (with_fields what (front ++ field name kind values ∷ []))
 
-  abbrev read_whole : List ValueData → Option (Option MessageData)
+  abbrev read_whole : List ValueData → Option (Limited MessageData)
   read_whole values = Some (read_so_far values)
 
   more_added : (vs : NestedValues) (values : List ValueData) → AreRead message vs → All (λ v. kind_of v ≡ kind) (listed_values vs) → length values + length (listed_values vs) ≤ 255 → depth_of_nested_values vs ≤ 15
@@ -126,17 +128,17 @@ module _ (message : List ℕ → Option Got) (what : ℕ) (name : List ℕ) (kin
       rw (read.0, fits, none, added_last name kind values v front new, is) (next ∙ ap read_whole (append_assoc values (v ∷ []) (listed_values vs)))
 
   all_added : (v : ValueData) (vs : NestedValues) → AreRead message (then_value v vs) → All (λ v. kind_of v ≡ kind) (listed_values (then_value v vs)) → length front < 64 → length (listed_values (then_value v vs)) ≤ 255 → depth_of_nested_values (then_value v vs) ≤ 15
-      → values_added message name (value_text v ∷ value_texts vs) None (Some (with_fields what front)) ≡ read_whole (v ∷ listed_values vs)
+      → values_added message name (value_text v ∷ value_texts vs) None (Within (with_fields what front)) ≡ read_whole (v ∷ listed_values vs)
   unfolding values_added
   all_added v vs read kinds room few shallow =
       let is : kind_of v ≡ kind = All-head (λ v. kind_of v ≡ kind) v (listed_values vs) kinds in
       let later = All-tail (λ v. kind_of v ≡ kind) v (listed_values vs) kinds in
       let none = no_fault_new name v front word new room (omega (arith, shallow)) in
-      let first : values_added message name (value_text v ∷ value_texts vs) None (Some (with_fields what front)) ≡ values_added message name (value_texts vs) (Some (kind_of v)) (add_or_not (add_fault front name v) (with_fields what front) name v) = rw read.0 refl in
-      let grown : add_or_not (add_fault front name v) (with_fields what front) name v ≡ Some (with_fields what (front ++ new_field name v ∷ [])) = rw (none, added_new name v front new) refl in
-      let next : values_added message name (value_texts vs) (Some (kind_of v)) (Some (with_fields what (front ++ new_field name v ∷ []))) ≡ read_whole (v ∷ listed_values vs) =
+      let first : values_added message name (value_text v ∷ value_texts vs) None (Within (with_fields what front)) ≡ values_added message name (value_texts vs) (Some (kind_of v)) (add_or_not (add_fault front name v) (with_fields what front) name v) = rw read.0 refl in
+      let grown : add_or_not (add_fault front name v) (with_fields what front) name v ≡ Within (with_fields what (front ++ new_field name v ∷ [])) = rw (none, added_new name v front new) refl in
+      let next : values_added message name (value_texts vs) (Some (kind_of v)) (Within (with_fields what (front ++ new_field name v ∷ []))) ≡ read_whole (v ∷ listed_values vs) =
       rw is (more_added vs (v ∷ []) read.1 later (omega (arith, few)) (omega (arith, shallow))) in
-      first ∙ ap (λ (m : Option MessageData). values_added message name (value_texts vs) (Some (kind_of v)) m) grown ∙ next
+      first ∙ ap (λ (m : Limited MessageData). values_added message name (value_texts vs) (Some (kind_of v)) m) grown ∙ next
 
   field_again : (vs : NestedValues) → IsField (field name kind (listed_values vs)) → AreRead message vs → FitsValues vs → length front < 64 → depth_of_nested_values vs ≤ 15
       → field_behind message (built what front) (name ++ 61 ∷ nested_values_text vs) ≡ Some (built what (front ++ field name kind (listed_values vs) ∷ []))
@@ -151,10 +153,10 @@ module _ (message : List ℕ → Option Got) (what : ℕ) (name : List ℕ) (kin
 -- ---- values alone
 
 abbrev pub values_of_kind : Kind → List ValueData → Option GotValues
-values_of_kind kind values = Some (record { kind = kind; values = Some values })
+values_of_kind kind values = Some (record { kind = kind; values = Within values })
 
 behind_again : (message : List ℕ → Option Got) (kind : Kind) (vs : NestedValues) (values : List ValueData) → AreRead message vs → All (λ v. kind_of v ≡ kind) (listed_values vs) → length values + length (listed_values vs) ≤ 255
-    → values_behind message (value_texts vs) (record { kind = kind; values = Some values }) ≡ values_of_kind kind (values ++ listed_values vs)
+    → values_behind message (value_texts vs) (record { kind = kind; values = Within values }) ≡ values_of_kind kind (values ++ listed_values vs)
 unfolding values_behind
 behind_again message kind no_values values read kinds room = rw (append-nil values) refl
 behind_again message kind (then_value v vs) values read kinds room =
@@ -194,7 +196,7 @@ fields_again message what (then_field name kind vs fs) front every fits read dif
 -- ---- a message
 
 pub message_is_read : (message : List ℕ → Option Got) (what : ℕ) (fs : NestedFields) → IsMessage (message_of_nested what fs 0) → FitsFields fs → FieldsAreRead message fs → depth_of_nested_fields fs ≤ 15
-    → message_of message (code_text what ∷ field_texts fs) ≡ Some (Some (message_of_nested what fs 0))
+    → message_of message (code_text what ∷ field_texts fs) ≡ Some (Within (message_of_nested what fs 0))
 unfolding message_of
 message_is_read message what fs is fits read shallow =
     rw (code_again (code_text what) what (printed_codes_are_read what is.code), fields_again message what fs [] is.every_field fits read is.names_differ is.limit shallow) refl

@@ -3,6 +3,7 @@ use Rattle.std.proofs.Common.{◌≡◌, ℕ, ◌+◌, ◌<◌, ◌≤◌, true,
 use Rattle.std.specs.Prelude.{map}
 use Rattle.std.specs.Borrow.{Bor}
 use Rattle.std.proofs.lemmas.List.{drop_all, drop_more}
+use Rattle.ak_base.specs.declared.limited.Limited.{Limited}
 use Rattle.ak_message.specs.declared.kind.Kind.{Kind}
 use Rattle.ak_message.specs.declared.parse_fault.ParseFault.{ParseFault}
 use Rattle.ak_message.specs.declared.parse_fault.ParseFault.TheVariants as fault
@@ -21,7 +22,7 @@ no_rest texts i le = ap (λ (ts : List (Bor (List ℕ))). map seen ts) (drop_all
 
 -- ---- the values of a field, added to a message
 
-pub value_added : (message : List ℕ → Option Got) (name : List ℕ) (texts : List (Bor (List ℕ))) (i : ℕ) (text d : Bor (List ℕ)) (kind : Option Kind) (m after : Option MessageData) (v : Got) (total : Option (Option MessageData))
+pub value_added : (message : List ℕ → Option Got) (name : List ℕ) (texts : List (Bor (List ℕ))) (i : ℕ) (text d : Bor (List ℕ)) (kind : Option Kind) (m after : Limited MessageData) (v : Got) (total : Option (Limited MessageData))
     → i < length texts → text ≡ get_or texts i d → value_with message text.now ≡ Some v → fits kind v.kind ≡ true → after ≡ with_value m name v.value
     → values_added message name (map seen (drop i texts)) kind m ≡ total
     → values_added message name (map seen (drop (i + 1) texts)) (Some v.kind) after ≡ total
@@ -31,7 +32,7 @@ value_added message name texts i text d kind m after v total lt is read same gro
     rw (rest_is texts i text d lt is, read, same) refl in
     rw grown (sym one ∙ so_far)
 
-pub value_fails : (message : List ℕ → Option Got) (name : List ℕ) (texts : List (Bor (List ℕ))) (i : ℕ) (text d : Bor (List ℕ)) (kind : Option Kind) (m : Option MessageData) (total : Option (Option MessageData))
+pub value_fails : (message : List ℕ → Option Got) (name : List ℕ) (texts : List (Bor (List ℕ))) (i : ℕ) (text d : Bor (List ℕ)) (kind : Option Kind) (m : Limited MessageData) (total : Option (Limited MessageData))
     → i < length texts → text ≡ get_or texts i d → value_with message text.now ≡ None
     → values_added message name (map seen (drop i texts)) kind m ≡ total → total ≡ None
 unfolding values_added
@@ -39,14 +40,14 @@ value_fails message name texts i text d kind m total lt is read so_far =
     let one : values_added message name (map seen (drop i texts)) kind m ≡ None = rw (rest_is texts i text d lt is, read) refl in
     sym so_far ∙ one
 
-pub value_reads_fail : (e : ParseFault) (message : List ℕ → Option Got) (name : List ℕ) (texts : List (Bor (List ℕ))) (i : ℕ) (text d : Bor (List ℕ)) (kind : Option Kind) (m : Option MessageData) (total : Option (Option MessageData))
+pub value_reads_fail : (e : ParseFault) (message : List ℕ → Option Got) (name : List ℕ) (texts : List (Bor (List ℕ))) (i : ℕ) (text d : Bor (List ℕ)) (kind : Option Kind) (m : Limited MessageData) (total : Option (Limited MessageData))
     → i < length texts → text ≡ get_or texts i d → Fails e (value_with message text.now)
     → values_added message name (map seen (drop i texts)) kind m ≡ total → Fails e total
 value_reads_fail fault.BadValue message name texts i text d kind m total lt is fails so_far = value_fails message name texts i text d kind m total lt is fails so_far
 value_reads_fail fault.Limit message name texts i text d kind m total lt is fails so_far = absurd fails
 value_reads_fail fault.NoMemory message name texts i text d kind m total lt is fails so_far = tt
 
-pub kind_differs : (message : List ℕ → Option Got) (name : List ℕ) (texts : List (Bor (List ℕ))) (i : ℕ) (text d : Bor (List ℕ)) (kind : Option Kind) (m : Option MessageData) (v : Got) (total : Option (Option MessageData))
+pub kind_differs : (message : List ℕ → Option Got) (name : List ℕ) (texts : List (Bor (List ℕ))) (i : ℕ) (text d : Bor (List ℕ)) (kind : Option Kind) (m : Limited MessageData) (v : Got) (total : Option (Limited MessageData))
     → i < length texts → text ≡ get_or texts i d → value_with message text.now ≡ Some v → fits kind v.kind ≡ false
     → values_added message name (map seen (drop i texts)) kind m ≡ total → total ≡ None
 unfolding values_added
@@ -54,7 +55,7 @@ kind_differs message name texts i text d kind m v total lt is read other so_far 
     let one : values_added message name (map seen (drop i texts)) kind m ≡ None = rw (rest_is texts i text d lt is, read, other) refl in
     sym so_far ∙ one
 
-pub values_end : (message : List ℕ → Option Got) (name : List ℕ) (texts : List (Bor (List ℕ))) (i : ℕ) (kind : Option Kind) (m : Option MessageData) (total : Option (Option MessageData))
+pub values_end : (message : List ℕ → Option Got) (name : List ℕ) (texts : List (Bor (List ℕ))) (i : ℕ) (kind : Option Kind) (m : Limited MessageData) (total : Option (Limited MessageData))
     → length texts ≤ i → values_added message name (map seen (drop i texts)) kind m ≡ total → total ≡ Some m
 unfolding values_added
 values_end message name texts i kind m total le so_far =

@@ -2,6 +2,8 @@
 use Rattle.std.proofs.Common.{◌≡◌, ℕ, List, [], ◌∷◌, Option, Some, None, refl, sym, subst, ◌∙◌}
 use Rattle.std.specs.Prelude.{map}
 use Rattle.std.specs.Borrow.{Bor}
+use Rattle.ak_base.specs.declared.limited.Limited.{Limited}
+use Rattle.ak_base.specs.declared.limited.Limited.TheVariants.{Within}
 use Rattle.ak_message.specs.declared.pieces.Separator.TheVariants as by
 use Rattle.ak_message.specs.declared.parse_fault.ParseFault.{ParseFault}
 use Rattle.ak_message.specs.declared.parse_fault.ParseFault.TheVariants as fault
@@ -19,28 +21,28 @@ fails_first fault.NoMemory o f h = tt
 
 -- ---- the words of a message
 
-message_behind : (message : List ℕ → Option Got) (words : List (Bor (List ℕ))) (first : Bor (List ℕ)) (rest : List (Bor (List ℕ))) (what : ℕ) (names : List (List ℕ)) (m : Option MessageData) → words ≡ first ∷ rest → code_from first.now ≡ Some what
-    → names ≡ [] → m ≡ Some (record { what = what; fields = []; popped = 0 })
+message_behind : (message : List ℕ → Option Got) (words : List (Bor (List ℕ))) (first : Bor (List ℕ)) (rest : List (Bor (List ℕ))) (what : ℕ) (names : List (List ℕ)) (m : Limited MessageData) → words ≡ first ∷ rest → code_from first.now ≡ Some what
+    → names ≡ [] → m ≡ Within (record { what = what; fields = []; popped = 0 })
     → message_of message (map seen words) ≡ (fields_behind message (map seen rest) (record { names = names; message = m }) >>= λ built. Some built.message)
 unfolding message_of
 message_behind message words first rest what names m is code no_names made = rw (is, code, no_names, made) refl
 
-pub fields_fail : (e : ParseFault) (message : List ℕ → Option Got) (words : List (Bor (List ℕ))) (first : Bor (List ℕ)) (rest : List (Bor (List ℕ))) (what : ℕ) (names : List (List ℕ)) (m : Option MessageData) → words ≡ first ∷ rest → code_from first.now ≡ Some what
-    → names ≡ [] → m ≡ Some (record { what = what; fields = []; popped = 0 })
+pub fields_fail : (e : ParseFault) (message : List ℕ → Option Got) (words : List (Bor (List ℕ))) (first : Bor (List ℕ)) (rest : List (Bor (List ℕ))) (what : ℕ) (names : List (List ℕ)) (m : Limited MessageData) → words ≡ first ∷ rest → code_from first.now ≡ Some what
+    → names ≡ [] → m ≡ Within (record { what = what; fields = []; popped = 0 })
     → Fails e (fields_behind message (map seen rest) (record { names = names; message = m })) → Fails e (message_of message (map seen words))
 fields_fail e message words first rest what names m is code no_names made fails =
-    subst (λ (o : Option (Option MessageData)). Fails e o) (sym (message_behind message words first rest what names m is code no_names made))
+    subst (λ (o : Option (Limited MessageData)). Fails e o) (sym (message_behind message words first rest what names m is code no_names made))
     (fails_first e (fields_behind message (map seen rest) (record { names = names; message = m })) (λ built. Some built.message) fails)
 
-pub message_is : (message : List ℕ → Option Got) (words : List (Bor (List ℕ))) (first : Bor (List ℕ)) (rest : List (Bor (List ℕ))) (what : ℕ) (names : List (List ℕ)) (m : Option MessageData) (built : Built) → words ≡ first ∷ rest → code_from first.now ≡ Some what
-    → names ≡ [] → m ≡ Some (record { what = what; fields = []; popped = 0 })
+pub message_is : (message : List ℕ → Option Got) (words : List (Bor (List ℕ))) (first : Bor (List ℕ)) (rest : List (Bor (List ℕ))) (what : ℕ) (names : List (List ℕ)) (m : Limited MessageData) (built : Built) → words ≡ first ∷ rest → code_from first.now ≡ Some what
+    → names ≡ [] → m ≡ Within (record { what = what; fields = []; popped = 0 })
     → fields_behind message (map seen rest) (record { names = names; message = m }) ≡ Some built → message_of message (map seen words) ≡ Some built.message
 message_is message words first rest what names m built is code no_names made read =
     message_behind message words first rest what names m is code no_names made ∙ rw read refl
 
 -- ---- one field
 
-pub field_is : (message : List ℕ → Option Got) (b begun after : Built) (word name text : List ℕ) (texts shown : List (Bor (List ℕ))) (m : Option MessageData) → field_split word ≡ Some (name, text) → field_begun b name ≡ Some begun
+pub field_is : (message : List ℕ → Option Got) (b begun after : Built) (word name text : List ℕ) (texts shown : List (Bor (List ℕ))) (m : Limited MessageData) → field_split word ≡ Some (name, text) → field_begun b name ≡ Some begun
     → pieces_of by.Comma text ≡ Some (map seen texts) → shown ≡ texts → values_added message name (map seen shown) None begun.message ≡ Some m → after ≡ record { names = begun.names; message = m }
     → field_behind message b word ≡ Some after
 unfolding field_behind

@@ -6,6 +6,8 @@ use Rattle.std.proofs.lemmas.Bool.{ne_eqb, le-ltb}
 use Rattle.std.proofs.lemmas.List.{length-append, take_at, get_or_at}
 use Rattle.ak_base.specs.Code.{bytes_of, hex_of, may_all_be_quoted, code_text}
 use Rattle.ak_base.proofs.Surface.{code_text-quoted, code_text-hex}
+use Rattle.ak_base.specs.declared.limited.Limited.{Limited}
+use Rattle.ak_base.specs.declared.limited.Limited.TheVariants.{Within}
 use Rattle.ak_message.specs.declared.pieces.Separator.TheVariants as by
 use Rattle.ak_message.specs.Fields.{IsMessage}
 use Rattle.ak_message.specs.Laws.{PrintedValuesAreRead, PrintedFieldsAreRead, PrintedMessagesAreRead, PrintedWithoutPopped}
@@ -158,8 +160,8 @@ fields_are_read f is fits unpopped shallow =
     let few : length (listed_values (nested_values f.values)) ≤ 255 = subst (λ (vs : List ValueData). length vs ≤ 255) again is.limit in
     values_alone (message_from 15) f.kind (nested_values f.values) read fits kinds some few ∙ ap (λ (vs : List ValueData). values_of_kind f.kind vs) same
 
-abbrev found : MessageData → Option (Option MessageData)
-found m = Some (Some m)
+abbrev found : MessageData → Option (Limited MessageData)
+found m = Some (Within m)
 
 pub messages_are_read : PrintedMessagesAreRead
 messages_are_read m whole unpopped =

@@ -1,5 +1,5 @@
 -- Which bytes in quotes are a text.
-use Rattle.std.proofs.Common.{◌≡◌, ℕ, ◌<◌, ◌≤◌, true, eqb, List, length, Option, Some, None, Result, refl, subst}
+use Rattle.std.proofs.Common.{◌≡◌, ℕ, ◌<◌, ◌≤◌, true, eqb, List, length, Some, None, Result, refl, subst}
 use Rattle.std.specs.Prelude.{Contains, IsUtf8}
 use Rattle.std.specs.List.{list_any}
 use Rattle.std.specs.Str.{is_utf8}
@@ -7,6 +7,7 @@ use Rattle.std.proofs.lemmas.Bool.{le-leb, true_from_ne_false, lt-leb}
 use Rattle.std.proofs.lemmas.Str.{IsUtf8-from_is_utf8}
 use Rattle.ak_base.proofs.Surface.{no_zero, zero_in}
 use Rattle.ak_base.specs.Text.{IsText}
+use Rattle.ak_base.specs.declared.limited.Limited.{Limited}
 use Rattle.ak_message.specs.declared.kind.Kind.TheVariants as k
 use Rattle.ak_message.specs.Message.{text_value}
 use Rattle.ak_message.specs.Payload.{unquoted}
@@ -31,7 +32,7 @@ text_bad bytes utf8 bad = absurd (bad (IsUtf8-from_is_utf8 bytes utf8))
 pub ruleset texts = (text_ok, text_long, text_zero, text_bad)
 
 -- what stands in the quotes decides
-pub text_reads : (text bytes seen_bytes : List ℕ) (r : Result (Option (List ℕ)) ParseFault) → unquoted text ≡ Some bytes → seen_bytes ≡ bytes → Gives text_got r (text_of seen_bytes) → Gives text_got r (text_from text)
+pub text_reads : (text bytes seen_bytes : List ℕ) (r : Result (Limited (List ℕ)) ParseFault) → unquoted text ≡ Some bytes → seen_bytes ≡ bytes → Gives text_got r (text_of seen_bytes) → Gives text_got r (text_from text)
 unfolding text_from
 text_reads text bytes seen_bytes r is same given =
     rw is (subst (λ (b : List ℕ). Gives text_got r (text_of b)) same given)

@@ -1,5 +1,6 @@
 -- What is printed is read back.
 use Rattle.std.specs.Prelude.{◌≡◌, ◌<◌, List, map, Some, IsUtf8}
+use Rattle.ak_base.specs.declared.limited.Limited.TheVariants.{Within}
 use Rattle.ak_message.specs.declared.line.Word.{Word}
 use Rattle.ak_message.specs.Fields.{IsField}
 use Rattle.ak_message.specs.Limits.{depth_limit}
@@ -22,15 +23,15 @@ PrintedFieldsAreRead =
     → FitsValues (nested_values f.values)
     → AreUnpoppedValues (nested_values f.values)
     → depth_of_nested_values (nested_values f.values) < depth_limit
-    → read_values (nested_values_text (nested_values f.values)) ≡ Some (record { kind = f.kind; values = Some f.values })
+    → read_values (nested_values_text (nested_values f.values)) ≡ Some (record { kind = f.kind; values = Within f.values })
 
 -- a message that is sound at every depth, with nothing popped, is read from the words of its text
 abbrev pub PrintedMessagesAreRead : Type 0
-PrintedMessagesAreRead = (m : MessageData) → IsWhole m → IsUnpopped m → read_message (message_words m) ≡ Some (Some m)
+PrintedMessagesAreRead = (m : MessageData) → IsWhole m → IsUnpopped m → read_message (message_words m) ≡ Some (Within m)
 
 -- whatever is popped of it, at any depth, it is read with nothing popped
 abbrev pub PrintedWithoutPopped : Type 0
-PrintedWithoutPopped = (m : MessageData) → IsWhole m → read_message (message_words m) ≡ Some (Some (unpopped m))
+PrintedWithoutPopped = (m : MessageData) → IsWhole m → read_message (message_words m) ≡ Some (Within (unpopped m))
 
 -- the words of a message are those of its text, as a line has them
 abbrev pub PrintedWordsAreThere : Type 0

@@ -6,6 +6,7 @@ pub mod Inside
 pub mod Kind
 pub mod Laws
 pub mod Limits
+pub mod LineFault
 pub mod LineSeen
 pub mod Lines
 pub mod Marks

@@ -2,6 +2,9 @@
 use Rattle.std.specs.Prelude.{◌≡◌, ℕ, List, Vec, map, Option, None, Some, option_map, Result, Ok, Err}
 use Rattle.std.specs.Borrow.{Bor}
 use Rattle.std.specs.declared.alloc.Global.{Global}
+use Rattle.ak_base.specs.declared.limited.Limited.{Limited}
+use Rattle.ak_base.specs.declared.limited.Limited.TheVariants.{Within, Over}
+use Rattle.ak_base.specs.Limited.{limited_map}
 use Rattle.ak_message.specs.declared.message.Value.{Value}
 use Rattle.ak_message.specs.declared.reading.ReadValue.{ReadValue}
 use Rattle.ak_message.specs.declared.reading.ReadValues.{ReadValues}
@@ -28,10 +31,10 @@ abbrev pub seen : Bor (List ℕ) → List ℕ
 seen bytes = bytes.now
 
 abbrev pub got_of : ReadValue → Got
-got_of r = record { kind = r.kind; value = option_map value_of r.value }
+got_of r = record { kind = r.kind; value = limited_map value_of r.value }
 
 abbrev pub got_values_of : ReadValues → GotValues
-got_values_of r = record { kind = r.kind; values = option_map (λ vs. map value_of vs.items) r.values }
+got_values_of r = record { kind = r.kind; values = limited_map (λ vs. map value_of vs.items) r.values }
 
 abbrev pub built_of : Building → Built
 built_of b = record { names = map seen b.names.keys; message = b.message }
@@ -41,9 +44,9 @@ pair_of x = (x.0.now, x.1.now)
 
 -- a value that was read; one that passes a limit was read without it
 abbrev pub GivesValue : Result Value ParseFault → Option Got → Type 0
-GivesValue (Ok v) read = option_map (λ g. g.value) read ≡ Some (Some (value_of v))
+GivesValue (Ok v) read = option_map (λ g. g.value) read ≡ Some (Within (value_of v))
 GivesValue (Err fault.BadValue) read = read ≡ None
-GivesValue (Err fault.Limit) read = option_map (λ g. g.value) read ≡ Some None
+GivesValue (Err fault.Limit) read = option_map (λ g. g.value) read ≡ Some Over
 GivesValue (Err fault.NoMemory) read = Unit {0}
 
 -- a text that was read; one that is too long was read without it
@@ -54,15 +57,15 @@ GivesText (Err fault.Limit) read = read ≡ Some (over k.Text)
 GivesText (Err fault.NoMemory) read = Unit {0}
 
 -- a message that was read; one that passes a limit was read without it
-abbrev pub GivesMessage : Result MessageData ParseFault → Option (Option MessageData) → Type 0
-GivesMessage (Ok m) read = read ≡ Some (Some m)
+abbrev pub GivesMessage : Result MessageData ParseFault → Option (Limited MessageData) → Type 0
+GivesMessage (Ok m) read = read ≡ Some (Within m)
 GivesMessage (Err fault.BadValue) read = read ≡ None
-GivesMessage (Err fault.Limit) read = read ≡ Some None
+GivesMessage (Err fault.Limit) read = read ≡ Some Over
 GivesMessage (Err fault.NoMemory) read = Unit {0}
 
 -- values that were read; those that pass a limit were read without them
 abbrev pub GivesValues : Result (Vec Value Global) ParseFault → Option GotValues → Type 0
-GivesValues (Ok vs) read = option_map (λ g. g.values) read ≡ Some (Some (map value_of vs.items))
+GivesValues (Ok vs) read = option_map (λ g. g.values) read ≡ Some (Within (map value_of vs.items))
 GivesValues (Err fault.BadValue) read = read ≡ None
-GivesValues (Err fault.Limit) read = option_map (λ g. g.values) read ≡ Some None
+GivesValues (Err fault.Limit) read = option_map (λ g. g.values) read ≡ Some Over
 GivesValues (Err fault.NoMemory) read = Unit {0}

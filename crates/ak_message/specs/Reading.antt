@@ -6,6 +6,8 @@ use Rattle.std.specs.Str.{bytes_eq, is_utf8}
 use Rattle.ak_base.specs.Code.{may_all_be_quoted}
 use Rattle.ak_base.specs.Word.{is_word}
 use Rattle.ak_base.specs.Limits.{text_limit, raw_limit}
+use Rattle.ak_base.specs.declared.limited.Limited.{Limited}
+use Rattle.ak_base.specs.declared.limited.Limited.TheVariants.{Within, Over}
 use Rattle.ak_message.specs.declared.kind.Kind.{Kind}
 use Rattle.ak_message.specs.declared.kind.Kind.TheVariants as k
 use Rattle.ak_message.specs.declared.pieces.Separator.TheVariants as by
@@ -21,18 +23,18 @@ use Rattle.ak_message.specs.Limits.{value_limit, depth_limit}
 -- a kind, and the value where it passes no limit
 pub record Got : Type 0 where
   pub kind : Kind
-  pub value : Option ValueData
+  pub value : Limited ValueData
 
 -- the same of the values of a field
 pub record GotValues : Type 0 where
   pub kind : Kind
-  pub values : Option (List ValueData)
+  pub values : Limited (List ValueData)
 
 abbrev pub got : ValueData → Got
-got v = record { kind = kind_of v; value = Some v }
+got v = record { kind = kind_of v; value = Within v }
 
 abbrev pub over : Kind → Got
-over kind = record { kind = kind; value = None }
+over kind = record { kind = kind; value = Over }
 
 -- ---- values that are no message
 -- a text has no zero byte, and quotes hold none
@@ -42,9 +44,9 @@ text_kept bytes =
     else Some (over k.Text)
 
 -- a text, where it is not too long
-abbrev pub text_got : Option (List ℕ) → Got
-text_got None = over k.Text
-text_got (Some bytes) = got (text_value bytes)
+abbrev pub text_got : Limited (List ℕ) → Got
+text_got Over = over k.Text
+text_got (Within bytes) = got (text_value bytes)
 
 abbrev pub raw_within : List ℕ → Got
 raw_within bytes = if nat_le (length bytes) raw_limit then got (raw_value bytes) else over k.Raw
@@ -103,13 +105,13 @@ abbrev pub plain_from : List ℕ → Option Got
 plain_from text = value_with (λ _. None) text
 
 -- values that are added to others, at most 255
-abbrev pub joined : Option (List ValueData) → Option ValueData → Option (List ValueData)
-joined None v = None
-joined (Some vs) None = None
-joined (Some vs) (Some v) = if nat_lt (length vs) value_limit then Some (vs ++ v ∷ []) else None
+abbrev pub joined : Limited (List ValueData) → Limited ValueData → Limited (List ValueData)
+joined Over v = Over
+joined (Within vs) Over = Over
+joined (Within vs) (Within v) = if nat_lt (length vs) value_limit then Within (vs ++ v ∷ []) else Over
 
 abbrev pub first_values : Got → GotValues
-first_values v = record { kind = v.kind; values = joined (Some []) v.value }
+first_values v = record { kind = v.kind; values = joined (Within []) v.value }
 
 -- one value more, which has to be of the same kind
 abbrev pub more_values : GotValues → Got → Option GotValues
@@ -140,24 +142,24 @@ field_split word = do
 -- a message as far as it is read: the names of its fields, and itself where it passes no limit
 pub record Built : Type 0 where
   pub names : List (List ℕ)
-  pub message : Option MessageData
+  pub message : Limited MessageData
 
 -- a value added to a message; where it can't be, or passes a limit itself, the message is not kept
-abbrev pub add_or_not : Option AddFault → MessageData → List ℕ → ValueData → Option MessageData
-add_or_not None m name v = Some (record m { fields = added m.fields name v })
-add_or_not (Some fault) m name v = None
+abbrev pub add_or_not : Option AddFault → MessageData → List ℕ → ValueData → Limited MessageData
+add_or_not None m name v = Within (record m { fields = added m.fields name v })
+add_or_not (Some fault) m name v = Over
 
-abbrev pub with_value : Option MessageData → List ℕ → Option ValueData → Option MessageData
-with_value None name v = None
-with_value (Some m) name None = None
-with_value (Some m) name (Some v) = add_or_not (add_fault m.fields name v) m name v
+abbrev pub with_value : Limited MessageData → List ℕ → Limited ValueData → Limited MessageData
+with_value Over name v = Over
+with_value (Within m) name Over = Over
+with_value (Within m) name (Within v) = add_or_not (add_fault m.fields name v) m name v
 
 -- the first value of a field has any kind, and the others have the same
 abbrev pub fits : Option Kind → Kind → Bool
 fits None kind = true
 fits (Some first) kind = is_same_kind kind first
 
-unfoldable pub values_added : (List ℕ → Option Got) → List ℕ → List (List ℕ) → Option Kind → Option MessageData → Option (Option MessageData)
+unfoldable pub values_added : (List ℕ → Option Got) → List ℕ → List (List ℕ) → Option Kind → Limited MessageData → Option (Limited MessageData)
 values_added message name [] kind m = Some m
 values_added message name (text ∷ texts) kind m = do
   v ← value_with message text
@@ -189,11 +191,11 @@ code_from text =
     else None
 
 -- the words of a message's text: a code, and then fields
-unfoldable pub message_of : (List ℕ → Option Got) → List (List ℕ) → Option (Option MessageData)
+unfoldable pub message_of : (List ℕ → Option Got) → List (List ℕ) → Option (Limited MessageData)
 message_of message [] = None
 message_of message (text ∷ words) = do
   what ← code_from text
-  b ← fields_behind message words (record { names = []; message = Some (record { what = what; fields = []; popped = 0 }) })
+  b ← fields_behind message words (record { names = []; message = Within (record { what = what; fields = []; popped = 0 }) })
   Some b.message
 
 -- the words between blanks, with none before the first or behind the last
@@ -204,9 +206,9 @@ abbrev pub is_missing : Option (List ℕ) → Bool
 is_missing None = true
 is_missing (Some bytes) = length bytes == 0
 
-abbrev pub got_message : Option MessageData → Got
-got_message None = over k.Message
-got_message (Some m) = got (value_of_message m)
+abbrev pub got_message : Limited MessageData → Got
+got_message Over = over k.Message
+got_message (Within m) = got (value_of_message m)
 
 abbrev pub is_blank_at_an_end : List (List ℕ) → Bool
 is_blank_at_an_end pieces = is_missing (slice_get pieces 0) || is_missing (slice_get pieces (length pieces - 1))
@@ -228,5 +230,5 @@ read_value text = value_with (message_from depth_limit) text
 abbrev pub read_values : List ℕ → Option GotValues
 read_values text = values_with (message_from 15) text
 
-abbrev pub read_message : List (List ℕ) → Option (Option MessageData)
+abbrev pub read_message : List (List ℕ) → Option (Limited MessageData)
 read_message words = message_of (message_from 15) words

@@ -1,6 +1,8 @@
 //! Reads values, fields and messages in an input. Messages in messages are read as deep as they may stand.
 
 ghost use Rattle.std.specs.Prelude.{◌≡◌, ◌≢◌, ◌<◌, ◌≤◌, length, map, filter, None, Some, Err, option_map, IfSome, IfOk, OnErr};
+ghost use Rattle.ak_base.specs.declared.limited.Limited.TheVariants.{Over};
+ghost use Rattle.ak_base.specs.Limited.{limited_map};
 ghost use Rattle.ak_message.specs.ReadSeen.{Gives, GivesValue, GivesText, GivesMessage, GivesValues, seen, pair_of, got_of, got_values_of, built_of};
 ghost use Rattle.ak_message.specs.Reading as reads;
 ghost use Rattle.ak_message.specs.Seen.{value_of};
@@ -17,7 +19,7 @@ use crate::payload;
 use crate::pieces::{Separator, braced, pieces_of};
 use crate::quoted::{raw_from, unquoted};
 use crate::words::is_utf8;
-use ak_base::{Code, NoMemory, Raw, RawFault, Text, TextFault, is_word};
+use ak_base::{Code, Limited, NoMemory, Raw, RawFault, Text, TextFault, is_word};
 use indexmap::IndexSet;
 use std::alloc::Global;
 
@@ -25,21 +27,21 @@ use std::alloc::Global;
 #[derive(Drop)]
 struct ReadValue {
     kind: Kind,
-    value: Option<Value>,
+    value: Limited<Value>,
 }
 
 /// The values of a field: their kind, and the values where they pass no limit.
 #[derive(Drop)]
 struct ReadValues {
     kind: Kind,
-    values: Option<Vec<Value>>,
+    values: Limited<Vec<Value>>,
 }
 
 /// A message as far as it is read: the names of its fields, and the message itself where it passes no limit.
 #[derive(Drop)]
 struct Building<'a> {
     names: IndexSet<&'a [u8]>,
-    message: Option<Message>,
+    message: Limited<Message>,
 }
 
 /// The value that a word writes: the letters of its kind, a colon and its payload. For short a whole number
@@ -58,8 +60,8 @@ fn kept(read: ReadValue) -> Result<Value, ParseFault>
     ensures { GivesValue result (Some (got_of read)) }
 {
     match read.value {
-        Some(value) => Ok(value),
-        None => Err(ParseFault::Limit),
+        Limited::Within(value) => Ok(value),
+        Limited::Over => Err(ParseFault::Limit),
     }
 }
 
@@ -77,8 +79,8 @@ fn kept_values(read: ReadValues) -> Result<Vec<Value>, ParseFault>
     ensures { GivesValues result (Some (got_values_of read)) }
 {
     match read.values {
-        Some(values) => Ok(values),
-        None => Err(ParseFault::Limit),
+        Limited::Within(values) => Ok(values),
+        Limited::Over => Err(ParseFault::Limit),
     }
 }
 
@@ -93,12 +95,12 @@ pub fn read_message(alloc: Global, words: &[Word]) -> Result<Message, ParseFault
 }
 
 // The message, where it passes no limit.
-fn kept_message(message: Option<Message>) -> Result<Message, ParseFault>
+fn kept_message(message: Limited<Message>) -> Result<Message, ParseFault>
     ensures { GivesMessage result (Some message) }
 {
     match message {
-        Some(message) => Ok(message),
-        None => Err(ParseFault::Limit),
+        Limited::Within(message) => Ok(message),
+        Limited::Over => Err(ParseFault::Limit),
     }
 }
 
@@ -108,8 +110,8 @@ pub fn read_quoted(alloc: Global, word: &[u8]) -> Result<Text, ParseFault>
     ensures { GivesText result (reads.text_from word.now) }
 {
     match text_within(alloc, word)? {
-        Some(text) => Ok(text),
-        None => Err(ParseFault::Limit),
+        Limited::Within(text) => Ok(text),
+        Limited::Over => Err(ParseFault::Limit),
     }
 }
 
@@ -151,7 +153,10 @@ fn texts_of(alloc: Global, words: &[Word]) -> Result<Vec<&[u8]>, NoMemory>
 fn over(kind: Kind) -> ReadValue
     ensures { got_of result ≡ reads.over kind }
 {
-    ReadValue { kind, value: None }
+    ReadValue {
+        kind,
+        value: Limited::Over,
+    }
 }
 
 fn got(value: Value) -> ReadValue
@@ -159,7 +164,7 @@ fn got(value: Value) -> ReadValue
 {
     ReadValue {
         kind: value.kind(),
-        value: Some(value),
+        value: Limited::Within(value),
     }
 }
 
@@ -213,14 +218,14 @@ fn text_value(alloc: Global, text: &[u8]) -> Result<ReadValue, ParseFault>
     ensures { Gives got_of result (reads.text_from text.now) }
 {
     match text_within(alloc, text)? {
-        Some(text) => Ok(got(Value::Text(text))),
-        None => Ok(over(Kind::Text)),
+        Limited::Within(text) => Ok(got(Value::Text(text))),
+        Limited::Over => Ok(over(Kind::Text)),
     }
 }
 
 // The text in quotes, where it is not too long.
 #[tactic(auto, unfolding(crate::specs::Reading::text_from))]
-fn text_within(alloc: Global, text: &[u8]) -> Result<Option<Text>, ParseFault>
+fn text_within(alloc: Global, text: &[u8]) -> Result<Limited<Text>, ParseFault>
     ensures { Gives reads.text_got result (reads.text_from text.now) }
 {
     let bytes = unquoted(alloc, text)?;
@@ -229,15 +234,15 @@ fn text_within(alloc: Global, text: &[u8]) -> Result<Option<Text>, ParseFault>
 
 // The text of these bytes, where they are not too many.
 #[tactic(auto, using(crate::proofs::TextKept::texts))]
-fn text_of(alloc: Global, bytes: &[u8]) -> Result<Option<Text>, ParseFault>
+fn text_of(alloc: Global, bytes: &[u8]) -> Result<Limited<Text>, ParseFault>
     ensures { Gives reads.text_got result (reads.text_of bytes.now) }
 {
     if !is_utf8(bytes) {
         return Err(ParseFault::BadValue);
     }
     match Text::from_bytes(alloc, bytes) {
-        Ok(text) => Ok(Some(text)),
-        Err(TextFault::TooLong) => Ok(None),
+        Ok(text) => Ok(Limited::Within(text)),
+        Err(TextFault::TooLong) => Ok(Limited::Over),
         Err(TextFault::NoMemory) => Err(ParseFault::NoMemory),
         Err(TextFault::NotUtf8) => Err(ParseFault::BadValue),
         Err(TextFault::Zero) => Err(ParseFault::BadValue),
@@ -305,8 +310,8 @@ fn message(alloc: Global, levels: u32, text: &[u8]) -> Result<ReadValue, ParseFa
     }
     let words = words_of(alloc, body)?;
     match message_of(alloc, levels - 1, &words)? {
-        Some(message) => Ok(got(Value::from_message(alloc, message)?)),
-        None => Ok(over(Kind::Message)),
+        Limited::Within(message) => Ok(got(Value::from_message(alloc, message)?)),
+        Limited::Over => Ok(over(Kind::Message)),
     }
 }
 
@@ -352,7 +357,7 @@ fn is_missing(piece: Option<&&[u8]>) -> bool
 
 #[cycle(values)]
 #[tactic(auto, unfolding(crate::specs::Reading::message_of))]
-fn message_of(alloc: Global, levels: u32, words: &[&[u8]]) -> Result<Option<Message>, ParseFault>
+fn message_of(alloc: Global, levels: u32, words: &[&[u8]]) -> Result<Limited<Message>, ParseFault>
     requires { levels ≤ 15 }
     ensures { Gives (λ m. m) result (reads.message_of (reads.message_from levels) (map seen words.now)) }
 {
@@ -364,7 +369,7 @@ fn message_of(alloc: Global, levels: u32, words: &[&[u8]]) -> Result<Option<Mess
     };
     let mut building = Building {
         names: IndexSet::new(alloc),
-        message: Some(Message::new(alloc, what)),
+        message: Limited::Within(Message::new(alloc, what)),
     };
     for word in fields {
         building = field(alloc, levels, building, word)?;
@@ -420,10 +425,10 @@ fn begin<'a>(building: Building<'a>, name: &'a [u8]) -> Result<Building<'a>, Par
 fn add_values(
     alloc: Global,
     levels: u32,
-    message: Option<Message>,
+    message: Limited<Message>,
     name: &[u8],
     texts: &[&[u8]],
-) -> Result<Option<Message>, ParseFault>
+) -> Result<Limited<Message>, ParseFault>
     requires { levels ≤ 15 }
     ensures { Gives (λ m. m) result (reads.values_added (reads.message_from levels) name.now (map seen texts.now) None message) }
 {
@@ -451,35 +456,35 @@ fn fits(first: Option<Kind>, kind: Kind) -> bool
 
 // The message with one value more, where it has room for it.
 fn with_value(
-    message: Option<Message>,
+    message: Limited<Message>,
     name: &[u8],
-    value: Option<Value>,
-) -> Result<Option<Message>, ParseFault>
-    ensures added { IfOk result (λ m. m ≡ reads.with_value message name.now (option_map value_of value)) }
+    value: Limited<Value>,
+) -> Result<Limited<Message>, ParseFault>
+    ensures added { IfOk result (λ m. m ≡ reads.with_value message name.now (limited_map value_of value)) }
     ensures only { OnErr result (result ≡ Err ParseFault.NoMemory) }
 {
-    let Some(mut message) = message else {
-        return Ok(None);
+    let Limited::Within(mut message) = message else {
+        return Ok(Limited::Over);
     };
-    let Some(value) = value else {
-        return Ok(None);
+    let Limited::Within(value) = value else {
+        return Ok(Limited::Over);
     };
     match message.add(name, value) {
-        Ok(()) => Ok(Some(message)),
+        Ok(()) => Ok(Limited::Within(message)),
         Err(fault) => not_added(fault),
     }
 }
 
 // The value passes a limit, unless memory ran out.
-fn not_added(fault: AddFault) -> Result<Option<Message>, ParseFault>
-    ensures kept { IfOk result (λ m. (m ≡ None) × (fault ≢ AddFault.NoMemory)) }
+fn not_added(fault: AddFault) -> Result<Limited<Message>, ParseFault>
+    ensures kept { IfOk result (λ m. (m ≡ Over) × (fault ≢ AddFault.NoMemory)) }
     ensures only { OnErr result (result ≡ Err ParseFault.NoMemory) }
 {
     match fault {
         AddFault::NoMemory => Err(ParseFault::NoMemory),
-        AddFault::BadName | AddFault::BadType | AddFault::FieldLimit | AddFault::TooDeep => Ok(
-            None,
-        ),
+        AddFault::BadName | AddFault::BadType | AddFault::FieldLimit | AddFault::TooDeep => {
+            Ok(Limited::Over)
+        }
     }
 }
 
@@ -516,24 +521,24 @@ fn further_values(
 
 // The values so far and one more, at most 255.
 fn joined(
-    values: Option<Vec<Value>>,
-    value: Option<Value>,
-) -> Result<Option<Vec<Value>>, ParseFault>
-    ensures joined { IfOk result (λ all. option_map (λ vs. map value_of vs.items) all
-        ≡ reads.joined (option_map (λ vs. map value_of vs.items) values) (option_map value_of value)) }
+    values: Limited<Vec<Value>>,
+    value: Limited<Value>,
+) -> Result<Limited<Vec<Value>>, ParseFault>
+    ensures joined { IfOk result (λ all. limited_map (λ vs. map value_of vs.items) all
+        ≡ reads.joined (limited_map (λ vs. map value_of vs.items) values) (limited_map value_of value)) }
     ensures only { OnErr result (result ≡ Err ParseFault.NoMemory) }
 {
-    let Some(mut values) = values else {
-        return Ok(None);
+    let Limited::Within(mut values) = values else {
+        return Ok(Limited::Over);
     };
-    let Some(value) = value else {
-        return Ok(None);
+    let Limited::Within(value) = value else {
+        return Ok(Limited::Over);
     };
     if values.len() >= VALUE_LIMIT {
-        return Ok(None);
+        return Ok(Limited::Over);
     }
     values.push(value)?;
-    Ok(Some(values))
+    Ok(Limited::Within(values))
 }
 
 fn first_values(alloc: Global, first: ReadValue) -> Result<ReadValues, ParseFault>
@@ -543,7 +548,7 @@ fn first_values(alloc: Global, first: ReadValue) -> Result<ReadValues, ParseFaul
     let ReadValue { kind, value } = first;
     Ok(ReadValues {
         kind,
-        values: joined(Some(Vec::new(alloc)), value)?,
+        values: joined(Limited::Within(Vec::new(alloc)), value)?,
     })
 }
 

@@ -35,7 +35,7 @@ fn told(alloc: Global, input: &InputLines) -> Result<Bytes, NoMemory> {
     match read_description(alloc, input.lines.as_slice()) {
         Ok(apps) => tell_read(alloc, &mut told, &apps, input)?,
         Err(DescribeFault::NoMemory) => return Err(NoMemory),
-        Err(fault) => tell_fault(&mut told, fault)?,
+        Err(fault) => tell_fault(alloc, &mut told, fault)?,
     }
     Ok(told)
 }
@@ -48,7 +48,7 @@ fn tell_read(
     input: &InputLines,
 ) -> Result<(), NoMemory> {
     match &input.fault {
-        Some(fault) => tell_kind(told, fault.line, fault.kind),
+        Some(fault) => tell_kind(alloc, told, fault.line, fault.kind),
         None => tell_apps(alloc, told, apps),
     }
 }

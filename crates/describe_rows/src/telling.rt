@@ -17,29 +17,16 @@ use std::alloc::Global;
 type Told = Result<(), NoMemory>;
 
 // ---- refusals
-pub(crate) fn tell_fault(out: &mut Bytes, fault: DescribeFault) -> Told {
+pub(crate) fn tell_fault(alloc: Global, out: &mut Bytes, fault: DescribeFault) -> Told {
     match fault {
-        DescribeFault::Refused { line, kind } => tell_kind(out, line, kind),
+        DescribeFault::Refused { line, kind } => tell_kind(alloc, out, line, kind),
         DescribeFault::NoMemory => out.extend(b"no memory"),
     }
 }
 
-pub(crate) fn tell_kind(out: &mut Bytes, line: u32, kind: RefusalKind) -> Told {
+pub(crate) fn tell_kind(alloc: Global, out: &mut Bytes, line: u32, kind: RefusalKind) -> Told {
     print_uint(u64::from(line), out)?;
-    let kind = match kind {
-        RefusalKind::NotUtf8 => " not UTF-8",
-        RefusalKind::BadWord => " bad word",
-        RefusalKind::UnknownLine => " unknown line",
-        RefusalKind::BadValue => " bad value",
-        RefusalKind::NameInUse => " name in use",
-        RefusalKind::Limit => " limit",
-        RefusalKind::Unfinished => " unfinished",
-        RefusalKind::UnknownName => " unknown name",
-        RefusalKind::ChainLoop => " chain loop",
-        RefusalKind::AskOrder => " ask order",
-        _ => " another",
-    };
-    out.extend(kind.as_bytes())
+    word(out, kind.to_string(alloc)?.as_bytes())
 }
 
 // ---- applications, loopers, handlers

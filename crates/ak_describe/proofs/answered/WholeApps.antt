@@ -1,8 +1,8 @@
 -- What is described is whole.
-use Rattle.std.proofs.Common.{◌≡◌, ◌≢◌, ℕ, ◌+◌, ◌-◌, ◌<◌, ◌≤◌, true, List, [], ◌∷◌, length, get_or, map, All, AllPairs, Option, Some, None, IfSome, IsTrue, option_map, slice_get, refl, sym, ap, subst, ◌∙◌, arith}
+use Rattle.std.proofs.Common.{◌≡◌, ◌≢◌, ℕ, ◌+◌, ◌-◌, ◌<◌, ◌≤◌, true, List, [], ◌∷◌, length, get_or, map, All, AllPairs, Some, None, IfSome, IsTrue, option_map, slice_get, refl, sym, ap, subst, ◌∙◌, arith}
 use Rattle.std.proofs.lemmas.List.{length-map, get_or-map}
 use Rattle.std.proofs.lemmas.List.Elements.{All-map, All-weaker}
-use Rattle.std.proofs.lemmas.Option.{slice_get-get_or, slice_get-map, slice_get_within}
+use Rattle.std.proofs.lemmas.Option.{slice_get-get_or, slice_get-map}
 use Rattle.ak_base.specs.Word.{is_word}
 use Rattle.ak_message.specs.declared.line.Line.{Line}
 use Rattle.ak_action.specs.declared.plan.PlanParts.{PlanParts}
@@ -11,8 +11,8 @@ use Rattle.ak_action.specs.Plan.{IsPlan}
 use Rattle.ak_roster.specs.declared.head.AppHead.{AppHead}
 use Rattle.ak_roster.specs.Heads.{IsHeads}
 use Rattle.ak_describe.specs.declared.described.AppText.{AppText}
-use Rattle.ak_describe.specs.Described.{AreWhole, IsWhole, app_text, described, plan_parts, plan_rows}
-use Rattle.ak_describe.specs.Describes.{Adds, Describes, Follow, IsGood}
+use Rattle.ak_describe.specs.Described.{AreWhole, IsWhole, app_text, described, plan_parts}
+use Rattle.ak_describe.specs.Describes.{Adds, Follow, IsGood}
 use Rattle.ak_describe.specs.Parts.{LooperData, AppData}
 use Rattle.ak_describe.specs.Pass.{State, nothing_read}
 use Rattle.ak_describe.specs.Whole.{AreWholeApps, DescriptionsAreWhole, IsWholeApp, head_of, heads_of, looper_names}

@@ -1,8 +1,11 @@
 -- What the actions in lines say of the properties of their handler, and what stays so where there are more.
-use Rattle.std.proofs.Common.{◌≡◌, ◌∙◌, ℕ, Bool, true, false, ◌&&◌, cond, if◌then◌else◌, eqb, List, [], ◌∷◌, ◌++◌, length, Option, None, Some, option_map, bytes_eq, Ok, is_none, nat_le, inl, inr, ⊎_elim, ◌⊎◌, eq-eqb, refl, sym, ap, subst}
+use Rattle.std.proofs.Common.{◌≡◌, ◌∙◌, ℕ, Bool, true, false, ◌&&◌, cond, if◌then◌else◌, eqb, List, [], ◌∷◌, ◌++◌, length, Option, None, Some, option_map, bytes_eq, Ok, nat_le, inl, inr, ⊎_elim, ◌⊎◌, eq-eqb, refl, sym, ap, subst}
 use Rattle.std.specs.List.{list_all}
 use Rattle.std.proofs.lemmas.Bool.{and_from, and_parts, or_left, or_right}
 use Rattle.std.proofs.lemmas.List.Folds.{list_all-append}
+use Rattle.ak_base.specs.declared.limited.Limited.{Limited}
+use Rattle.ak_base.specs.declared.limited.Limited.TheVariants.{Within, Over}
+use Rattle.ak_base.specs.Limited.{limited_map}
 use Rattle.ak_base.specs.declared.code.Code.{Code}
 use Rattle.ak_base.specs.Word.{is_word}
 use Rattle.ak_flatten.specs.Spelling.{spelling}
@@ -27,17 +30,17 @@ use Rattle.ak_action.specs.declared.template.TemplateField.{TemplateField}
 use Rattle.ak_action.specs.Number.{number_kind, number_of}
 use Rattle.ak_action.specs.Plan.{fits_action, fits_given, fits_reaction, fits_template, is_asked, is_named, is_one, is_property, is_property_of, may_be_property}
 use Rattle.ak_action.specs.Template.{add_fault}
-use Rattle.ak_action.specs.Values.{ValuesData, depth_fault, one_value}
+use Rattle.ak_action.specs.Values.{ValuesData, one_value}
 use Rattle.ak_describe.specs.declared.parts.PropertyParts.{PropertyParts}
 use Rattle.ak_describe.specs.Actions.{Built, add_form, ask_action, ask_form, copied_from, copied_or, dest_at, field_added, field_behind, field_kept, fields_behind, given_from, given_values, into_at_end, into_behind, into_found, may_be_asked, named_too, nothing_built, post_action, post_form, property_name, reply_form, set_action, set_form, set_given, short_template, template_form, two_words, with_field, back_behind, has_name, written}
 use Rattle.ak_describe.specs.Described.{table_of}
-use Rattle.ak_describe.specs.Made.{is_short, number_from, number_of_kind, one_from, one_kept, value_from, values_from}
+use Rattle.ak_describe.specs.Made.{is_short, limited_then, number_from, number_in, number_of_kind, one_from, one_kept, value_from, values_from}
 use Rattle.ak_describe.specs.Parts.{property_named}
 use Rattle.ak_describe.specs.declared.keyword.Keyword.{Keyword}
 use Rattle.ak_describe.specs.declared.keyword.Keyword.TheVariants as key
 use Rattle.ak_describe.specs.Pass.{action_from, added_form, bare, or_bad}
 use Rattle.ak_describe.specs.Words.{code_at, ends, name_of}
-use Rattle.ak_describe.proofs.ground.Outcomes.{bound, mapped, not_bad, same_ok, same_some, where_is}
+use Rattle.ak_describe.proofs.ground.Outcomes.{bound, bound_within, mapped, mapped_within, not_bad, same_ok, same_some, same_within, where_is, within_is}
 
 -- ---- a handler of which nothing but its properties counts
 abbrev pub with_properties : List PropertyParts → PlanRow
@@ -144,77 +147,77 @@ module _ (ps : List PropertyParts) where
   copied_fits [] g e = absurd cc
   copied_fits (sign ∷ name) g e = copied_cases (eqb sign 36) (eqb sign 64) name g e
 
-  values_fit : (values : Option (Option ValuesData)) (g : Given) → option_map given_values values ≡ Some (Some g) → (v : ValuesData) × (values ≡ Some (Some v)) × (gets.Values v ≡ g)
+  values_fit : (values : Option (Limited ValuesData)) (g : Given) → option_map given_values values ≡ Some (Within g) → (v : ValuesData) × (values ≡ Some (Within v)) × (gets.Values v ≡ g)
   values_fit values g e =
-      let t = mapped values given_values (Some g) e in
-      let u = mapped t.value gets.Values g t.then_is in
-      (u.value, t.is ∙ ap (λ (x : Option ValuesData). Some x) u.is, u.then_is)
+      let t = mapped values given_values (Within g) e in
+      let u = mapped_within t.value gets.Values g t.then_is in
+      (u.value, t.is ∙ ap (λ (x : Limited ValuesData). Some x) u.is, u.then_is)
 
-  given_by : (text : List ℕ) (copied : Option Given) (g : Given) (values : Option (Option ValuesData)) → copied_from ps text ≡ Some copied → copied_or copied values ≡ Some (Some g)
-      → (Fitting g × (is_one g ≡ true)) ⊎ ((v : ValuesData) × (values ≡ Some (Some v)) × (gets.Values v ≡ g))
+  given_by : (text : List ℕ) (copied : Option Given) (g : Given) (values : Option (Limited ValuesData)) → copied_from ps text ≡ Some copied → copied_or copied values ≡ Some (Within g)
+      → (Fitting g × (is_one g ≡ true)) ⊎ ((v : ValuesData) × (values ≡ Some (Within v)) × (gets.Values v ≡ g))
   given_by text (Some c) g values is e =
-      let same : c ≡ g = twice_some c g e in
+      let same : c ≡ g = same_within c g (same_some (Within c) (Within g) e) in
       inl (copied_fits text g (is ∙ ap (λ (x : Given). Some (Some x)) same))
   given_by text None g values is e = inr (values_fit values g e)
 
-  given_fits : (text : List ℕ) (g : Given) → given_from ps text ≡ Some (Some g) → Fitting g
+  given_fits : (text : List ℕ) (g : Given) → given_from ps text ≡ Some (Within g) → Fitting g
   unfolding given_from
   given_fits text g e =
-      let t = bound (copied_from ps text) (λ copied. copied_or copied (values_from text)) (Some g) e in
+      let t = bound (copied_from ps text) (λ copied. copied_or copied (values_from text)) (Within g) e in
       ⊎_elim
       (λ (h : Fitting g × (is_one g ≡ true)). h.0)
-      (λ (h : (v : ValuesData) × (values_from text ≡ Some (Some v)) × (gets.Values v ≡ g)). subst (λ (x : Given). Fitting x) h.2 refl)
+      (λ (h : (v : ValuesData) × (values_from text ≡ Some (Within v)) × (gets.Values v ≡ g)). subst (λ (x : Given). Fitting x) h.2 refl)
       (given_by text t.value g (values_from text) t.is t.then_is)
 
-  one_is : (word : List ℕ) (vs : ValuesData) → one_from word ≡ Some (Some vs) → eqb (length vs.list) 1 ≡ true
+  one_is : (word : List ℕ) (vs : ValuesData) → one_from word ≡ Some (Within vs) → eqb (length vs.list) 1 ≡ true
   unfolding one_from
   one_is word vs e =
-      let t = mapped (value_from word) (λ (v : Option ValueData). v >>= one_kept) (Some vs) e in
-      let u = bound t.value one_kept vs t.then_is in
-      let w = where_is (is_short u.value) (one_value u.value) vs u.then_is in
+      let t = mapped (value_from word) (limited_then one_kept) (Within vs) e in
+      let u = bound_within t.value one_kept vs t.then_is in
+      let w = within_is (is_short u.value) (one_value u.value) vs u.then_is in
       subst (λ (x : ValuesData). eqb (length x.list) 1 ≡ true) w.1 refl
 
-  set_fits : (word : List ℕ) (g : Given) → set_given ps word ≡ Some (Some g) → Fitting g × (is_one g ≡ true)
+  set_fits : (word : List ℕ) (g : Given) → set_given ps word ≡ Some (Within g) → Fitting g × (is_one g ≡ true)
   unfolding set_given
   set_fits word g e =
-      let t = bound (copied_from ps word) (λ copied. copied_or copied (one_from word)) (Some g) e in
+      let t = bound (copied_from ps word) (λ copied. copied_or copied (one_from word)) (Within g) e in
       ⊎_elim
       (λ (h : Fitting g × (is_one g ≡ true)). h)
-      (λ (h : (v : ValuesData) × (one_from word ≡ Some (Some v)) × (gets.Values v ≡ g)). subst (λ (x : Given). Fitting x × (is_one x ≡ true)) h.2 (refl, one_is word h.0 h.1))
+      (λ (h : (v : ValuesData) × (one_from word ≡ Some (Within v)) × (gets.Values v ≡ g)). subst (λ (x : Given). Fitting x × (is_one x ≡ true)) h.2 (refl, one_is word h.0 h.1))
       (given_by word t.value g (one_from word) t.is t.then_is)
 
   -- ---- the message of an action
   abbrev Filled : List TemplateField → Type 0
   Filled fields = list_all (λ f. fits_given (with_properties ps) f.given) fields ≡ true
 
-  abbrev FilledIf : Option (List TemplateField) → Type 0
-  FilledIf fields = (fs : List TemplateField) → fields ≡ Some fs → Filled fs
+  abbrev FilledIf : Limited (List TemplateField) → Type 0
+  FilledIf fields = (fs : List TemplateField) → fields ≡ Within fs → Filled fs
 
-  filled_kept : (f : Option TemplateFault) (fields : List TemplateField) (out : Option (List TemplateField)) → field_kept f fields ≡ Some out → Filled fields → FilledIf out
-  filled_kept None fields out e filled fs is = let same : Some fields ≡ out = same_some (Some fields) out e in subst (λ (x : List TemplateField). Filled x) (same_some fields fs (same ∙ is)) filled
+  filled_kept : (f : Option TemplateFault) (fields : List TemplateField) (out : Limited (List TemplateField)) → field_kept f fields ≡ Some out → Filled fields → FilledIf out
+  filled_kept None fields out e filled fs is = let same : Within fields ≡ out = same_some (Within fields) out e in subst (λ (x : List TemplateField). Filled x) (same_within fields fs (same ∙ is)) filled
   filled_kept (Some fault.FieldLimit) fields out e filled fs is = absurd (cc (e, is))
   filled_kept (Some fault.BadName) fields out e filled fs is = absurd cc
   filled_kept (Some fault.NameInUse) fields out e filled fs is = absurd cc
   filled_kept (Some fault.NoMemory) fields out e filled fs is = absurd cc
 
-  filled_with : (fields : Option (List TemplateField)) (name : List ℕ) (g : Option Given) (out : Option (List TemplateField)) → with_field fields name g ≡ Some out → FilledIf fields → ((x : Given) → g ≡ Some x → Fitting x) → FilledIf out
-  filled_with None name g out e filled given fs is = absurd (cc (e, is))
-  filled_with (Some fields) name None out e filled given fs is = absurd (cc (e, is))
-  filled_with (Some fields) name (Some g) out e filled given fs is =
+  filled_with : (fields : Limited (List TemplateField)) (name : List ℕ) (g : Limited Given) (out : Limited (List TemplateField)) → with_field fields name g ≡ Some out → FilledIf fields → ((x : Given) → g ≡ Within x → Fitting x) → FilledIf out
+  filled_with Over name g out e filled given fs is = absurd (cc (e, is))
+  filled_with (Within fields) name Over out e filled given fs is = absurd (cc (e, is))
+  filled_with (Within fields) name (Within g) out e filled given fs is =
       filled_kept (add_fault fields name) (fields ++ (record { name = name; given = g }) ∷ []) out e
       (list_all-append (λ (f : TemplateField). fits_given (with_properties ps) f.given) fields ((record { name = name; given = g }) ∷ [])
       ∙ and_from (list_all (λ (f : TemplateField). fits_given (with_properties ps) f.given) fields) (fits_given (with_properties ps) g && true) (filled fields refl) (and_from (fits_given (with_properties ps) g) true (given g refl) refl))
       fs is
 
-  filled_too : (b : Built) (name : List ℕ) (g : Option Given) (out : Built) → named_too b name g ≡ Some out → FilledIf b.fields → ((x : Given) → g ≡ Some x → Fitting x) → FilledIf out.fields
+  filled_too : (b : Built) (name : List ℕ) (g : Limited Given) (out : Built) → named_too b name g ≡ Some out → FilledIf b.fields → ((x : Given) → g ≡ Within x → Fitting x) → FilledIf out.fields
   filled_too b name g out e filled given =
       let t = bound (name_of name) (λ n. with_field b.fields n g >>= λ fields. Some (record { names = b.names ++ name ∷ []; fields = fields })) out e in
-      let u = bound (with_field b.fields t.value g) (λ (fields : Option (List TemplateField)). Some (record { names = b.names ++ name ∷ []; fields = fields })) out t.then_is in
+      let u = bound (with_field b.fields t.value g) (λ (fields : Limited (List TemplateField)). Some (record { names = b.names ++ name ∷ []; fields = fields })) out t.then_is in
       let same : record { names = b.names ++ name ∷ []; fields = u.value } ≡ out = same_some (record { names = b.names ++ name ∷ []; fields = u.value }) out u.then_is in
       subst (λ (x : Built). FilledIf x.fields) same (filled_with b.fields t.value g u.value u.is filled given)
 
-  filled_cases : (has : Bool) (b : Built) (name : List ℕ) (g : Option Given) (out : Built) → (if has then None else named_too b name g) ≡ Some out
-      → FilledIf b.fields → ((x : Given) → g ≡ Some x → Fitting x) → FilledIf out.fields
+  filled_cases : (has : Bool) (b : Built) (name : List ℕ) (g : Limited Given) (out : Built) → (if has then None else named_too b name g) ≡ Some out
+      → FilledIf b.fields → ((x : Given) → g ≡ Within x → Fitting x) → FilledIf out.fields
   filled_cases true b name g out e filled given = absurd cc
   filled_cases false b name g out e filled given = filled_too b name g out e filled given
 
@@ -224,7 +227,7 @@ module _ (ps : List PropertyParts) where
       let t = bound (field_split word) (λ field. given_from ps field.1 >>= λ g. field_added b field.0 g) out e in
       let u = bound (given_from ps t.value.1) (λ g. field_added b t.value.0 g) out t.then_is in
       filled_cases (has_name b.names t.value.0) b t.value.0 u.value out u.then_is filled
-      (λ x is. given_fits t.value.1 x (u.is ∙ ap (λ (g : Option Given). Some g) is))
+      (λ x is. given_fits t.value.1 x (u.is ∙ ap (λ (g : Limited Given). Some g) is))
 
   all_filled : (b : Built) (words : List (List ℕ)) (out : Built) → fields_behind ps b words ≡ Some out → FilledIf b.fields → FilledIf out.fields
   unfolding fields_behind
@@ -233,37 +236,37 @@ module _ (ps : List PropertyParts) where
       let t = bound (field_behind ps b word) (λ more. fields_behind ps more words) out e in
       all_filled t.value words out t.then_is (filled_behind b word t.value t.is filled)
 
-  short_fits : (what : Code) (fields : List TemplateField) (m : Template) → short_template what fields ≡ Some m → Filled fields → fits_template (with_properties ps) m ≡ true
+  short_fits : (what : Code) (fields : List TemplateField) (m : Template) → short_template what fields ≡ Within m → Filled fields → fits_template (with_properties ps) m ≡ true
   short_fits what fields m e filled =
-      let w = where_is (nat_le (length (spelling (written what fields))) 4096) (record { what = what; fields = fields }) m e in
+      let w = within_is (nat_le (length (spelling (written what fields))) 4096) (record { what = what; fields = fields }) m e in
       subst (λ (x : Template). fits_template (with_properties ps) x ≡ true) w.1 filled
 
-  template_fits : (words : List (List ℕ)) (m : Template) → template_form ps words ≡ Some (Some m) → fits_template (with_properties ps) m ≡ true
+  template_fits : (words : List (List ℕ)) (m : Template) → template_form ps words ≡ Some (Within m) → fits_template (with_properties ps) m ≡ true
   unfolding template_form
   template_fits words m e =
-      let t = bound (code_at words) (λ what. fields_behind ps nothing_built what.1 >>= λ b. Some (b.fields >>= short_template what.0)) (Some m) e in
-      let u = bound (fields_behind ps nothing_built t.value.1) (λ (b : Built). Some (b.fields >>= short_template t.value.0)) (Some m) t.then_is in
-      let v = bound u.value.fields (short_template t.value.0) m (same_some (u.value.fields >>= short_template t.value.0) (Some m) u.then_is) in
-      short_fits t.value.0 v.value m v.then_is (all_filled nothing_built t.value.1 u.value u.is (λ fs is. subst (λ (x : List TemplateField). Filled x) (same_some [] fs is) refl) v.value v.is)
+      let t = bound (code_at words) (λ what. fields_behind ps nothing_built what.1 >>= λ b. Some (limited_then (short_template what.0) b.fields)) (Within m) e in
+      let u = bound (fields_behind ps nothing_built t.value.1) (λ (b : Built). Some (limited_then (short_template t.value.0) b.fields)) (Within m) t.then_is in
+      let v = bound_within u.value.fields (short_template t.value.0) m (same_some (limited_then (short_template t.value.0) u.value.fields) (Within m) u.then_is) in
+      short_fits t.value.0 v.value m v.then_is (all_filled nothing_built t.value.1 u.value u.is (λ fs is. subst (λ (x : List TemplateField). Filled x) (same_within [] fs is) refl) v.value v.is)
 
   -- ---- the forms of actions
   abbrev Acting : Action → Type 0
   Acting a = fits_action (with_properties ps) a ≡ true
 
-  reply_fits : (words : List (List ℕ)) (a : Action) → reply_form ps words ≡ Some (Some a) → Acting a
+  reply_fits : (words : List (List ℕ)) (a : Action) → reply_form ps words ≡ Some (Within a) → Acting a
   unfolding reply_form
   reply_fits words a e =
-      let t = mapped (template_form ps words) (λ (m : Option Template). option_map action.Reply m) (Some a) e in
-      let u = mapped t.value action.Reply a t.then_is in
-      subst (λ (x : Action). Acting x) u.then_is (template_fits words u.value (t.is ∙ ap (λ (m : Option Template). Some m) u.is))
+      let t = mapped (template_form ps words) (λ (m : Limited Template). limited_map action.Reply m) (Within a) e in
+      let u = mapped_within t.value action.Reply a t.then_is in
+      subst (λ (x : Action). Acting x) u.then_is (template_fits words u.value (t.is ∙ ap (λ (m : Limited Template). Some m) u.is))
 
-  post_fits : (words : List (List ℕ)) (a : Action) → post_form ps words ≡ Some (Some a) → Acting a
+  post_fits : (words : List (List ℕ)) (a : Action) → post_form ps words ≡ Some (Within a) → Acting a
   unfolding post_form
   post_fits words a e =
-      let t = bound (dest_at words) (λ to. template_form ps (back_behind to.1).1 >>= λ m. Some (post_action to.0 (back_behind to.1).0 m)) (Some a) e in
-      let u = bound (template_form ps (back_behind t.value.1).1) (λ m. Some (post_action t.value.0 (back_behind t.value.1).0 m)) (Some a) t.then_is in
-      let v = mapped u.value (λ (m : Template). action.Post t.value.0 m (back_behind t.value.1).0) a (same_some (post_action t.value.0 (back_behind t.value.1).0 u.value) (Some a) u.then_is) in
-      subst (λ (x : Action). Acting x) v.then_is (template_fits (back_behind t.value.1).1 v.value (u.is ∙ ap (λ (m : Option Template). Some m) v.is))
+      let t = bound (dest_at words) (λ to. template_form ps (back_behind to.1).1 >>= λ m. Some (post_action to.0 (back_behind to.1).0 m)) (Within a) e in
+      let u = bound (template_form ps (back_behind t.value.1).1) (λ m. Some (post_action t.value.0 (back_behind t.value.1).0 m)) (Within a) t.then_is in
+      let v = mapped_within u.value (λ (m : Template). action.Post t.value.0 m (back_behind t.value.1).0) a (same_some (post_action t.value.0 (back_behind t.value.1).0 u.value) (Within a) u.then_is) in
+      subst (λ (x : Action). Acting x) v.then_is (template_fits (back_behind t.value.1).1 v.value (u.is ∙ ap (λ (m : Limited Template). Some m) v.is))
 
   asked_is : (to : Dest) → may_be_asked to ≡ true → is_asked to ≡ true
   asked_is dest.Own e = e
@@ -280,38 +283,42 @@ module _ (ps : List PropertyParts) where
       let same : (Some t.value, last.1) ≡ into = same_some (Some t.value, last.1) into t.then_is in
       subst (λ (x : Option (List ℕ) × List (List ℕ)). may_be_property (with_properties ps) x.0 ≡ true) same (name_found last.0 t.value t.is)
 
-  ask_fits : (words : List (List ℕ)) (a : Action) → ask_form ps words ≡ Some (Some a) → Acting a
+  ask_fits : (words : List (List ℕ)) (a : Action) → ask_form ps words ≡ Some (Within a) → Acting a
   unfolding ask_form
   ask_fits words a e =
-      let t = bound (dest_at words) (λ to. where_true (may_be_asked to.0) to.1 >>= λ asked. into_behind ps asked >>= λ into. template_form ps into.1 >>= λ m. Some (ask_action to.0 into.0 m)) (Some a) e in
-      let u = bound (where_true (may_be_asked t.value.0) t.value.1) (λ asked. into_behind ps asked >>= λ into. template_form ps into.1 >>= λ m. Some (ask_action t.value.0 into.0 m)) (Some a) t.then_is in
-      let v = bound (into_behind ps u.value) (λ into. template_form ps into.1 >>= λ m. Some (ask_action t.value.0 into.0 m)) (Some a) u.then_is in
-      let w = bound (template_form ps v.value.1) (λ m. Some (ask_action t.value.0 v.value.0 m)) (Some a) v.then_is in
-      let x = mapped w.value (λ (m : Template). action.Ask t.value.0 m v.value.0) a (same_some (ask_action t.value.0 v.value.0 w.value) (Some a) w.then_is) in
+      let t = bound (dest_at words) (λ to. where_true (may_be_asked to.0) to.1 >>= λ asked. into_behind ps asked >>= λ into. template_form ps into.1 >>= λ m. Some (ask_action to.0 into.0 m)) (Within a) e in
+      let u = bound (where_true (may_be_asked t.value.0) t.value.1) (λ asked. into_behind ps asked >>= λ into. template_form ps into.1 >>= λ m. Some (ask_action t.value.0 into.0 m)) (Within a) t.then_is in
+      let v = bound (into_behind ps u.value) (λ into. template_form ps into.1 >>= λ m. Some (ask_action t.value.0 into.0 m)) (Within a) u.then_is in
+      let w = bound (template_form ps v.value.1) (λ m. Some (ask_action t.value.0 v.value.0 m)) (Within a) v.then_is in
+      let x = mapped_within w.value (λ (m : Template). action.Ask t.value.0 m v.value.0) a (same_some (ask_action t.value.0 v.value.0 w.value) (Within a) w.then_is) in
       let asked = where_is (may_be_asked t.value.0) t.value.1 u.value u.is in
       subst (λ (y : Action). Acting y) x.then_is
       (and_from (is_asked t.value.0) (may_be_property (with_properties ps) v.value.0 && fits_template (with_properties ps) x.value) (asked_is t.value.0 asked.0)
       (and_from (may_be_property (with_properties ps) v.value.0) (fits_template (with_properties ps) x.value) (into_fits u.value (into_at_end u.value) v.value v.is)
-      (template_fits v.value.1 x.value (w.is ∙ ap (λ (m : Option Template). Some m) x.is))))
+      (template_fits v.value.1 x.value (w.is ∙ ap (λ (m : Limited Template). Some m) x.is))))
 
-  setting_fits : (words : List (List ℕ)) (a : Action) → set_form ps words ≡ Some (Some a) → Acting a
+  setting_fits : (words : List (List ℕ)) (a : Action) → set_form ps words ≡ Some (Within a) → Acting a
   unfolding set_form
   setting_fits words a e =
-      let t = bound (two_words words) (λ two. property_name ps two.0 >>= λ property. set_given ps two.1 >>= λ g. Some (set_action property g)) (Some a) e in
-      let u = bound (property_name ps t.value.0) (λ property. set_given ps t.value.1 >>= λ g. Some (set_action property g)) (Some a) t.then_is in
-      let v = bound (set_given ps t.value.1) (λ g. Some (set_action u.value g)) (Some a) u.then_is in
-      let w = mapped v.value (λ (value : Given). action.Set u.value value) a (same_some (set_action u.value v.value) (Some a) v.then_is) in
-      let g = set_fits t.value.1 w.value (v.is ∙ ap (λ (m : Option Given). Some m) w.is) in
+      let t = bound (two_words words) (λ two. property_name ps two.0 >>= λ property. set_given ps two.1 >>= λ g. Some (set_action property g)) (Within a) e in
+      let u = bound (property_name ps t.value.0) (λ property. set_given ps t.value.1 >>= λ g. Some (set_action property g)) (Within a) t.then_is in
+      let v = bound (set_given ps t.value.1) (λ g. Some (set_action u.value g)) (Within a) u.then_is in
+      let w = mapped_within v.value (λ (value : Given). action.Set u.value value) a (same_some (set_action u.value v.value) (Within a) v.then_is) in
+      let g = set_fits t.value.1 w.value (v.is ∙ ap (λ (m : Limited Given). Some m) w.is) in
       subst (λ (y : Action). Acting y) w.then_is
       (and_from (is_named (table_of ps) u.value) (is_one w.value && fits_given (with_properties ps) w.value) (name_found t.value.0 u.value u.is)
       (and_from (is_one w.value) (fits_given (with_properties ps) w.value) g.1 g.0))
 
+  number_kept : (kind : Kind) (v : Limited ValueData) (n : Number) → number_in kind v ≡ Some n → (x : ValueData) × (number_of_kind kind x ≡ Some n)
+  number_kept kind Over n e = absurd cc
+  number_kept kind (Within x) n e = (x, e)
+
   number_is : (kind : Kind) (word : List ℕ) (n : Number) → number_from kind word ≡ Some n → number_kind n ≡ kind
   unfolding number_from
   number_is kind word n e =
-      let t = bound (value_from word) (λ v. v >>= number_of_kind kind) n e in
-      let u = bound t.value (number_of_kind kind) n t.then_is in
-      let v = bound (number_of u.value) (λ (m : Number). where_true (is_same_kind (number_kind m) kind) m) n u.then_is in
+      let t = bound (value_from word) (number_in kind) n e in
+      let u = number_kept kind t.value n t.then_is in
+      let v = bound (number_of u.0) (λ (m : Number). where_true (is_same_kind (number_kind m) kind) m) n u.1 in
       let w = where_is (is_same_kind (number_kind v.value) kind) v.value n v.then_is in
       subst (λ (m : Number). number_kind m ≡ kind) w.1 (same_kind-is (number_kind v.value) kind w.0)
 
@@ -328,28 +335,28 @@ module _ (ps : List PropertyParts) where
       (subst (λ (x : List ℕ × Kind). is_property_of (with_properties ps) x.0 x.1 ≡ true) (λ i. (name.1 i, sym (number_is u.value.row.kind t.value.1 v.value v.is) i))
       (found ps t.value.0 u.value u.is).1)
 
-  bare_fits : (b : Action) (words : List (List ℕ)) (a : Action) → Acting b → bare b words ≡ Some (Some a) → Acting a
+  bare_fits : (b : Action) (words : List (List ℕ)) (a : Action) → Acting b → bare b words ≡ Some (Within a) → Acting a
   bare_fits b words a fits e = bare_by (ends words) e
     where
-      bare_by : (t : Bool) → (if t then Some (Some b) else None) ≡ Some (Some a) → Acting a
-      bare_by true h = subst (λ (y : Action). Acting y) (twice_some b a h) fits
+      bare_by : (t : Bool) → (if t then Some (Within b) else None) ≡ Some (Within a) → Acting a
+      bare_by true h = subst (λ (y : Action). Acting y) (same_within b a (same_some (Within b) (Within a) h)) fits
       bare_by false h = absurd cc
 
-  added_fits : (words : List (List ℕ)) (a : Action) → added_form ps words ≡ Some (Some a) → Acting a
+  added_fits : (words : List (List ℕ)) (a : Action) → added_form ps words ≡ Some (Within a) → Acting a
   added_fits words a e =
-      let t = bound (add_form ps words) (λ (x : Action). Some (Some x)) (Some a) e in
-      adding_fits words a (t.is ∙ ap (λ (x : Action). Some x) (twice_some t.value a t.then_is))
+      let t = bound (add_form ps words) (λ (x : Action). Some (Within x)) (Within a) e in
+      adding_fits words a (t.is ∙ ap (λ (x : Action). Some x) (same_within t.value a (same_some (Within t.value) (Within a) t.then_is)))
 
   -- what is read of an action
-  abbrev Read : Option (Option Action) → Option Action → Type 0
+  abbrev Read : Option (Limited Action) → Limited Action → Type 0
   Read form o = or_bad form (λ a. Ok a) ≡ Ok o
 
-  by_form : (form : Option (Option Action)) (a : Action) → ((x : Action) → form ≡ Some (Some x) → Acting x) → Read form (Some a) → Acting a
+  by_form : (form : Option (Limited Action)) (a : Action) → ((x : Action) → form ≡ Some (Within x) → Acting x) → Read form (Within a) → Acting a
   by_form form a fits e =
-      let t = not_bad form (λ (x : Option Action). Ok x) (Some a) e in
-      fits a (t.is ∙ ap (λ (x : Option Action). Some x) (same_ok t.value (Some a) t.then_is))
+      let t = not_bad form (λ (x : Limited Action). Ok x) (Within a) e in
+      fits a (t.is ∙ ap (λ (x : Limited Action). Some x) (same_ok t.value (Within a) t.then_is))
 
-  pub action_fits : (k : Keyword) (words : List (List ℕ)) (a : Action) → action_from ps k words ≡ Ok (Some a) → Acting a
+  pub action_fits : (k : Keyword) (words : List (List ℕ)) (a : Action) → action_from ps k words ≡ Ok (Within a) → Acting a
   action_fits key.Reply words a e = by_form (reply_form ps words) a (reply_fits words) e
   action_fits key.Post words a e = by_form (post_form ps words) a (post_fits words) e
   action_fits key.Ask words a e = by_form (ask_form ps words) a (ask_fits words) e

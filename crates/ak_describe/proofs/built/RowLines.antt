@@ -5,6 +5,7 @@ use Rattle.std.specs.Cmp.Lexicographic.{nat_list_eq_equiv}
 use Rattle.std.proofs.lemmas.Bool.{and_from, and_parts, or_left, or_right, or_parts, or_from}
 use Rattle.std.proofs.lemmas.List.{length_push, length-set}
 use Rattle.std.proofs.lemmas.List.Folds.{list_all-append}
+use Rattle.ak_base.specs.declared.limited.Limited.{Limited}
 use Rattle.ak_base.specs.declared.code.Code.{Code}
 use Rattle.ak_base.specs.declared.ending.RefusalKind.TheVariants as refusal
 use Rattle.ak_filter.specs.declared.filter.Filter.{Filter}
@@ -231,7 +232,7 @@ with_element p x = (record p { elements = with_last p.elements x.0 x.1 }, None)
 
 element_same : (p : PropertyParts) (words : List (List ℕ)) (y : PropertyParts × Option Need) → element_in p words ≡ Ok y → PropertySame p y.0 × (y.1 ≡ None)
 element_same p words y e =
-    let t = not_bad (element_form p.row.kind words) (λ (read : Option (List ℕ × ValueData)). or_limit read (element_added p)) y e in
+    let t = not_bad (element_form p.row.kind words) (λ (read : Limited (List ℕ × ValueData)). or_limit read (element_added p)) y e in
     let u = not_over t.value (element_added p) y t.then_is in
     let same : with_element p u.value ≡ y = kept_is (add_fault p.elements (message.kind_of u.value.1)) (with_element p u.value) y u.then_is in
     subst (λ (z : PropertyParts × Option Need). PropertySame p z.0 × (z.1 ≡ None)) same ((refl, refl), refl)
@@ -332,7 +333,7 @@ with_reactions r x = (record r { reactions = x.0 }, x.1)
 
 action_line_left : (r : RowData) (keyword : Keyword) (words : List (List ℕ)) (y : RowData × Option Need) → action_line r keyword words ≡ Ok y → RowLeft r y.0 y.1
 action_line_left r keyword words y e =
-    let t = went (action_from r.properties keyword words) (λ (read : Option Action). or_limit read (action_added r)) y e in
+    let t = went (action_from r.properties keyword words) (λ (read : Limited Action). or_limit read (action_added r)) y e in
     let u = not_over t.value (action_added r) y t.then_is in
     let a : Action = u.value in
     let v = went (on_last (with_action a) r.reactions) (λ (x : List Reaction × Option Need). Ok (with_reactions r x)) y u.then_is in
@@ -344,7 +345,7 @@ action_line_left r keyword words y e =
     left_is r (with_reactions r v.value) y (same_ok (with_reactions r v.value) y v.then_is)
     (record {
       fits = λ f.
-          let acts : fits_action (with_properties r.properties) a ≡ true = action_fits r.properties keyword words a (t.is ∙ ap (λ (z : Option Action). Ok z) u.is) in
+          let acts : fits_action (with_properties r.properties) a ≡ true = action_fits r.properties keyword words a (t.is ∙ ap (λ (z : Limited Action). Ok z) u.is) in
           let before : list_all (fits_action (with_properties r.properties)) w.old.actions ≡ true = all_at (fits_reaction (with_properties r.properties)) r.reactions (length r.reactions - 1) w.old w.last f.actions_fit in
           let more : list_all (fits_action (with_properties r.properties)) (w.old.actions ++ a ∷ []) ≡ true =
           list_all-append (fits_action (with_properties r.properties)) w.old.actions (a ∷ [])

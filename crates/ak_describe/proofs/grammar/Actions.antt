@@ -7,6 +7,9 @@ use Rattle.std.proofs.lemmas.Slice.Eq.{bytes_eq-Decides}
 use Rattle.ak_base.specs.declared.app_word.AppWord.TheVariants as app
 use Rattle.ak_base.specs.Word.{is_word}
 use Rattle.ak_base.specs.Option.{where_true, ◌>>=◌}
+use Rattle.ak_base.specs.declared.limited.Limited.{Limited}
+use Rattle.ak_base.specs.declared.limited.Limited.TheVariants.{Within, Over}
+use Rattle.ak_base.specs.Limited.{limited_map}
 use Rattle.ak_message.specs.Reading.{code_from, field_split}
 use Rattle.ak_base.proofs.Surface.{bind_some, cond_some}
 use Rattle.ak_action.specs.declared.action.Action.{Action}
@@ -61,7 +64,7 @@ no_back = (refl, refl)
 abbrev with_back : Bool → List (List ℕ) → Bool × List (List ℕ)
 with_back back words = (back, words)
 
-back_again : (properties : List PropertyParts) (message part : List (List ℕ)) (t : Option Template) (back : Bool) → template_form properties message ≡ Some t → IsBack back part
+back_again : (properties : List PropertyParts) (message part : List (List ℕ)) (t : Limited Template) (back : Bool) → template_form properties message ≡ Some t → IsBack back part
     → back_behind (message ++ part) ≡ with_back back message
 back_again properties message part t true read is =
     ap (λ (p : List (List ℕ)). back_behind (message ++ p)) is ∙ ap (back_at (message ++ codes "back" ∷ [])) (last_again message (codes "back"))
@@ -94,25 +97,25 @@ back_takes words = by_last (last_of words) refl where
   by_last (Some last) e = by_word last e (bytes_eq last.0 (codes "back")) refl
 
 -- ---- `post`
-abbrev post_read : List PropertyParts → Option (Dest × List (List ℕ)) → Option (Option Action)
+abbrev post_read : List PropertyParts → Option (Dest × List (List ℕ)) → Option (Limited Action)
 post_read properties o = o >>= λ to. template_form properties (back_behind to.1).1 >>= λ t. Some (post_action to.0 (back_behind to.1).0 t)
 
 post-is : (properties : List PropertyParts) (words : List (List ℕ)) → post_form properties words ≡ post_read properties (dest_at words)
 unfolding post_form
 post-is properties words = refl
 
-abbrev post_with : List PropertyParts → Dest → Bool × List (List ℕ) → Option (Option Action)
+abbrev post_with : List PropertyParts → Dest → Bool × List (List ℕ) → Option (Limited Action)
 post_with properties to read = template_form properties read.1 >>= λ t. Some (post_action to read.0 t)
 
-post_again : (properties : List PropertyParts) (words : List (List ℕ)) (a : Option Action) → SaysPost properties words a → post_form properties words ≡ Some a
+post_again : (properties : List PropertyParts) (words : List (List ℕ)) (a : Limited Action) → SaysPost properties words a → post_form properties words ≡ Some a
 post_again properties words a h =
     let read = (message_is_read properties h.message_part h.message).0 h.message_is in
     let at = (dest_is_read words h.to (h.message_part ++ h.back_part)).1 (h.to_part, h.all, h.to_is) in
     let back = back_again properties h.message_part h.back_part h.message h.back read h.back_is in
     post-is properties words ∙ ap (post_read properties) at ∙ ap (post_with properties h.to) back
-    ∙ ap (λ (o : Option (Option Template)). o >>= λ t. Some (post_action h.to h.back t)) read ∙ ap (λ (x : Option Action). Some x) (sym h.kept)
+    ∙ ap (λ (o : Option (Limited Template)). o >>= λ t. Some (post_action h.to h.back t)) read ∙ ap (λ (x : Limited Action). Some x) (sym h.kept)
 
-post_made : (properties : List PropertyParts) (words : List (List ℕ)) (a : Option Action) (to : Dest) (rest : List (List ℕ)) (t : Option Template) → dest_at words ≡ Some (to, rest)
+post_made : (properties : List PropertyParts) (words : List (List ℕ)) (a : Limited Action) (to : Dest) (rest : List (List ℕ)) (t : Limited Template) → dest_at words ≡ Some (to, rest)
     → template_form properties (back_behind rest).1 ≡ Some t → Some (post_action to (back_behind rest).0 t) ≡ Some a → SaysPost properties words a
 post_made properties words a to rest t at read made =
     let d = (dest_is_read words to rest).0 at in
@@ -131,13 +134,13 @@ post_made properties words a to rest t at read made =
       kept = sym (same_Some (post_action to (back_behind rest).0 t) a made);
     }
 
-post_takes : (properties : List PropertyParts) (words : List (List ℕ)) (a : Option Action) → post_form properties words ≡ Some a → SaysPost properties words a
+post_takes : (properties : List PropertyParts) (words : List (List ℕ)) (a : Limited Action) → post_form properties words ≡ Some a → SaysPost properties words a
 post_takes properties words a e =
     let s = bind_some (dest_at words) (λ to. post_with properties to.0 (back_behind to.1)) a (sym (post-is properties words) ∙ e) in
     let r = bind_some (template_form properties (back_behind s.0.1).1) (λ t. Some (post_action s.0.0 (back_behind s.0.1).0 t)) a s.2 in
     post_made properties words a s.0.0 s.0.1 r.0 s.1 r.1 r.2
 
-pub post_is_read : (properties : List PropertyParts) (words : List (List ℕ)) (a : Option Action) → SaysPost properties words a ↔ (post_form properties words ≡ Some a)
+pub post_is_read : (properties : List PropertyParts) (words : List (List ℕ)) (a : Limited Action) → SaysPost properties words a ↔ (post_form properties words ≡ Some a)
 post_is_read properties words a = (post_again properties words a, post_takes properties words a)
 
 -- ---- `into NAME`
@@ -171,7 +174,7 @@ end_takes words last e =
 abbrev with_into : Option (List ℕ) → List (List ℕ) → Option (Option (List ℕ) × List (List ℕ))
 with_into into words = Some (into, words)
 
-into_again : (properties : List PropertyParts) (message part : List (List ℕ)) (t : Option Template) (into : Option (List ℕ)) → template_form properties message ≡ Some t → IsInto properties into part
+into_again : (properties : List PropertyParts) (message part : List (List ℕ)) (t : Limited Template) (into : Option (List ℕ)) → template_form properties message ≡ Some t → IsInto properties into part
     → into_behind properties (message ++ part) ≡ with_into into message
 into_again properties message part t (Some name) read is =
     let there = property_again properties name is.1 is.2 in
@@ -226,20 +229,20 @@ asks_may (dest.App (app.Path path)) h = tt
 asks_may (dest.App (app.Signature signature)) h = tt
 asks_may (dest.App (app.Name name)) h = tt
 
-abbrev asked_message : List PropertyParts → Dest → Option (List ℕ) × List (List ℕ) → Option (Option Action)
+abbrev asked_message : List PropertyParts → Dest → Option (List ℕ) × List (List ℕ) → Option (Limited Action)
 asked_message properties to read = template_form properties read.1 >>= λ t. Some (ask_action to read.0 t)
 
-abbrev asked_into : List PropertyParts → Dest → List (List ℕ) → Option (Option Action)
+abbrev asked_into : List PropertyParts → Dest → List (List ℕ) → Option (Limited Action)
 asked_into properties to rest = into_behind properties rest >>= λ read. asked_message properties to read
 
-abbrev ask_read : List PropertyParts → Option (Dest × List (List ℕ)) → Option (Option Action)
+abbrev ask_read : List PropertyParts → Option (Dest × List (List ℕ)) → Option (Limited Action)
 ask_read properties o = o >>= λ to. where_true (may_be_asked to.0) to.1 >>= λ rest. asked_into properties to.0 rest
 
 ask-is : (properties : List PropertyParts) (words : List (List ℕ)) → ask_form properties words ≡ ask_read properties (dest_at words)
 unfolding ask_form
 ask-is properties words = refl
 
-ask_again : (properties : List PropertyParts) (words : List (List ℕ)) (a : Option Action) → SaysAsk properties words a → ask_form properties words ≡ Some a
+ask_again : (properties : List PropertyParts) (words : List (List ℕ)) (a : Limited Action) → SaysAsk properties words a → ask_form properties words ≡ Some a
 ask_again properties words a h =
     let read = (message_is_read properties h.message_part h.message).0 h.message_is in
     let at = (dest_is_read words h.to (h.message_part ++ h.into_part)).1 (h.to_part, h.all, h.to_is) in
@@ -247,9 +250,9 @@ ask_again properties words a h =
     ask-is properties words ∙ ap (ask_read properties) at
     ∙ ap (λ (may : Bool). where_true may (h.message_part ++ h.into_part) >>= λ rest. asked_into properties h.to rest) (may_ask h.to h.to_may)
     ∙ ap (λ (o : Option (Option (List ℕ) × List (List ℕ))). o >>= λ r. asked_message properties h.to r) into
-    ∙ ap (λ (o : Option (Option Template)). o >>= λ t. Some (ask_action h.to h.into t)) read ∙ ap (λ (x : Option Action). Some x) (sym h.kept)
+    ∙ ap (λ (o : Option (Limited Template)). o >>= λ t. Some (ask_action h.to h.into t)) read ∙ ap (λ (x : Limited Action). Some x) (sym h.kept)
 
-ask_made : (properties : List PropertyParts) (words : List (List ℕ)) (a : Option Action) (to : Dest) (rest message : List (List ℕ)) (into : Option (List ℕ)) (t : Option Template)
+ask_made : (properties : List PropertyParts) (words : List (List ℕ)) (a : Limited Action) (to : Dest) (rest message : List (List ℕ)) (into : Option (List ℕ)) (t : Limited Template)
     → dest_at words ≡ Some (to, rest) → may_be_asked to ≡ true → into_behind properties rest ≡ Some (into, message)
     → template_form properties message ≡ Some t → Some (ask_action to into t) ≡ Some a → SaysAsk properties words a
 ask_made properties words a to rest message into t at may end read made =
@@ -270,7 +273,7 @@ ask_made properties words a to rest message into t at may end read made =
       kept = sym (same_Some (ask_action to into t) a made);
     }
 
-ask_takes : (properties : List PropertyParts) (words : List (List ℕ)) (a : Option Action) → ask_form properties words ≡ Some a → SaysAsk properties words a
+ask_takes : (properties : List PropertyParts) (words : List (List ℕ)) (a : Limited Action) → ask_form properties words ≡ Some a → SaysAsk properties words a
 ask_takes properties words a e =
     let s = bind_some (dest_at words) (λ to. where_true (may_be_asked to.0) to.1 >>= λ rest. asked_into properties to.0 rest) a (sym (ask-is properties words) ∙ e) in
     let m = bind_some (where_true (may_be_asked s.0.0) s.0.1) (λ rest. asked_into properties s.0.0 rest) a s.2 in
@@ -279,7 +282,7 @@ ask_takes properties words a e =
     let r = bind_some (template_form properties i.0.1) (λ t. Some (ask_action s.0.0 i.0.0 t)) a i.2 in
     ask_made properties words a s.0.0 s.0.1 i.0.1 i.0.0 r.0 s.1 may.0 (ap (into_behind properties) may.1 ∙ i.1) r.1 r.2
 
-pub ask_is_read : (properties : List PropertyParts) (words : List (List ℕ)) (a : Option Action) → SaysAsk properties words a ↔ (ask_form properties words ≡ Some a)
+pub ask_is_read : (properties : List PropertyParts) (words : List (List ℕ)) (a : Limited Action) → SaysAsk properties words a ↔ (ask_form properties words ≡ Some a)
 ask_is_read properties words a = (ask_again properties words a, ask_takes properties words a)
 
 -- ---- two words and no more
@@ -295,20 +298,20 @@ two_takes (a ∷ b ∷ []) two e = let same = same_Some {A = List ℕ × List �
 two_takes (a ∷ b ∷ c ∷ words) two e = absurd cc
 
 -- ---- `set`
-abbrev set_read : List PropertyParts → Option (List ℕ × List ℕ) → Option (Option Action)
+abbrev set_read : List PropertyParts → Option (List ℕ × List ℕ) → Option (Limited Action)
 set_read properties o = o >>= λ two. property_name properties two.0 >>= λ property. set_given properties two.1 >>= λ g. Some (set_action property g)
 
 set-form_is : (properties : List PropertyParts) (words : List (List ℕ)) → set_form properties words ≡ set_read properties (two_words words)
 unfolding set_form
 set-form_is properties words = refl
 
-set_again : (properties : List PropertyParts) (words : List (List ℕ)) (a : Option Action) → SaysSet properties words a → set_form properties words ≡ Some a
+set_again : (properties : List PropertyParts) (words : List (List ℕ)) (a : Limited Action) → SaysSet properties words a → set_form properties words ≡ Some a
 set_again properties words a h =
     set-form_is properties words ∙ ap (λ (ws : List (List ℕ)). set_read properties (two_words ws)) h.all ∙ ap (set_read properties) (two_again h.name h.word)
     ∙ ap (λ (o : Option (List ℕ)). o >>= λ property. set_given properties h.word >>= λ g. Some (set_action property g)) (property_again properties h.name h.name_is.0 h.name_is.1)
-    ∙ ap (λ (o : Option (Option Given)). o >>= λ g. Some (set_action h.name g)) ((set_given_is_read properties h.word h.value).0 h.value_is) ∙ ap (λ (x : Option Action). Some x) (sym h.kept)
+    ∙ ap (λ (o : Option (Limited Given)). o >>= λ g. Some (set_action h.name g)) ((set_given_is_read properties h.word h.value).0 h.value_is) ∙ ap (λ (x : Limited Action). Some x) (sym h.kept)
 
-set_made : (properties : List PropertyParts) (words : List (List ℕ)) (a : Option Action) (word name text : List ℕ) (g : Option Given) → two_words words ≡ Some (word, text)
+set_made : (properties : List PropertyParts) (words : List (List ℕ)) (a : Limited Action) (word name text : List ℕ) (g : Limited Given) → two_words words ≡ Some (word, text)
     → property_name properties word ≡ Some name → set_given properties text ≡ Some g → Some (set_action name g) ≡ Some a → SaysSet properties words a
 set_made properties words a word name text g two there given made =
     let is = property_takes properties word name there in
@@ -322,14 +325,14 @@ set_made properties words a word name text g two there given made =
       kept = sym (same_Some (set_action name g) a made) ∙ ap (λ (n : List ℕ). set_action n g) (sym is.2);
     }
 
-set_takes : (properties : List PropertyParts) (words : List (List ℕ)) (a : Option Action) → set_form properties words ≡ Some a → SaysSet properties words a
+set_takes : (properties : List PropertyParts) (words : List (List ℕ)) (a : Limited Action) → set_form properties words ≡ Some a → SaysSet properties words a
 set_takes properties words a e =
     let s = bind_some (two_words words) (λ two. property_name properties two.0 >>= λ property. set_given properties two.1 >>= λ g. Some (set_action property g)) a (sym (set-form_is properties words) ∙ e) in
     let p = bind_some (property_name properties s.0.0) (λ property. set_given properties s.0.1 >>= λ g. Some (set_action property g)) a s.2 in
     let r = bind_some (set_given properties s.0.1) (λ g. Some (set_action p.0 g)) a p.2 in
     set_made properties words a s.0.0 p.0 s.0.1 r.0 s.1 p.1 r.1 r.2
 
-pub set_is_read : (properties : List PropertyParts) (words : List (List ℕ)) (a : Option Action) → SaysSet properties words a ↔ (set_form properties words ≡ Some a)
+pub set_is_read : (properties : List PropertyParts) (words : List (List ℕ)) (a : Limited Action) → SaysSet properties words a ↔ (set_form properties words ≡ Some a)
 set_is_read properties words a = (set_again properties words a, set_takes properties words a)
 
 -- ---- `add`
@@ -343,7 +346,7 @@ add-is : (properties : List PropertyParts) (words : List (List ℕ)) → add_for
 unfolding add_form
 add-is properties words = refl
 
-add_again : (properties : List PropertyParts) (words : List (List ℕ)) (a : Option Action) → SaysAdd properties words a → added_form properties words ≡ Some a
+add_again : (properties : List PropertyParts) (words : List (List ℕ)) (a : Limited Action) → SaysAdd properties words a → added_form properties words ≡ Some a
 add_again properties words a h =
     let amount = (number_is_read h.kind_is.0.row.kind h.word h.amount).0 (h.amount_is, sym h.kind_is.2) in
     let word : name_of h.name ≡ Some h.name = ap (λ (t : Bool). where_true t h.name) h.name_is in
@@ -352,11 +355,11 @@ add_again properties words a h =
     ∙ ap (λ (o : Option PropertyParts). o >>= λ parts. number_read h.name h.word parts) h.kind_is.1
     ∙ ap (λ (o : Option Number). o >>= λ amount. name_of h.name >>= λ property. Some (action.Add property amount)) amount
     ∙ ap (λ (o : Option (List ℕ)). o >>= λ property. Some (action.Add property h.amount)) word in
-    ap (option_and_then (λ (x : Action). Some (Some x))) read ∙ ap (λ (x : Option Action). Some x) (sym h.kept)
+    ap (option_and_then (λ (x : Action). Some (Within x))) read ∙ ap (λ (x : Limited Action). Some x) (sym h.kept)
 
-add_made : (properties : List PropertyParts) (words : List (List ℕ)) (a : Option Action) (word name text : List ℕ) (p : PropertyParts) (amount : Number) (made : Action)
+add_made : (properties : List PropertyParts) (words : List (List ℕ)) (a : Limited Action) (word name text : List ℕ) (p : PropertyParts) (amount : Number) (made : Action)
     → two_words words ≡ Some (word, text) → property_named properties word ≡ Some p → number_from p.row.kind text ≡ Some amount → name_of word ≡ Some name
-    → Some (action.Add name amount) ≡ Some made → Some (Some made) ≡ Some a → SaysAdd properties words a
+    → Some (action.Add name amount) ≡ Some made → Some (Within made) ≡ Some a → SaysAdd properties words a
 add_made properties words a word name text p amount made two there read named is kept =
     let t = cond_some (is_word word) word name named in
     let number = (number_is_read p.row.kind text amount).1 read in
@@ -368,55 +371,55 @@ add_made properties words a word name text p amount made two there read named is
       amount = amount;
       amount_is = number.0;
       kind_is = (p, there, sym number.1);
-      kept = sym (same_Some (Some made) a kept) ∙ ap (λ (x : Action). Some x) (sym (same_Some (action.Add name amount) made is) ∙ ap (λ (n : List ℕ). action.Add n amount) (sym t.1));
+      kept = sym (same_Some (Within made) a kept) ∙ ap (λ (x : Action). Within x) (sym (same_Some (action.Add name amount) made is) ∙ ap (λ (n : List ℕ). action.Add n amount) (sym t.1));
     }
 
-add_takes : (properties : List PropertyParts) (words : List (List ℕ)) (a : Option Action) → added_form properties words ≡ Some a → SaysAdd properties words a
+add_takes : (properties : List PropertyParts) (words : List (List ℕ)) (a : Limited Action) → added_form properties words ≡ Some a → SaysAdd properties words a
 add_takes properties words a e =
-    let f = bind_some (add_form properties words) (λ x. Some (Some x)) a e in
+    let f = bind_some (add_form properties words) (λ x. Some (Within x)) a e in
     let s = bind_some (two_words words) (λ two. property_named properties two.0 >>= λ parts. number_read two.0 two.1 parts) f.0 (sym (add-is properties words) ∙ f.1) in
     let p = bind_some (property_named properties s.0.0) (λ parts. number_read s.0.0 s.0.1 parts) f.0 s.2 in
     let n = bind_some (number_from p.0.row.kind s.0.1) (λ amount. name_of s.0.0 >>= λ property. Some (action.Add property amount)) f.0 p.2 in
     let w = bind_some (name_of s.0.0) (λ property. Some (action.Add property n.0)) f.0 n.2 in
     add_made properties words a s.0.0 w.0 s.0.1 p.0 n.0 f.0 s.1 p.1 n.1 w.1 w.2 f.2
 
-pub added_is_read : (properties : List PropertyParts) (words : List (List ℕ)) (a : Option Action) → SaysAdd properties words a ↔ (added_form properties words ≡ Some a)
+pub added_is_read : (properties : List PropertyParts) (words : List (List ℕ)) (a : Limited Action) → SaysAdd properties words a ↔ (added_form properties words ≡ Some a)
 added_is_read properties words a = (add_again properties words a, add_takes properties words a)
 
 -- ---- `reply`
-replied-is : (t : Option Template) → replied t ≡ option_map action.Reply t
-replied-is None = refl
-replied-is (Some m) = refl
+replied-is : (t : Limited Template) → replied t ≡ limited_map action.Reply t
+replied-is Over = refl
+replied-is (Within m) = refl
 
-abbrev reply_read : Option (Option Template) → Option (Option Action)
-reply_read o = option_map (λ (t : Option Template). option_map action.Reply t) o
+abbrev reply_read : Option (Limited Template) → Option (Limited Action)
+reply_read o = option_map (λ (t : Limited Template). limited_map action.Reply t) o
 
 reply-is : (properties : List PropertyParts) (words : List (List ℕ)) → reply_form properties words ≡ reply_read (template_form properties words)
 unfolding reply_form
 reply-is properties words = refl
 
-reply_again : (properties : List PropertyParts) (words : List (List ℕ)) (a : Option Action) → SaysReply properties words a → reply_form properties words ≡ Some a
+reply_again : (properties : List PropertyParts) (words : List (List ℕ)) (a : Limited Action) → SaysReply properties words a → reply_form properties words ≡ Some a
 reply_again properties words a h =
-    reply-is properties words ∙ ap reply_read ((message_is_read properties words h.0).0 h.1) ∙ ap (λ (x : Option Action). Some x) (sym (replied-is h.0) ∙ sym h.2)
+    reply-is properties words ∙ ap reply_read ((message_is_read properties words h.0).0 h.1) ∙ ap (λ (x : Limited Action). Some x) (sym (replied-is h.0) ∙ sym h.2)
 
-reply_takes : (properties : List PropertyParts) (words : List (List ℕ)) (a : Option Action) → reply_form properties words ≡ Some a → SaysReply properties words a
+reply_takes : (properties : List PropertyParts) (words : List (List ℕ)) (a : Limited Action) → reply_form properties words ≡ Some a → SaysReply properties words a
 reply_takes properties words a e = by_read (template_form properties words) refl (sym (reply-is properties words) ∙ e) where
-  by_read : (o : Option (Option Template)) → template_form properties words ≡ o → reply_read o ≡ Some a → SaysReply properties words a
+  by_read : (o : Option (Limited Template)) → template_form properties words ≡ o → reply_read o ≡ Some a → SaysReply properties words a
   by_read None is e = absurd cc
   by_read (Some t) is e =
-      let same = same_Some (option_map action.Reply t) a e in
+      let same = same_Some (limited_map action.Reply t) a e in
       (t, (message_is_read properties words t).1 is, sym same ∙ sym (replied-is t))
 
-pub reply_is_read : (properties : List PropertyParts) (words : List (List ℕ)) (a : Option Action) → SaysReply properties words a ↔ (reply_form properties words ≡ Some a)
+pub reply_is_read : (properties : List PropertyParts) (words : List (List ℕ)) (a : Limited Action) → SaysReply properties words a ↔ (reply_form properties words ≡ Some a)
 reply_is_read properties words a = (reply_again properties words a, reply_takes properties words a)
 
 -- ---- `drop`, `quit`
-bare_takes : (x : Action) (properties : List PropertyParts) (words : List (List ℕ)) (a : Option Action) → bare x words ≡ Some a → SaysBare x properties words a
-bare_takes x properties [] a e = let same = same_Some (Some x) a e in (refl, sym same)
+bare_takes : (x : Action) (properties : List PropertyParts) (words : List (List ℕ)) (a : Limited Action) → bare x words ≡ Some a → SaysBare x properties words a
+bare_takes x properties [] a e = let same = same_Some (Within x) a e in (refl, sym same)
 bare_takes x properties (w ∷ words) a e = absurd cc
 
-pub bare_is_read : (x : Action) (properties : List PropertyParts) (words : List (List ℕ)) (a : Option Action) → SaysBare x properties words a ↔ (bare x words ≡ Some a)
+pub bare_is_read : (x : Action) (properties : List PropertyParts) (words : List (List ℕ)) (a : Limited Action) → SaysBare x properties words a ↔ (bare x words ≡ Some a)
 bare_is_read x properties words a = (
-  λ h. ap (bare x) h.0 ∙ ap (λ (o : Option Action). Some o) (sym h.1),
+  λ h. ap (bare x) h.0 ∙ ap (λ (o : Limited Action). Some o) (sym h.1),
   bare_takes x properties words a,
 )

@@ -10,6 +10,8 @@ use Rattle.ak_base.specs.declared.code.Code.{Code}
 use Rattle.ak_base.specs.Word.{is_word}
 use Rattle.ak_flatten.specs.Spelling.{spelling}
 use Rattle.ak_base.specs.Option.{◌>>=◌}
+use Rattle.ak_base.specs.declared.limited.Limited.{Limited}
+use Rattle.ak_base.specs.declared.limited.Limited.TheVariants.{Within, Over}
 use Rattle.ak_action.specs.declared.template.Given.{Given}
 use Rattle.ak_action.specs.declared.template.Template.{Template}
 use Rattle.ak_action.specs.declared.template.TemplateFault.{TemplateFault}
@@ -19,6 +21,8 @@ use Rattle.ak_action.specs.Template as template
 use Rattle.ak_action.specs.Template.{add_fault}
 use Rattle.ak_describe.specs.Actions.{Built, has_name, field_kept, with_field, named_too, field_added, written, short_template}
 use Rattle.ak_describe.specs.Grammar.{FieldText, NamesDiffer, onto_field, all_fields, small_template}
+use Rattle.ak_describe.specs.Made.{limited_then}
+use Rattle.ak_describe.proofs.ground.Outcomes.{same_within}
 use Rattle.ak_describe.proofs.ground.Seeing.{any-map}
 use Rattle.ak_describe.proofs.grammar.Fields.{added_all}
 
@@ -26,8 +30,8 @@ abbrev pub field_names : List FieldText → List (List ℕ)
 field_names fs = map (λ (f : FieldText). f.name) fs
 
 -- over 64 fields are not kept
-abbrev pub kept_fields : List FieldText → Option (List TemplateField)
-kept_fields fs = cond (leb (length fs) 64) (all_fields fs) None
+abbrev pub kept_fields : List FieldText → Limited (List TemplateField)
+kept_fields fs = cond (leb (length fs) 64) (all_fields fs) Over
 
 -- what is built of them
 abbrev pub built : List FieldText → Built
@@ -41,28 +45,28 @@ AreNamed (f ∷ fs) = (is_word f.name ≡ true) × AreNamed fs
 abbrev template_field : List ℕ → Given → TemplateField
 template_field name g = record { name = name; given = g }
 
-abbrev field_made : List ℕ → Option Given → FieldText
+abbrev field_made : List ℕ → Limited Given → FieldText
 field_made name g = record { name = name; content = g }
 
-abbrev with_last : Option (List TemplateField) → List ℕ → Option Given → Option (List TemplateField)
-with_last None name g = None
-with_last (Some fields) name None = None
-with_last (Some fields) name (Some g) = Some (fields ++ template_field name g ∷ [])
+abbrev with_last : Limited (List TemplateField) → List ℕ → Limited Given → Limited (List TemplateField)
+with_last Over name g = Over
+with_last (Within fields) name Over = Over
+with_last (Within fields) name (Within g) = Within (fields ++ template_field name g ∷ [])
 
-first-push : (name : List ℕ) (content : Option Given) → onto_field (field_made name content) (Some []) ≡ with_last (Some []) name content
-first-push name None = refl
-first-push name (Some g) = refl
+first-push : (name : List ℕ) (content : Limited Given) → onto_field (field_made name content) (Within []) ≡ with_last (Within []) name content
+first-push name Over = refl
+first-push name (Within g) = refl
 
-some-push : (first : List ℕ) (given : Option Given) (gs : List TemplateField) (name : List ℕ) (content : Option Given)
-    → onto_field (field_made first given) (with_last (Some gs) name content) ≡ with_last (onto_field (field_made first given) (Some gs)) name content
-some-push first None gs name None = refl
-some-push first None gs name (Some g) = refl
-some-push first (Some h) gs name None = refl
-some-push first (Some h) gs name (Some g) = refl
+some-push : (first : List ℕ) (given : Limited Given) (gs : List TemplateField) (name : List ℕ) (content : Limited Given)
+    → onto_field (field_made first given) (with_last (Within gs) name content) ≡ with_last (onto_field (field_made first given) (Within gs)) name content
+some-push first Over gs name Over = refl
+some-push first Over gs name (Within g) = refl
+some-push first (Within h) gs name Over = refl
+some-push first (Within h) gs name (Within g) = refl
 
-onto-push : (e : FieldText) (o : Option (List TemplateField)) (name : List ℕ) (content : Option Given) → onto_field e (with_last o name content) ≡ with_last (onto_field e o) name content
-onto-push e None name content = refl
-onto-push e (Some gs) name content = some-push e.name e.content gs name content
+onto-push : (e : FieldText) (o : Limited (List TemplateField)) (name : List ℕ) (content : Limited Given) → onto_field e (with_last o name content) ≡ with_last (onto_field e o) name content
+onto-push e Over name content = refl
+onto-push e (Within gs) name content = some-push e.name e.content gs name content
 
 all_fields-push : (fs : List FieldText) (f : FieldText) → all_fields (fs ++ f ∷ []) ≡ with_last (all_fields fs) f.name f.content
 all_fields-push [] f = first-push f.name f.content
@@ -72,26 +76,26 @@ all_fields-push (e ∷ fs) f = ap (onto_field e) (all_fields-push fs f) ∙ onto
 abbrev template_names : List TemplateField → List (List ℕ)
 template_names gs = map (λ (g : TemplateField). g.name) gs
 
-abbrev HasNames : Option (List TemplateField) → List (List ℕ) → Type 0
-HasNames o names = (gs : List TemplateField) → o ≡ Some gs → template_names gs ≡ names
+abbrev HasNames : Limited (List TemplateField) → List (List ℕ) → Type 0
+HasNames o names = (gs : List TemplateField) → o ≡ Within gs → template_names gs ≡ names
 
-onto-names : (name : List ℕ) (content : Option Given) (o : Option (List TemplateField)) (names : List (List ℕ)) → HasNames o names → HasNames (onto_field (field_made name content) o) (name ∷ names)
-onto-names name content None names h gs e = absurd cc
-onto-names name None (Some others) names h gs e = absurd cc
-onto-names name (Some g) (Some others) names h gs e =
-    let same = same_Some (template_field name g ∷ others) gs e in
+onto-names : (name : List ℕ) (content : Limited Given) (o : Limited (List TemplateField)) (names : List (List ℕ)) → HasNames o names → HasNames (onto_field (field_made name content) o) (name ∷ names)
+onto-names name content Over names h gs e = absurd cc
+onto-names name Over (Within others) names h gs e = absurd cc
+onto-names name (Within g) (Within others) names h gs e =
+    let same = same_within (template_field name g ∷ others) gs e in
     subst (λ (x : List TemplateField). template_names x ≡ name ∷ names) same (ap (λ (ns : List (List ℕ)). name ∷ ns) (h others refl))
 
 pub all_fields-names : (fs : List FieldText) → HasNames (all_fields fs) (field_names fs)
-all_fields-names [] gs e = ap template_names (sym (same_Some {A = List TemplateField} [] gs e))
+all_fields-names [] gs e = ap template_names (sym (same_within {A = List TemplateField} [] gs e))
 all_fields-names (f ∷ fs) gs e = onto-names f.name f.content (all_fields fs) (field_names fs) (all_fields-names fs) gs e
 
 -- ---- one field more
-with_again : (o : Option (List TemplateField)) (names : List (List ℕ)) (name : List ℕ) (content : Option Given) → is_word name ≡ true → has_name names name ≡ false → length names < 64 → HasNames o names
+with_again : (o : Limited (List TemplateField)) (names : List (List ℕ)) (name : List ℕ) (content : Limited Given) → is_word name ≡ true → has_name names name ≡ false → length names < 64 → HasNames o names
     → with_field o name content ≡ Some (with_last o name content)
-with_again None names name content word new room h = refl
-with_again (Some gs) names name None word new room h = refl
-with_again (Some gs) names name (Some g) word new room h =
+with_again Over names name content word new room h = refl
+with_again (Within gs) names name Over word new room h = refl
+with_again (Within gs) names name (Within g) word new room h =
     let same = h gs refl in
     let fresh : template.has_name gs name ≡ false =
     sym (any-map (λ (t : TemplateField). t.name) (λ (other : List ℕ). bytes_eq other name) gs) ∙ ap (list_any (λ (other : List ℕ). bytes_eq other name)) same ∙ new in
@@ -99,11 +103,11 @@ with_again (Some gs) names name (Some g) word new room h =
     let fine : add_fault gs name ≡ None = rw (word, fresh, few) refl in
     ap (λ (e : Option TemplateFault). field_kept e (gs ++ template_field name g ∷ [])) fine
 
-named_again : (b : Built) (name : List ℕ) (content : Option Given) (fields : Option (List TemplateField)) → is_word name ≡ true → with_field b.fields name content ≡ Some fields
+named_again : (b : Built) (name : List ℕ) (content : Limited Given) (fields : Limited (List TemplateField)) → is_word name ≡ true → with_field b.fields name content ≡ Some fields
     → named_too b name content ≡ Some (record { names = b.names ++ name ∷ []; fields = fields })
 named_again b name content fields word e = rw (word, e) refl
 
-abbrev some_built : List (List ℕ) → Option (List TemplateField) → Option Built
+abbrev some_built : List (List ℕ) → Limited (List TemplateField) → Option Built
 some_built names fields = Some (record { names = names; fields = fields })
 
 -- where there is room
@@ -112,21 +116,21 @@ room_added : (done : List FieldText) (f : FieldText) → is_word f.name ≡ true
 room_added done f word fresh room =
     let many : length (field_names done) ≡ length done = length-map done (λ (g : FieldText). g.name) in
     let more : length (done ++ f ∷ []) ≡ length done + 1 = omega (arith, length-append done (f ∷ [])) in
-    let kept : kept_fields done ≡ all_fields done = ap (λ (t : Bool). cond t (all_fields done) None) (le-leb (length done) 64 (omega (arith, room))) in
+    let kept : kept_fields done ≡ all_fields done = ap (λ (t : Bool). cond t (all_fields done) Over) (le-leb (length done) 64 (omega (arith, room))) in
     let adds : with_field (kept_fields done) f.name f.content ≡ Some (with_last (all_fields done) f.name f.content) =
-    ap (λ (o : Option (List TemplateField)). with_field o f.name f.content) kept
+    ap (λ (o : Limited (List TemplateField)). with_field o f.name f.content) kept
     ∙ with_again (all_fields done) (field_names done) f.name f.content word fresh (omega (arith, many, room)) (all_fields-names done) in
     let names : field_names done ++ f.name ∷ [] ≡ field_names (done ++ f ∷ []) = sym (map-append (λ (g : FieldText). g.name) done (f ∷ [])) in
     let fields : with_last (all_fields done) f.name f.content ≡ kept_fields (done ++ f ∷ []) =
-    sym (all_fields-push done f) ∙ ap (λ (t : Bool). cond t (all_fields (done ++ f ∷ [])) None) (sym (le-leb (length (done ++ f ∷ [])) 64 (omega (arith, more, room)))) in
+    sym (all_fields-push done f) ∙ ap (λ (t : Bool). cond t (all_fields (done ++ f ∷ [])) Over) (sym (le-leb (length (done ++ f ∷ [])) 64 (omega (arith, more, room)))) in
     named_again (built done) f.name f.content (with_last (all_fields done) f.name f.content) word adds ∙ ap₂ some_built names fields
 
 -- a 65th field passes the limit
-none_again : (o : Option (List TemplateField)) (names : List (List ℕ)) (name : List ℕ) (content : Option Given) → is_word name ≡ true → has_name names name ≡ false → 64 ≤ length names → HasNames o names
-    → with_field o name content ≡ Some None
-none_again None names name content word new full h = refl
-none_again (Some gs) names name None word new full h = refl
-none_again (Some gs) names name (Some g) word new full h =
+none_again : (o : Limited (List TemplateField)) (names : List (List ℕ)) (name : List ℕ) (content : Limited Given) → is_word name ≡ true → has_name names name ≡ false → 64 ≤ length names → HasNames o names
+    → with_field o name content ≡ Some Over
+none_again Over names name content word new full h = refl
+none_again (Within gs) names name Over word new full h = refl
+none_again (Within gs) names name (Within g) word new full h =
     let same = h gs refl in
     let fresh : template.has_name gs name ≡ false =
     sym (any-map (λ (t : TemplateField). t.name) (λ (other : List ℕ). bytes_eq other name) gs) ∙ ap (list_any (λ (other : List ℕ). bytes_eq other name)) same ∙ new in
@@ -134,7 +138,7 @@ none_again (Some gs) names name (Some g) word new full h =
     let fault : add_fault gs name ≡ Some fault.FieldLimit = rw (word, fresh, many) refl in
     ap (λ (e : Option TemplateFault). field_kept e (gs ++ template_field name g ∷ [])) fault
 
-none_kept : (few : Bool) (o : Option (List TemplateField)) (name : List ℕ) (content : Option Given) → with_field o name content ≡ Some None → with_field (cond few o None) name content ≡ Some None
+none_kept : (few : Bool) (o : Limited (List TemplateField)) (name : List ℕ) (content : Limited Given) → with_field o name content ≡ Some Over → with_field (cond few o Over) name content ≡ Some Over
 none_kept true o name content h = h
 none_kept false o name content h = refl
 
@@ -143,12 +147,12 @@ full_added : (done : List FieldText) (f : FieldText) → is_word f.name ≡ true
 full_added done f word fresh full =
     let many : length (field_names done) ≡ length done = length-map done (λ (g : FieldText). g.name) in
     let more : length (done ++ f ∷ []) ≡ length done + 1 = omega (arith, length-append done (f ∷ [])) in
-    let adds : with_field (kept_fields done) f.name f.content ≡ Some None =
+    let adds : with_field (kept_fields done) f.name f.content ≡ Some Over =
     none_kept (leb (length done) 64) (all_fields done) f.name f.content (none_again (all_fields done) (field_names done) f.name f.content word fresh (omega (arith, many, full)) (all_fields-names done)) in
     let names : field_names done ++ f.name ∷ [] ≡ field_names (done ++ f ∷ []) = sym (map-append (λ (g : FieldText). g.name) done (f ∷ [])) in
-    let fields : ◌≡◌ {A = Option (List TemplateField)} None (kept_fields (done ++ f ∷ [])) =
-    ap (λ (t : Bool). cond t (all_fields (done ++ f ∷ [])) None) (sym (lt-leb (length (done ++ f ∷ [])) 64 (omega (arith, more, full)))) in
-    named_again (built done) f.name f.content None word adds ∙ ap₂ some_built names fields
+    let fields : ◌≡◌ {A = Limited (List TemplateField)} Over (kept_fields (done ++ f ∷ [])) =
+    ap (λ (t : Bool). cond t (all_fields (done ++ f ∷ [])) Over) (sym (lt-leb (length (done ++ f ∷ [])) 64 (omega (arith, more, full)))) in
+    named_again (built done) f.name f.content Over word adds ∙ ap₂ some_built names fields
 
 added_one : (done : List FieldText) (f : FieldText) → is_word f.name ≡ true
     → field_added (built done) f.name f.content ≡ cond (has_name (field_names done) f.name) None (Some (built (done ++ f ∷ [])))
@@ -261,23 +265,23 @@ pub new_names : (fields : List FieldText) → NewNames [] fields → NamesDiffer
 new_names fields new i j d lt within = new_differ fields [] new i j d lt (omega arith) within
 
 -- ---- the template of all fields
-abbrev some_template : Code → List TemplateField → Bool → Option Template
-some_template what gs t = cond t (Some (record { what = what; fields = gs })) None
+abbrev some_template : Code → List TemplateField → Bool → Limited Template
+some_template what gs t = cond t (Within (record { what = what; fields = gs })) Over
 
-kept_small : (what : Code) (count : ℕ) (gs : List TemplateField) → count ≡ length gs → (cond (leb count 64) (Some gs) None >>= short_template what) ≡ small_template what (Some gs)
+kept_small : (what : Code) (count : ℕ) (gs : List TemplateField) → count ≡ length gs → limited_then (short_template what) (cond (leb count 64) (Within gs) Over) ≡ small_template what (Within gs)
 kept_small what count gs same =
-    ap (λ (n : ℕ). cond (leb n 64) (Some gs) None >>= short_template what) same ∙ by_test (leb (length gs) 64) where
-      by_test : (few : Bool) → (cond few (Some gs) None >>= short_template what) ≡ some_template what gs (few && leb (length (spelling (written what gs))) 4096)
+    ap (λ (n : ℕ). limited_then (short_template what) (cond (leb n 64) (Within gs) Over)) same ∙ by_test (leb (length gs) 64) where
+      by_test : (few : Bool) → limited_then (short_template what) (cond few (Within gs) Over) ≡ some_template what gs (few && leb (length (spelling (written what gs))) 4096)
       by_test true = refl
       by_test false = refl
 
-pub kept_template : (what : Code) (fs : List FieldText) → (kept_fields fs >>= short_template what) ≡ small_template what (all_fields fs)
+pub kept_template : (what : Code) (fs : List FieldText) → limited_then (short_template what) (kept_fields fs) ≡ small_template what (all_fields fs)
 kept_template what fs = by_all (all_fields fs) (all_fields-names fs) where
-  none_kept : (few : Bool) → (cond few None None >>= short_template what) ≡ None
+  none_kept : (few : Bool) → limited_then (short_template what) (cond few Over Over) ≡ Over
   none_kept true = refl
   none_kept false = refl
 
-  by_all : (o : Option (List TemplateField)) → HasNames o (field_names fs) → (cond (leb (length fs) 64) o None >>= short_template what) ≡ small_template what o
-  by_all None h = none_kept (leb (length fs) 64)
-  by_all (Some gs) h =
+  by_all : (o : Limited (List TemplateField)) → HasNames o (field_names fs) → limited_then (short_template what) (cond (leb (length fs) 64) o Over) ≡ small_template what o
+  by_all Over h = none_kept (leb (length fs) 64)
+  by_all (Within gs) h =
       kept_small what (length fs) gs (sym (length-map fs (λ (f : FieldText). f.name)) ∙ ap length (sym (h gs refl)) ∙ length-map gs (λ (g : TemplateField). g.name))

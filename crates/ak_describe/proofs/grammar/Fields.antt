@@ -11,6 +11,8 @@ use Rattle.std.proofs.lemmas.Option.{same_Some}
 use Rattle.std.proofs.lemmas.Slice.Eq.{bytes_eq-Decides}
 use Rattle.ak_base.specs.Word.{is_word_byte, is_word}
 use Rattle.ak_base.specs.Option.{where_true, ◌>>=◌}
+use Rattle.ak_base.specs.declared.limited.Limited.{Limited}
+use Rattle.ak_base.specs.declared.limited.Limited.TheVariants.{Within, Over}
 use Rattle.ak_message.specs.Reading.{equals_in, field_split}
 use Rattle.ak_base.proofs.Surface.{bind_some, cond_some, word_parts}
 use Rattle.ak_action.specs.declared.template.Given.{Given}
@@ -143,25 +145,25 @@ unsigned_takes properties (sign ∷ name) e = by_tests (eqb sign 36) (eqb sign 6
   by_tests false false no_dollar no_at e = (eqb-false sign 36 no_dollar, eqb-false sign 64 no_at)
 
 -- ---- what a field gets: copied, or else by values, whatever they are
-abbrev Reads : Option (Option ValuesData) → (Option Given → Type 0) → Type 0
-Reads values Says = (g : Option Given) → Says g ↔ (option_map given_values values ≡ Some g)
+abbrev Reads : Option (Limited ValuesData) → (Limited Given → Type 0) → Type 0
+Reads values Says = (g : Limited Given) → Says g ↔ (option_map given_values values ≡ Some g)
 
-given_again : (properties : List PropertyParts) (text : List ℕ) (values : Option (Option ValuesData)) (Says : Option Given → Type 0) → Reads values Says → (g : Option Given)
+given_again : (properties : List PropertyParts) (text : List ℕ) (values : Option (Limited ValuesData)) (Says : Limited Given → Type 0) → Reads values Says → (g : Limited Given)
     → IsCopiedTo properties text g ⊎ HasNoSign text × Says g → (copied_from properties text >>= λ c. copied_or c values) ≡ Some g
-given_again properties text values Says reads None (inl h) = absurd h
-given_again properties text values Says reads (Some g) (inl h) = ap (λ (o : Option (Option Given)). o >>= λ c. copied_or c values) (copied_again properties text g h)
+given_again properties text values Says reads Over (inl h) = absurd h
+given_again properties text values Says reads (Within g) (inl h) = ap (λ (o : Option (Option Given)). o >>= λ c. copied_or c values) (copied_again properties text g h)
 given_again properties text values Says reads g (inr h) =
     ap (λ (o : Option (Option Given)). o >>= λ c. copied_or c values) (unsigned_again properties text h.0) ∙ (reads g).0 h.1
 
-given_takes : (properties : List PropertyParts) (text : List ℕ) (values : Option (Option ValuesData)) (Says : Option Given → Type 0) → Reads values Says → (g : Option Given)
+given_takes : (properties : List PropertyParts) (text : List ℕ) (values : Option (Limited ValuesData)) (Says : Limited Given → Type 0) → Reads values Says → (g : Limited Given)
     → (copied_from properties text >>= λ c. copied_or c values) ≡ Some g → IsCopiedTo properties text g ⊎ HasNoSign text × Says g
 given_takes properties text values Says reads g e =
     let s = bind_some (copied_from properties text) (λ c. copied_or c values) g e in
     by_copied s.0 s.1 s.2 where
       by_copied : (c : Option Given) → copied_from properties text ≡ Some c → copied_or c values ≡ Some g → IsCopiedTo properties text g ⊎ HasNoSign text × Says g
       by_copied (Some x) is e =
-          let same = same_Some (Some x) g e in
-          subst (λ (o : Option Given). IsCopiedTo properties text o ⊎ HasNoSign text × Says o) same (inl (copied_takes properties text x is))
+          let same = same_Some (Within x) g e in
+          subst (λ (o : Limited Given). IsCopiedTo properties text o ⊎ HasNoSign text × Says o) same (inl (copied_takes properties text x is))
       by_copied None is e = inr (unsigned_takes properties text is, (reads g).1 e)
 
 given-is : (properties : List PropertyParts) (text : List ℕ) → given_from properties text ≡ (copied_from properties text >>= λ c. copied_or c (values_from text))
@@ -172,21 +174,21 @@ set-is : (properties : List PropertyParts) (text : List ℕ) → set_given prope
 unfolding set_given
 set-is properties text = refl
 
-pub given_is_read : (properties : List PropertyParts) (text : List ℕ) (g : Option Given) → IsGiven properties text g ↔ (given_from properties text ≡ Some g)
+pub given_is_read : (properties : List PropertyParts) (text : List ℕ) (g : Limited Given) → IsGiven properties text g ↔ (given_from properties text ≡ Some g)
 given_is_read properties text g = (
   λ h. given-is properties text ∙ given_again properties text (values_from text) (AreValues text) (values_are_read text) g h,
   λ e. given_takes properties text (values_from text) (AreValues text) (values_are_read text) g (sym (given-is properties text) ∙ e),
 )
 
 pub set_given_is_read
-    : (properties : List PropertyParts) (text : List ℕ) (g : Option Given) → (IsCopiedTo properties text g ⊎ HasNoSign text × IsOne text g) ↔ (set_given properties text ≡ Some g)
+    : (properties : List PropertyParts) (text : List ℕ) (g : Limited Given) → (IsCopiedTo properties text g ⊎ HasNoSign text × IsOne text g) ↔ (set_given properties text ≡ Some g)
 set_given_is_read properties text g = (
   λ h. set-is properties text ∙ given_again properties text (one_from text) (IsOne text) (one_is_read text) g h,
   λ e. given_takes properties text (one_from text) (IsOne text) (one_is_read text) g (sym (set-is properties text) ∙ e),
 )
 
 -- ---- the word of a field
-abbrev field_made : List ℕ → Option Given → FieldText
+abbrev field_made : List ℕ → Limited Given → FieldText
 field_made name g = record { name = name; content = g }
 
 abbrev pub field_text : List PropertyParts → List ℕ → Option FieldText
@@ -238,7 +240,7 @@ added_all b (f ∷ fs) = field_added b f.name f.content >>= λ more. added_all m
 field-behind_is : (properties : List PropertyParts) (b : Built) (word : List ℕ) → field_behind properties b word ≡ (field_text properties word >>= λ f. field_added b f.name f.content)
 unfolding field_behind
 field-behind_is properties b word = by_split (field_split word) where
-  by_given : (name : List ℕ) (o : Option (Option Given)) → (o >>= λ g. field_added b name g) ≡ ((o >>= λ g. Some (field_made name g)) >>= λ f. field_added b f.name f.content)
+  by_given : (name : List ℕ) (o : Option (Limited Given)) → (o >>= λ g. field_added b name g) ≡ ((o >>= λ g. Some (field_made name g)) >>= λ f. field_added b f.name f.content)
   by_given name None = refl
   by_given name (Some g) = refl
 

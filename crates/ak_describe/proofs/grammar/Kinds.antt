@@ -10,6 +10,8 @@ use Rattle.ak_message.specs.declared.kind.Kind.TheVariants as k
 use Rattle.ak_message.specs.Kind.{code_of_kind, is_same_kind, kind_of_code, same_kind-is}
 use Rattle.ak_message.specs.Message.{ValueData, MessageData, int32_value, bool_value, text_value, raw_value, value_of_message}
 use Rattle.ak_base.specs.Option.{where_true, ◌>>=◌}
+use Rattle.ak_base.specs.declared.limited.Limited.{Limited}
+use Rattle.ak_base.specs.declared.limited.Limited.TheVariants.{Within, Over}
 use Rattle.ak_message.specs.Payload.{kind_before, bool_from, int_within, raw_from, unquoted}
 use Rattle.ak_message.specs.Pieces.{braced}
 use Rattle.ak_message.specs.Reading as reading
@@ -28,9 +30,9 @@ abbrev some_got : Got → Option Got
 some_got g = Some g
 
 -- ---- messages
-message_forms : (m : Option MessageData) (g : Got) → got_message m ≡ g → IsGotOf k.Message g
-message_forms None g e = inr (sym e)
-message_forms (Some m) g e = inl (value_of_message m, sym e)
+message_forms : (m : Limited MessageData) (g : Got) → got_message m ≡ g → IsGotOf k.Message g
+message_forms Over g e = inr (sym e)
+message_forms (Within m) g e = inl (value_of_message m, sym e)
 
 message_got : (levels : ℕ) (text : List ℕ) (g : Got) → message_from levels text ≡ Some g → IsGotOf k.Message g
 unfolding message_from
@@ -165,14 +167,14 @@ kind_differs a b differ = by_test (is_same_kind a b) refl where
   by_test true e = absurd (differ (same_kind-is a b e))
   by_test false e = e
 
-pub letter_fits : (kind : Kind) (word : List ℕ) (v : Option ValueData) → ((i : ℕ) → get_or word i 0 < 256) → value_from word ≡ Some v → kind_read v word ≡ kind → value_of_kind kind word ≡ Some v
+pub letter_fits : (kind : Kind) (word : List ℕ) (v : Limited ValueData) → ((i : ℕ) → get_or word i 0 < 256) → value_from word ≡ Some v → kind_read v word ≡ kind → value_of_kind kind word ≡ Some v
 unfolding value_by_letter
 letter_fits kind word v bytes read fits =
-    sym (value_by_letter-is kind word bytes) ∙ ap (λ (o : Option (Option ValueData)). o >>= (λ (w : Option ValueData). where_true (is_same_kind (kind_read w word) kind) w)) read
+    sym (value_by_letter-is kind word bytes) ∙ ap (λ (o : Option (Limited ValueData)). o >>= (λ (w : Limited ValueData). where_true (is_same_kind (kind_read w word) kind) w)) read
     ∙ ap (λ (b : Bool). where_true b v) (kind_fits (kind_read v word) kind fits)
 
-pub letter_differs : (kind : Kind) (word : List ℕ) (v : Option ValueData) → ((i : ℕ) → get_or word i 0 < 256) → value_from word ≡ Some v → (kind_read v word ≡ kind → ⊥) → value_of_kind kind word ≡ None
+pub letter_differs : (kind : Kind) (word : List ℕ) (v : Limited ValueData) → ((i : ℕ) → get_or word i 0 < 256) → value_from word ≡ Some v → (kind_read v word ≡ kind → ⊥) → value_of_kind kind word ≡ None
 unfolding value_by_letter
 letter_differs kind word v bytes read differs =
-    sym (value_by_letter-is kind word bytes) ∙ ap (λ (o : Option (Option ValueData)). o >>= (λ (w : Option ValueData). where_true (is_same_kind (kind_read w word) kind) w)) read
+    sym (value_by_letter-is kind word bytes) ∙ ap (λ (o : Option (Limited ValueData)). o >>= (λ (w : Limited ValueData). where_true (is_same_kind (kind_read w word) kind) w)) read
     ∙ ap (λ (b : Bool). where_true b v) (kind_differs (kind_read v word) kind differs)

@@ -6,6 +6,8 @@ use Rattle.std.specs.List.{AllZip}
 use Rattle.std.specs.Str.{bytes_eq}
 use Rattle.std.proofs.lemmas.List.{append-nil}
 use Rattle.std.proofs.lemmas.Slice.Eq.{bytes_eq-Decides}
+use Rattle.ak_base.specs.declared.limited.Limited.{Limited}
+use Rattle.ak_base.specs.declared.limited.Limited.TheVariants.{Within}
 use Rattle.ak_base.specs.Word.{is_word}
 use Rattle.ak_base.specs.declared.code.Code.{Code}
 use Rattle.ak_base.specs.Option.{where_true, ◌>>=◌}
@@ -225,31 +227,31 @@ pub form_again : (word : List ℕ) (n : ℕ) → WritesNumber 1 7 word n → for
 form_again word n is = number_again 1 7 word n (omega arith) is
 
 -- ---- a text behind a key
-pub text_part_takes : (key : List ℕ) (words : List (List ℕ)) (text : Option (List ℕ)) (rest : List (List ℕ)) → text_behind words key ≡ read_as text rest → (part : List (List ℕ)) × (words ≡ part ++ rest) × IsTextPart key text part
+pub text_part_takes : (key : List ℕ) (words : List (List ℕ)) (text : Limited (List ℕ)) (rest : List (List ℕ)) → text_behind words key ≡ read_as text rest → (part : List (List ℕ)) × (words ≡ part ++ rest) × IsTextPart key text part
 text_part_takes key words text rest e = by_key (behind words key) refl e where
   by_key : (o : Option (List (List ℕ))) → behind words key ≡ o → text_found words o ≡ read_as text rest → (part : List (List ℕ)) × (words ≡ part ++ rest) × IsTextPart key text part
   by_key None is e =
-      let p = read_is {A = Option (List ℕ)} (Some []) text words rest e in
+      let p = read_is {A = Limited (List ℕ)} (Within []) text words rest e in
       ([], p.1, inl (refl, sym p.0))
   by_key (Some after) is e =
       let w = word_at-takes quoted_from after text rest e in
       (key ∷ w.0 ∷ [], behind_takes words key after is ∙ ap (λ (ws : List (List ℕ)). key ∷ ws) w.1, inr (w.0, refl, text_takes w.0 text w.2))
 
-text_left_out : (key : List ℕ) (part : List (List ℕ)) (text : Option (List ℕ)) (rest : List (List ℕ)) → NotFirst key rest → part ≡ [] → text ≡ Some [] → text_behind (part ++ rest) key ≡ read_as text rest
+text_left_out : (key : List ℕ) (part : List (List ℕ)) (text : Limited (List ℕ)) (rest : List (List ℕ)) → NotFirst key rest → part ≡ [] → text ≡ Within [] → text_behind (part ++ rest) key ≡ read_as text rest
 text_left_out key part text rest none is empty =
     subst (λ (ps : List (List ℕ)). text_found (ps ++ rest) (behind (ps ++ rest) key) ≡ read_as text rest) (sym is)
-    (ap (λ (o : Option (List (List ℕ))). text_found rest o) none ∙ ap (λ (t : Option (List ℕ)). read_as t rest) (sym empty))
+    (ap (λ (o : Option (List (List ℕ))). text_found rest o) none ∙ ap (λ (t : Limited (List ℕ)). read_as t rest) (sym empty))
 
-text_written : (key : List ℕ) (part : List (List ℕ)) (text : Option (List ℕ)) (rest : List (List ℕ)) (word : List ℕ) → part ≡ key ∷ word ∷ [] → WritesText word text → text_behind (part ++ rest) key ≡ read_as text rest
+text_written : (key : List ℕ) (part : List (List ℕ)) (text : Limited (List ℕ)) (rest : List (List ℕ)) (word : List ℕ) → part ≡ key ∷ word ∷ [] → WritesText word text → text_behind (part ++ rest) key ≡ read_as text rest
 text_written key part text rest word is written =
     subst (λ (ps : List (List ℕ)). text_found (ps ++ rest) (behind (ps ++ rest) key) ≡ read_as text rest) (sym is)
     (ap (λ (o : Option (List (List ℕ))). text_found (key ∷ word ∷ rest) o) (behind_again key (word ∷ rest)) ∙ word_at-again quoted_from word rest text (text_again word text written))
 
-pub text_part_again : (key : List ℕ) (part : List (List ℕ)) (text : Option (List ℕ)) (rest : List (List ℕ)) → NotFirst key rest → IsTextPart key text part → text_behind (part ++ rest) key ≡ read_as text rest
+pub text_part_again : (key : List ℕ) (part : List (List ℕ)) (text : Limited (List ℕ)) (rest : List (List ℕ)) → NotFirst key rest → IsTextPart key text part → text_behind (part ++ rest) key ≡ read_as text rest
 text_part_again key part text rest none is =
     ⊎_elim (λ left. text_left_out key part text rest none left.0 left.1) (λ written. text_written key part text rest written.0 written.1 written.2) is
 
-pub text_begins : (key : List ℕ) (text : Option (List ℕ)) (part rest : List (List ℕ)) (P : List (List ℕ) → Type 0) → IsTextPart key text part → P rest → ((more : List (List ℕ)) → P (key ∷ more)) → P (part ++ rest)
+pub text_begins : (key : List ℕ) (text : Limited (List ℕ)) (part rest : List (List ℕ)) (P : List (List ℕ) → Type 0) → IsTextPart key text part → P rest → ((more : List (List ℕ)) → P (key ∷ more)) → P (part ++ rest)
 text_begins key text part rest P is here there =
     ⊎_elim
     (λ left. subst (λ (ps : List (List ℕ)). P (ps ++ rest)) (sym left.0) here)
@@ -257,5 +259,5 @@ text_begins key text part rest P is here there =
     is
 
 -- the same of the last part
-pub text_begins_all : (key : List ℕ) (text : Option (List ℕ)) (part : List (List ℕ)) (P : List (List ℕ) → Type 0) → IsTextPart key text part → P [] → ((more : List (List ℕ)) → P (key ∷ more)) → P part
+pub text_begins_all : (key : List ℕ) (text : Limited (List ℕ)) (part : List (List ℕ)) (P : List (List ℕ) → Type 0) → IsTextPart key text part → P [] → ((more : List (List ℕ)) → P (key ∷ more)) → P part
 text_begins_all key text part P is here there = subst (λ (ws : List (List ℕ)). P ws) (append-nil part) (text_begins key text part [] P is here there)

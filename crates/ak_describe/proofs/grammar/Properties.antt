@@ -12,6 +12,8 @@ use Rattle.ak_message.specs.declared.kind.Kind.TheVariants as k
 use Rattle.ak_message.specs.Kind.{kind_letters, code_of_kind, is_same_kind, same_kind-is}
 use Rattle.ak_message.specs.Message.{ValueData}
 use Rattle.ak_base.specs.Option.{where_true, ◌>>=◌}
+use Rattle.ak_base.specs.declared.limited.Limited.{Limited}
+use Rattle.ak_base.specs.declared.limited.Limited.TheVariants.{Within, Over}
 use Rattle.ak_message.specs.Reading.{Got, code_from, read_value}
 use Rattle.ak_base.proofs.Surface.{bind_some, cond_some}
 use Rattle.ak_describe.specs.declared.form.property.PropertyForm.{PropertyForm}
@@ -65,14 +67,14 @@ no_form_usage : form_of (codes "usage") ≡ None
 no_form_usage = number_none 1 7 (codes "usage") (omega arith) (λ n written. no_number 1 7 117 (codes "sage") n (omega arith) (omega arith) written)
 
 -- ---- properties
-abbrev property_with : List ℕ → Kind → List Code → List ℕ → Option (List ℕ) → PropertyForm
+abbrev property_with : List ℕ → Kind → List Code → List ℕ → Limited (List ℕ) → PropertyForm
 property_with name kind commands forms usage = record { name = name; kind = kind; commands = commands; forms = forms; usage = usage }
 
-abbrev with_usage : List ℕ → Kind → List Code → List ℕ → Option (List ℕ) × List (List ℕ) → Option PropertyForm
+abbrev with_usage : List ℕ → Kind → List Code → List ℕ → Limited (List ℕ) × List (List ℕ) → Option PropertyForm
 with_usage name kind commands forms usage = where_true (ends usage.1) (property_with name kind commands forms usage.0)
 
 abbrev with_forms : List ℕ → Kind → List Code → List ℕ × List (List ℕ) → Option PropertyForm
-with_forms name kind commands forms = text_behind forms.1 (codes "usage") >>= λ (usage : Option (List ℕ) × List (List ℕ)). with_usage name kind commands forms.0 usage
+with_forms name kind commands forms = text_behind forms.1 (codes "usage") >>= λ (usage : Limited (List ℕ) × List (List ℕ)). with_usage name kind commands forms.0 usage
 
 abbrev with_commands : List ℕ → Kind → List Code × List (List ℕ) → Option PropertyForm
 with_commands name kind commands = forms_at commands.1 >>= λ (forms : List ℕ × List (List ℕ)). with_forms name kind commands.0 forms
@@ -83,7 +85,7 @@ with_kind name kind = commands_at kind.1 >>= λ (commands : List Code × List (L
 abbrev with_name : List ℕ × List (List ℕ) → Option PropertyForm
 with_name name = kind_at name.1 >>= λ (kind : Kind × List (List ℕ)). with_kind name.0 kind
 
-property_of : (words after_name after_kind after_commands after_forms rest : List (List ℕ)) (name : List ℕ) (kind : Kind) (commands : List Code) (forms : List ℕ) (usage : Option (List ℕ)) → (words ≡ name ∷ after_name) × (is_word name ≡ true)
+property_of : (words after_name after_kind after_commands after_forms rest : List (List ℕ)) (name : List ℕ) (kind : Kind) (commands : List Code) (forms : List ℕ) (usage : Limited (List ℕ)) → (words ≡ name ∷ after_name) × (is_word name ≡ true)
     → (after_name ≡ kind_letters kind ∷ after_kind) × (kind ≢ k.Message) → IsBehind (AreParts (codes "commands") WritesCode) commands after_kind after_commands → IsBehind (AreParts (codes "forms") (WritesNumber 1 7)) forms after_commands after_forms
     → IsBehind (IsTextPart (codes "usage")) usage after_forms rest → rest ≡ [] → SaysProperty words (property_with name kind commands forms usage)
 property_of words after_name after_kind after_commands after_forms rest name kind commands forms usage n l command_part form_part usage_part none =
@@ -113,7 +115,7 @@ property_takes words p e =
     let kind = bind_some (word_at kind_of name.0.1) (λ (kind : Kind × List (List ℕ)). with_kind name.0.0 kind) p name.2 in
     let commands = bind_some (commands_at kind.0.1) (λ (commands : List Code × List (List ℕ)). with_commands name.0.0 kind.0.0 commands) p kind.2 in
     let forms = bind_some (forms_at commands.0.1) (λ (forms : List ℕ × List (List ℕ)). with_forms name.0.0 kind.0.0 commands.0.0 forms) p commands.2 in
-    let usage = bind_some (text_behind forms.0.1 (codes "usage")) (λ (usage : Option (List ℕ) × List (List ℕ)). with_usage name.0.0 kind.0.0 commands.0.0 forms.0.0 usage) p forms.2 in
+    let usage = bind_some (text_behind forms.0.1 (codes "usage")) (λ (usage : Limited (List ℕ) × List (List ℕ)). with_usage name.0.0 kind.0.0 commands.0.0 forms.0.0 usage) p forms.2 in
     let t = cond_some (ends usage.0.1) (property_with name.0.0 kind.0.0 commands.0.0 forms.0.0 usage.0.0) p usage.2 in
     subst (λ (q : PropertyForm). SaysProperty words q) {x = property_with name.0.0 kind.0.0 commands.0.0 forms.0.0 usage.0.0} {y = p} t.1
     (property_of words name.0.1 kind.0.1 commands.0.1 forms.0.1 usage.0.1 name.0.0 kind.0.0 commands.0.0 forms.0.0 usage.0.0 (name_at-takes words name.0.0 name.0.1 name.1) (letters_at name.0.1 kind.0.0 kind.0.1 kind.1)
@@ -141,54 +143,54 @@ property_again words p is =
     ∙ ap (λ (o : Option (Kind × List (List ℕ))). o >>= (λ (n : Kind × List (List ℕ)). with_kind p.name n)) kind
     ∙ ap (λ (o : Option (List Code × List (List ℕ))). o >>= (λ (n : List Code × List (List ℕ)). with_commands p.name p.kind n)) commands
     ∙ ap (λ (o : Option (List ℕ × List (List ℕ))). o >>= (λ (n : List ℕ × List (List ℕ)). with_forms p.name p.kind p.commands n)) forms
-    ∙ ap (λ (o : Option (Option (List ℕ) × List (List ℕ))). o >>= (λ (n : Option (List ℕ) × List (List ℕ)). with_usage p.name p.kind p.commands p.forms n)) usage
+    ∙ ap (λ (o : Option (Limited (List ℕ) × List (List ℕ))). o >>= (λ (n : Limited (List ℕ) × List (List ℕ)). with_usage p.name p.kind p.commands p.forms n)) usage
 
 pub property_is_read : (words : List (List ℕ)) (p : PropertyForm) → SaysProperty words p ↔ (property_form words ≡ Some p)
 property_is_read words p = (λ is. property_again words p is, λ e. property_takes words p e)
 
 -- ---- elements
-abbrev got_as : Kind → Option ValueData → Got
+abbrev got_as : Kind → Limited ValueData → Got
 got_as kind value = record { kind = kind; value = value }
 
 abbrev some_got : Got → Option Got
 some_got g = Some g
 
-value_takes : (kind : Kind) (word : List ℕ) (value : Option ValueData) → value_of_kind kind word ≡ Some value → read_value word ≡ Some (got_as kind value)
+value_takes : (kind : Kind) (word : List ℕ) (value : Limited ValueData) → value_of_kind kind word ≡ Some value → read_value word ≡ Some (got_as kind value)
 unfolding value_of_kind
 value_takes kind word value e =
     let g = bind_some (read_value word) (λ (g : Got). where_true (is_same_kind g.kind kind) g.value) value e in
     let t = cond_some (is_same_kind g.0.kind kind) g.0.value value g.2 in
-    g.1 ∙ ap (λ (x : Kind). some_got (got_as x g.0.value)) (same_kind-is g.0.kind kind t.0) ∙ ap (λ (v : Option ValueData). some_got (got_as kind v)) t.1
+    g.1 ∙ ap (λ (x : Kind). some_got (got_as x g.0.value)) (same_kind-is g.0.kind kind t.0) ∙ ap (λ (v : Limited ValueData). some_got (got_as kind v)) t.1
 
-value_again : (kind : Kind) (word : List ℕ) (value : Option ValueData) → read_value word ≡ Some (got_as kind value) → value_of_kind kind word ≡ Some value
+value_again : (kind : Kind) (word : List ℕ) (value : Limited ValueData) → read_value word ≡ Some (got_as kind value) → value_of_kind kind word ≡ Some value
 unfolding value_of_kind
 value_again kind word value is =
     ap (λ (o : Option Got). o >>= (λ (g : Got). where_true (is_same_kind g.kind kind) g.value)) is
     ∙ ap (λ (b : Bool). where_true b value) (eq-eqb (code_of_kind kind) (code_of_kind kind) refl)
 
-pub value_is_read : (kind : Kind) (word : List ℕ) (value : Option ValueData) → (read_value word ≡ Some (record { kind = kind; value = value })) ↔ (value_of_kind kind word ≡ Some value)
+pub value_is_read : (kind : Kind) (word : List ℕ) (value : Limited ValueData) → (read_value word ≡ Some (record { kind = kind; value = value })) ↔ (value_of_kind kind word ≡ Some value)
 value_is_read kind word value = (λ is. value_again kind word value is, λ e. value_takes kind word value e)
 
-both_are : (name : Option (List ℕ)) (value : Option ValueData) (e : Option (List ℕ × ValueData)) → both name value ≡ e → IsElement name value e
-both_are (Some name) (Some value) e is = sym is
-both_are None value e is = sym is
-both_are (Some name) None e is = sym is
+both_are : (name : Limited (List ℕ)) (value : Limited ValueData) (e : Limited (List ℕ × ValueData)) → both name value ≡ e → IsElement name value e
+both_are (Within name) (Within value) e is = sym is
+both_are Over value e is = sym is
+both_are (Within name) Over e is = sym is
 
-are_both : (name : Option (List ℕ)) (value : Option ValueData) (e : Option (List ℕ × ValueData)) → IsElement name value e → both name value ≡ e
-are_both (Some name) (Some value) e is = sym is
-are_both None value e is = sym is
-are_both (Some name) None e is = sym is
+are_both : (name : Limited (List ℕ)) (value : Limited ValueData) (e : Limited (List ℕ × ValueData)) → IsElement name value e → both name value ≡ e
+are_both (Within name) (Within value) e is = sym is
+are_both Over value e is = sym is
+are_both (Within name) Over e is = sym is
 
-abbrev with_both : Option ValueData → Option (List ℕ) × List (List ℕ) → Option (Option (List ℕ × ValueData))
+abbrev with_both : Limited ValueData → Limited (List ℕ) × List (List ℕ) → Option (Limited (List ℕ × ValueData))
 with_both value name = where_true (ends name.1) (both name.0 value)
 
-abbrev with_value : List (List ℕ) → Option ValueData → Option (Option (List ℕ × ValueData))
-with_value words value = text_behind words (codes "name") >>= λ (name : Option (List ℕ) × List (List ℕ)). with_both value name
+abbrev with_value : List (List ℕ) → Limited ValueData → Option (Limited (List ℕ × ValueData))
+with_value words value = text_behind words (codes "name") >>= λ (name : Limited (List ℕ) × List (List ℕ)). with_both value name
 
-abbrev some_element : Option (List ℕ × ValueData) → Option (Option (List ℕ × ValueData))
+abbrev some_element : Limited (List ℕ × ValueData) → Option (Limited (List ℕ × ValueData))
 some_element x = Some x
 
-element_of : (kind : Kind) (word : List ℕ) (words rest : List (List ℕ)) (value : Option ValueData) (name : Option (List ℕ)) (e : Option (List ℕ × ValueData)) → read_value word ≡ Some (got_as kind value) → IsBehind (IsTextPart (codes "name")) name words rest
+element_of : (kind : Kind) (word : List ℕ) (words rest : List (List ℕ)) (value : Limited ValueData) (name : Limited (List ℕ)) (e : Limited (List ℕ × ValueData)) → read_value word ≡ Some (got_as kind value) → IsBehind (IsTextPart (codes "name")) name words rest
     → rest ≡ [] → both name value ≡ e → SaysElement kind (word ∷ words) e
 element_of kind word words rest value name e read part none kept =
     record {
@@ -202,23 +204,23 @@ element_of kind word words rest value name e read part none kept =
       kept = both_are name value e kept;
     }
 
-element_takes : (kind : Kind) (words : List (List ℕ)) (e : Option (List ℕ × ValueData)) → element_form kind words ≡ Some e → SaysElement kind words e
+element_takes : (kind : Kind) (words : List (List ℕ)) (e : Limited (List ℕ × ValueData)) → element_form kind words ≡ Some e → SaysElement kind words e
 unfolding element_form
 element_takes kind [] e h = absurd cc
 element_takes kind (w ∷ words) e h =
-    let value = bind_some (value_of_kind kind w) (λ (v : Option ValueData). with_value words v) e h in
-    let name = bind_some (text_behind words (codes "name")) (λ (n : Option (List ℕ) × List (List ℕ)). with_both value.0 n) e value.2 in
+    let value = bind_some (value_of_kind kind w) (λ (v : Limited ValueData). with_value words v) e h in
+    let name = bind_some (text_behind words (codes "name")) (λ (n : Limited (List ℕ) × List (List ℕ)). with_both value.0 n) e value.2 in
     let t = cond_some (ends name.0.1) (both name.0.0 value.0) e name.2 in
     element_of kind w words name.0.1 value.0 name.0.0 e (value_takes kind w value.0 value.1) (text_part_takes (codes "name") words name.0.0 name.0.1 name.1) (ends_nil name.0.1 t.0) t.1
 
-element_again : (kind : Kind) (words : List (List ℕ)) (e : Option (List ℕ × ValueData)) → SaysElement kind words e → element_form kind words ≡ Some e
+element_again : (kind : Kind) (words : List (List ℕ)) (e : Limited (List ℕ × ValueData)) → SaysElement kind words e → element_form kind words ≡ Some e
 unfolding element_form
 element_again kind words e is =
     let name = subst (λ (ws : List (List ℕ)). text_behind ws (codes "name") ≡ read_as is.name []) (append-nil is.part) (text_part_again (codes "name") is.part is.name [] refl is.name_is) in
     ap (element_form kind) is.all
-    ∙ ap (λ (o : Option (Option ValueData)). o >>= (λ (v : Option ValueData). with_value is.part v)) (value_again kind is.word is.value is.value_is)
-    ∙ ap (λ (o : Option (Option (List ℕ) × List (List ℕ))). o >>= (λ (n : Option (List ℕ) × List (List ℕ)). with_both is.value n)) name
-    ∙ ap (λ (x : Option (List ℕ × ValueData)). some_element x) (are_both is.name is.value e is.kept)
+    ∙ ap (λ (o : Option (Limited ValueData)). o >>= (λ (v : Limited ValueData). with_value is.part v)) (value_again kind is.word is.value is.value_is)
+    ∙ ap (λ (o : Option (Limited (List ℕ) × List (List ℕ))). o >>= (λ (n : Limited (List ℕ) × List (List ℕ)). with_both is.value n)) name
+    ∙ ap (λ (x : Limited (List ℕ × ValueData)). some_element x) (are_both is.name is.value e is.kept)
 
-pub element_is_read : (kind : Kind) (words : List (List ℕ)) (e : Option (List ℕ × ValueData)) → SaysElement kind words e ↔ (element_form kind words ≡ Some e)
+pub element_is_read : (kind : Kind) (words : List (List ℕ)) (e : Limited (List ℕ × ValueData)) → SaysElement kind words e ↔ (element_form kind words ≡ Some e)
 element_is_read kind words e = (λ is. element_again kind words e is, λ h. element_takes kind words e h)

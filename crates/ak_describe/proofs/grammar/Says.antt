@@ -1,5 +1,6 @@
 -- What a line says is what is read of it.
 use Rattle.std.proofs.Common.{◌≡◌, ◌≢◌, ◌↔◌, ℕ, Bool, true, false, List, [], ◌∷◌, codes, Option, Some, None, IfSome, option_map, refl, sym, ap, subst, ◌∙◌}
+use Rattle.ak_base.specs.declared.limited.Limited.{Limited}
 use Rattle.ak_message.specs.declared.kind.Kind.TheVariants as k
 use Rattle.ak_message.specs.Message.{ValueData}
 use Rattle.ak_action.specs.declared.action.Action.TheVariants as action
@@ -63,17 +64,17 @@ hook_said form words true law = (λ h. ap (λ (x : Form). Some x) (sym h.0), λ 
 hook_said form words false law = (λ h. absurd (let wrong = law.0 h.1 in cc), λ e. absurd cc)
 
 -- of the property that is open
-abbrev OfOpen : Option PropertyParts → List (List ℕ) → Option (List ℕ × ValueData) → Type 0
+abbrev OfOpen : Option PropertyParts → List (List ℕ) → Limited (List ℕ × ValueData) → Type 0
 OfOpen o words e = (p : PropertyParts) × (o ≡ Some p) × SaysElement p.row.kind words e
 
-open_said : (q : PropertyParts) → q.row.kind ≢ k.Message → (words : List (List ℕ)) (e : Option (List ℕ × ValueData)) → OfOpen (Some q) words e ↔ (element_form q.row.kind words ≡ Some e)
+open_said : (q : PropertyParts) → q.row.kind ≢ k.Message → (words : List (List ℕ)) (e : Limited (List ℕ × ValueData)) → OfOpen (Some q) words e ↔ (element_form q.row.kind words ≡ Some e)
 open_said q no_message words e = (
   λ h. let same : h.0 ≡ q = (let is = h.1 in cc) in (element_is_read q.row.kind words e).0 (subst (λ (p : PropertyParts). SaysElement p.row.kind words e) same h.2),
   λ read. (q, refl, (element_is_read q.row.kind words e).1 read),
 )
 
 element_said : (form : Form) (words : List (List ℕ)) (o : Option PropertyParts) → IfSome o (λ p. p.row.kind ≢ k.Message)
-    → ((e : Option (List ℕ × ValueData)) × (form ≡ says_element e) × OfOpen o words e) ↔ (element_read o words ≡ Some form)
+    → ((e : Limited (List ℕ × ValueData)) × (form ≡ says_element e) × OfOpen o words e) ↔ (element_read o words ≡ Some form)
 element_said form words None no_message = (λ h. absurd (let is = h.2.1 in cc), λ e. absurd cc)
 element_said form words (Some q) no_message = said_is says_element (OfOpen (Some q) words) form (element_form q.row.kind words) (open_said q no_message words)
 

@@ -1,11 +1,13 @@
 -- Values in a line: what is read of them is what the grammar says. The kind that is told is the value's, and no message among the
 -- values of a field is too deep for it.
-use Rattle.std.proofs.Common.{◌≡◌, ◌↔◌, ℕ, zero, suc, ◌≤◌, Bool, true, false, not, ◌&&◌, cond, eqb, leb, ltb, List, [], ◌∷◌, ◌++◌, length, drop, Option, Some, None, IfSome, refl, sym, ap, subst, ◌∙◌, arith}
-use Rattle.std.specs.Prelude.{◌==◌, option_map, is_none, ℤ, pos, negsuc}
+use Rattle.std.proofs.Common.{◌≡◌, ◌↔◌, ℕ, zero, suc, ◌≤◌, Bool, true, false, not, cond, eqb, leb, ltb, List, [], ◌∷◌, ◌++◌, length, drop, Option, Some, None, IfSome, refl, sym, ap, subst, ◌∙◌, arith}
+use Rattle.std.specs.Prelude.{◌==◌, option_map, ℤ, pos, negsuc}
 use Rattle.std.specs.List.{list_any, starts_with}
 use Rattle.std.specs.Str.{is_utf8}
 use Rattle.std.proofs.lemmas.Bool.{eq-eqb, lt-ltb}
 use Rattle.std.proofs.lemmas.Option.{same_Some}
+use Rattle.ak_base.specs.declared.limited.Limited.{Limited}
+use Rattle.ak_base.specs.declared.limited.Limited.TheVariants.{Within, Over}
 use Rattle.ak_message.specs.declared.fault.AddFault.{AddFault}
 use Rattle.ak_message.specs.declared.kind.Kind.{Kind}
 use Rattle.ak_message.specs.declared.kind.Kind.TheVariants as k
@@ -23,12 +25,11 @@ use Rattle.ak_action.specs.declared.number.Number.{Number}
 use Rattle.ak_action.specs.declared.number.Number.TheVariants as n
 use Rattle.ak_action.specs.declared.template.Given.{Given}
 use Rattle.ak_action.specs.declared.template.Given.TheVariants as gets
-use Rattle.ak_action.specs.declared.values.ValuesFault.TheVariants as fault
 use Rattle.ak_action.specs.Number.{number_value, number_of, number_kind}
 use Rattle.ak_action.specs.Values.{ValuesData, one_value}
 use Rattle.ak_describe.specs.Actions.{given_values}
 use Rattle.ak_describe.specs.Grammar.{AreValues, IsOne, set_value}
-use Rattle.ak_describe.specs.Made.{number_of_kind, number_from, with_value, values_of, values_kept, values_from, is_short, one_kept, one_from}
+use Rattle.ak_describe.specs.Made.{limited_then, number_of_kind, number_in, number_from, with_value, values_of, values_kept, values_from, is_short, one_kept, one_from}
 
 -- ---- what holds of what is read, if it is read
 pub some_then : {A B : Type 0} (P : A → Type 0) (Q : B → Type 0) (o : Option A) (f : A → Option B) → IfSome o P → ((x : A) → P x → IfSome (f x) Q) → IfSome (o >>= f) Q
@@ -47,13 +48,18 @@ pub some_map : {A B : Type 0} (Q : B → Type 0) (f : A → B) (o : Option A) �
 some_map Q f None h = tt
 some_map Q f (Some x) h = h
 
+-- what holds of what passes no limit
+abbrev pub IfWithin : {A : Type 0} → Limited A → (A → Type 0) → Type 0
+IfWithin Over P = Unit {0}
+IfWithin (Within x) P = P x
+
 -- ---- one value
 pub record Holds (most : ℕ) (kind : Kind) (v : ValueData) : Type 0 where
   pub kind_is : kind_of v ≡ kind
   pub shallow : depth_of_value v ≤ most
 
 abbrev pub IsFine : ℕ → Got → Type 0
-IsFine most g = IfSome g.value (Holds most g.kind)
+IsFine most g = IfWithin g.value (Holds most g.kind)
 
 fine_if : (most : ℕ) (test : Bool) (g h : Got) → IsFine most g → IsFine most h → IsFine most (cond test g h)
 fine_if most true g h fine other = fine
@@ -131,24 +137,24 @@ module _ (most : ℕ) (message : List ℕ → Option Got) (fine : (text : List �
   value_fine text = kind_fine (kind_before text) text
 
 -- ---- messages: one that is kept has no field that is deeper than this
-abbrev Shallow : ℕ → Option MessageData → Type 0
-Shallow most m = IfSome m (λ (d : MessageData). depth_of_nested_fields (nested_fields d.fields) ≤ most)
+abbrev Shallow : ℕ → Limited MessageData → Type 0
+Shallow most m = IfWithin m (λ (d : MessageData). depth_of_nested_fields (nested_fields d.fields) ≤ most)
 
 added_shallow : (most : ℕ) (fault : Option AddFault) (m : MessageData) (name : List ℕ) (v : ValueData)
     → depth_of_nested_fields (nested_fields m.fields) ≤ most → depth_of_value v ≤ most → Shallow most (add_or_not fault m name v)
 added_shallow most None m name v h low = omega (arith, depth-added m.fields name v)
 added_shallow most (Some e) m name v h low = tt
 
-value_shallow : (most : ℕ) (kind : Kind) (m : Option MessageData) (name : List ℕ) (v : Option ValueData) → Shallow most m → IfSome v (Holds most kind) → Shallow most (reading.with_value m name v)
-value_shallow most kind None name v h fine = tt
-value_shallow most kind (Some m) name None h fine = tt
-value_shallow most kind (Some m) name (Some v) h fine = added_shallow most (add_fault m.fields name v) m name v h fine.shallow
+value_shallow : (most : ℕ) (kind : Kind) (m : Limited MessageData) (name : List ℕ) (v : Limited ValueData) → Shallow most m → IfWithin v (Holds most kind) → Shallow most (reading.with_value m name v)
+value_shallow most kind Over name v h fine = tt
+value_shallow most kind (Within m) name Over h fine = tt
+value_shallow most kind (Within m) name (Within v) h fine = added_shallow most (add_fault m.fields name v) m name v h fine.shallow
 
 begun_shallow : (most : ℕ) (b : reading.Built) (name : List ℕ) → Shallow most b.message → IfSome (field_begun b name) (λ (c : reading.Built). Shallow most c.message)
 begun_shallow most b name h = some_if (λ (c : reading.Built). Shallow most c.message) _ (Some (record { names = b.names ++ name ∷ []; message = b.message })) None h tt
 
 module _ (most : ℕ) (message : List ℕ → Option Got) (fine : (text : List ℕ) → IfSome (message text) (IsFine most)) where
-  values_shallow : (texts : List (List ℕ)) (name : List ℕ) (kind : Option Kind) (m : Option MessageData) → Shallow most m → IfSome (values_added message name texts kind m) (Shallow most)
+  values_shallow : (texts : List (List ℕ)) (name : List ℕ) (kind : Option Kind) (m : Limited MessageData) → Shallow most m → IfSome (values_added message name texts kind m) (Shallow most)
   unfolding values_added
   values_shallow [] name kind m h = h
   values_shallow (text ∷ texts) name kind m h =
@@ -177,13 +183,13 @@ module _ (most : ℕ) (message : List ℕ → Option Got) (fine : (text : List �
   message_shallow [] = tt
   message_shallow (text ∷ words) =
       some_any (Shallow most) (code_from text) _
-      (λ what. some_then (λ (c : reading.Built). Shallow most c.message) (Shallow most) (fields_behind message words (record { names = []; message = Some (record { what = what; fields = []; popped = 0 }) })) _
-      (fields_shallow words (record { names = []; message = Some (record { what = what; fields = []; popped = 0 }) }) (omega arith))
+      (λ what. some_then (λ (c : reading.Built). Shallow most c.message) (Shallow most) (fields_behind message words (record { names = []; message = Within (record { what = what; fields = []; popped = 0 }) })) _
+      (fields_shallow words (record { names = []; message = Within (record { what = what; fields = []; popped = 0 }) }) (omega arith))
       (λ b low. low))
 
-got_fine : (most : ℕ) (m : Option MessageData) → Shallow most m → IsFine (suc most) (got_message m)
-got_fine most None h = tt
-got_fine most (Some m) h = record { kind_is = refl; shallow = omega (arith, h) }
+got_fine : (most : ℕ) (m : Limited MessageData) → Shallow most m → IsFine (suc most) (got_message m)
+got_fine most Over h = tt
+got_fine most (Within m) h = record { kind_is = refl; shallow = omega (arith, h) }
 
 pub message_fine : (levels : ℕ) (text : List ℕ) → IfSome (message_from levels text) (IsFine levels)
 unfolding message_from
@@ -193,7 +199,7 @@ message_fine (suc levels) text =
     (λ body. some_any (IsFine (suc levels)) (words_of body) (λ words. option_map got_message (message_of (message_from levels) words))
     (λ words. some_map (IsFine (suc levels)) got_message (message_of (message_from levels) words)
     (shallow_got (message_of (message_from levels) words) (message_shallow levels (message_from levels) (message_fine levels) words)))) where
-      shallow_got : (o : Option (Option MessageData)) → IfSome o (Shallow levels) → IfSome o (λ (m : Option MessageData). IsFine (suc levels) (got_message m))
+      shallow_got : (o : Option (Limited MessageData)) → IfSome o (Shallow levels) → IfSome o (λ (m : Limited MessageData). IsFine (suc levels) (got_message m))
       shallow_got None h = tt
       shallow_got (Some m) h = got_fine levels m h
 
@@ -207,11 +213,11 @@ held_values kind vs = Some (record { kind = kind; list = vs })
 abbrev held : Kind → List ValueData → Option (Option ValuesData)
 held kind vs = Some (Some (record { kind = kind; list = vs }))
 
-abbrev got_values : Kind → Option (List ValueData) → GotValues
+abbrev got_values : Kind → Limited (List ValueData) → GotValues
 got_values kind values = record { kind = kind; values = values }
 
 abbrev IsHeld : GotValues → Type 0
-IsHeld read = IfSome read.values (λ vs. values_of None vs ≡ held read.kind vs)
+IsHeld read = IfWithin read.values (λ vs. values_of None vs ≡ held read.kind vs)
 
 values-append : (vs ws : List ValueData) (all : Option ValuesData) → values_of all (vs ++ ws) ≡ (values_of all vs >>= λ more. values_of more ws)
 unfolding values_of
@@ -242,23 +248,23 @@ more_held kind vs v h room before =
 
 first_held : (v : Got) → IsFine 15 v → IsHeld (first_values v)
 first_held v fine = by_value v.kind v.value fine where
-  by_value : (kind : Kind) (value : Option ValueData) → IfSome value (Holds 15 kind) → IfSome (joined (Some []) value) (λ vs. values_of None vs ≡ held kind vs)
-  by_value kind None fine = tt
-  by_value kind (Some x) fine = one_held kind x fine
+  by_value : (kind : Kind) (value : Limited ValueData) → IfWithin value (Holds 15 kind) → IfWithin (joined (Within []) value) (λ vs. values_of None vs ≡ held kind vs)
+  by_value kind Over fine = tt
+  by_value kind (Within x) fine = one_held kind x fine
 
-join_held : (kind : Kind) (read : Option (List ValueData)) (value : Option ValueData) → IfSome read (λ vs. values_of None vs ≡ held kind vs) → IfSome value (Holds 15 kind)
-    → IfSome (joined read value) (λ vs. values_of None vs ≡ held kind vs)
-join_held kind None value h fine = tt
-join_held kind (Some vs) None h fine = tt
-join_held kind (Some vs) (Some v) h fine = by_room (ltb (length vs) 255) refl where
-  by_room : (room : Bool) → ltb (length vs) 255 ≡ room → IfSome (cond room (Some (vs ++ v ∷ [])) None) (λ vs. values_of None vs ≡ held kind vs)
+join_held : (kind : Kind) (read : Limited (List ValueData)) (value : Limited ValueData) → IfWithin read (λ vs. values_of None vs ≡ held kind vs) → IfWithin value (Holds 15 kind)
+    → IfWithin (joined read value) (λ vs. values_of None vs ≡ held kind vs)
+join_held kind Over value h fine = tt
+join_held kind (Within vs) Over h fine = tt
+join_held kind (Within vs) (Within v) h fine = by_room (ltb (length vs) 255) refl where
+  by_room : (room : Bool) → ltb (length vs) 255 ≡ room → IfWithin (cond room (Within (vs ++ v ∷ [])) Over) (λ vs. values_of None vs ≡ held kind vs)
   by_room true is = more_held kind vs v fine is h
   by_room false is = tt
 
 joined_held : (read : GotValues) (v : Got) → IsHeld read → IsFine 15 v → IfSome (more_values read v) IsHeld
 joined_held read v h fine = by_kind (is_same_kind v.kind read.kind) refl where
   by_kind : (same : Bool) → is_same_kind v.kind read.kind ≡ same → IfSome (where_true same (got_values read.kind (joined read.values v.value))) IsHeld
-  by_kind true is = join_held read.kind read.values v.value h (subst (λ (kind : Kind). IfSome v.value (Holds 15 kind)) (same_kind-is v.kind read.kind is) fine)
+  by_kind true is = join_held read.kind read.values v.value h (subst (λ (kind : Kind). IfWithin v.value (Holds 15 kind)) (same_kind-is v.kind read.kind is) fine)
   by_kind false is = tt
 
 behind_held : (texts : List (List ℕ)) (read : GotValues) → IsHeld read → IfSome (values_behind (message_from 15) texts read) IsHeld
@@ -280,113 +286,113 @@ values_held : (text : List ℕ) → IfSome (read_values text) IsHeld
 values_held text = some_any IsHeld _ _ (λ texts. all_held texts)
 
 -- ---- what a field gets, by values
-abbrev values_given : Option GotValues → Option (Option Given)
+abbrev values_given : Option GotValues → Option (Limited Given)
 values_given o = option_map given_values (option_map (λ (g : GotValues). g.values) o >>= values_kept)
 
 values_given-is : (text : List ℕ) → option_map given_values (values_from text) ≡ values_given (read_values text)
 unfolding values_from
 values_given-is text = refl
 
-abbrev GivesValues : Option GotValues → Option Given → Type 0
-GivesValues o None = (kind : Kind) × (o ≡ Some (record { kind = kind; values = None }))
-GivesValues o (Some (gets.Values v)) = o ≡ Some (record { kind = v.kind; values = Some v.list })
-GivesValues o (Some (gets.Field name)) = ⊥
-GivesValues o (Some (gets.Property name)) = ⊥
+abbrev GivesValues : Option GotValues → Limited Given → Type 0
+GivesValues o Over = (kind : Kind) × (o ≡ Some (record { kind = kind; values = Over }))
+GivesValues o (Within (gets.Values v)) = o ≡ Some (record { kind = v.kind; values = Within v.list })
+GivesValues o (Within (gets.Field name)) = ⊥
+GivesValues o (Within (gets.Property name)) = ⊥
 
-abbrev some_values : Kind → Option (List ValueData) → Option GotValues
+abbrev some_values : Kind → Limited (List ValueData) → Option GotValues
 some_values kind values = Some (record { kind = kind; values = values })
 
-abbrev given_held : Kind → List ValueData → Option (Option Given)
-given_held kind vs = Some (Some (gets.Values (record { kind = kind; list = vs })))
+abbrev given_held : Kind → List ValueData → Option (Limited Given)
+given_held kind vs = Some (Within (gets.Values (record { kind = kind; list = vs })))
 
-given_as_held : (kind : Kind) (vs : List ValueData) → values_of None vs ≡ held kind vs → values_given (some_values kind (Some vs)) ≡ given_held kind vs
+given_as_held : (kind : Kind) (vs : List ValueData) → values_of None vs ≡ held kind vs → values_given (some_values kind (Within vs)) ≡ given_held kind vs
 given_as_held kind vs h = rw h refl
 
 abbrev holds_values : Option GotValues → Type 0
 holds_values o = IfSome o IsHeld
 
-values_gives : (o : Option GotValues) (g : Option Given) → holds_values o → GivesValues o g → values_given o ≡ Some g
-values_gives o None h is = rw is.1 refl
-values_gives o (Some (gets.Values v)) h is =
-    let here : holds_values (some_values v.kind (Some v.list)) = subst holds_values is h in
+values_gives : (o : Option GotValues) (g : Limited Given) → holds_values o → GivesValues o g → values_given o ≡ Some g
+values_gives o Over h is = rw is.1 refl
+values_gives o (Within (gets.Values v)) h is =
+    let here : holds_values (some_values v.kind (Within v.list)) = subst holds_values is h in
     ap values_given is ∙ given_as_held v.kind v.list here
-values_gives o (Some (gets.Field name)) h is = absurd is
-values_gives o (Some (gets.Property name)) h is = absurd is
+values_gives o (Within (gets.Field name)) h is = absurd is
+values_gives o (Within (gets.Property name)) h is = absurd is
 
-gives_some : (kind : Kind) (values : Option (List ValueData)) (g : Option Given) → holds_values (some_values kind values) → values_given (some_values kind values) ≡ Some g → GivesValues (some_values kind values) g
-gives_some kind None g h e =
-    subst (GivesValues (some_values kind None)) (same_Some {A = Option Given} None g e) (kind, refl)
-gives_some kind (Some vs) g h e =
-    subst (GivesValues (some_values kind (Some vs))) (same_Some {A = Option Given} (Some (gets.Values (record { kind = kind; list = vs }))) g (sym (given_as_held kind vs h) ∙ e)) refl
+gives_some : (kind : Kind) (values : Limited (List ValueData)) (g : Limited Given) → holds_values (some_values kind values) → values_given (some_values kind values) ≡ Some g → GivesValues (some_values kind values) g
+gives_some kind Over g h e =
+    subst (GivesValues (some_values kind Over)) (same_Some {A = Limited Given} Over g e) (kind, refl)
+gives_some kind (Within vs) g h e =
+    subst (GivesValues (some_values kind (Within vs))) (same_Some {A = Limited Given} (Within (gets.Values (record { kind = kind; list = vs }))) g (sym (given_as_held kind vs h) ∙ e)) refl
 
-gives_values : (o : Option GotValues) (g : Option Given) → holds_values o → values_given o ≡ Some g → GivesValues o g
+gives_values : (o : Option GotValues) (g : Limited Given) → holds_values o → values_given o ≡ Some g → GivesValues o g
 gives_values None g h e = absurd cc
 gives_values (Some read) g h e = gives_some read.kind read.values g h e
 
-are_given : (text : List ℕ) (g : Option Given) → AreValues text g → GivesValues (read_values text) g
-are_given text None h = h
-are_given text (Some (gets.Values v)) h = h
-are_given text (Some (gets.Field name)) h = h
-are_given text (Some (gets.Property name)) h = h
+are_given : (text : List ℕ) (g : Limited Given) → AreValues text g → GivesValues (read_values text) g
+are_given text Over h = h
+are_given text (Within (gets.Values v)) h = h
+are_given text (Within (gets.Field name)) h = h
+are_given text (Within (gets.Property name)) h = h
 
-given_are : (text : List ℕ) (g : Option Given) → GivesValues (read_values text) g → AreValues text g
-given_are text None h = h
-given_are text (Some (gets.Values v)) h = h
-given_are text (Some (gets.Field name)) h = h
-given_are text (Some (gets.Property name)) h = h
+given_are : (text : List ℕ) (g : Limited Given) → GivesValues (read_values text) g → AreValues text g
+given_are text Over h = h
+given_are text (Within (gets.Values v)) h = h
+given_are text (Within (gets.Field name)) h = h
+given_are text (Within (gets.Property name)) h = h
 
-pub values_are_read : (text : List ℕ) (g : Option Given) → AreValues text g ↔ (option_map given_values (values_from text) ≡ Some g)
+pub values_are_read : (text : List ℕ) (g : Limited Given) → AreValues text g ↔ (option_map given_values (values_from text) ≡ Some g)
 values_are_read text g = (
   λ h. values_given-is text ∙ values_gives (read_values text) g (values_held text) (are_given text g h),
   λ e. given_are text g (gives_values (read_values text) g (values_held text) (sym (values_given-is text) ∙ e)),
 )
 
 -- ---- what a property is set to, by one value
-abbrev one_given : Option Got → Option (Option Given)
-one_given o = option_map given_values (option_map (λ (v : Option ValueData). v >>= one_kept) (option_map (λ (g : Got). g.value) o))
+abbrev one_given : Option Got → Option (Limited Given)
+one_given o = option_map given_values (option_map (limited_then one_kept) (option_map (λ (g : Got). g.value) o))
 
 one_given-is : (text : List ℕ) → option_map given_values (one_from text) ≡ one_given (read_value text)
 unfolding one_from
 one_given-is text = refl
 
-kept_small : (v : ValueData) (short : Bool) → given_values (where_true short (one_value v)) ≡ cond short (Some (gets.Values (one_value v))) None
+kept_small : (v : ValueData) (short : Bool) → given_values (cond short (Within (one_value v)) Over) ≡ cond short (Within (gets.Values (one_value v))) Over
 kept_small v true = refl
 kept_small v false = refl
 
-one_is : (v : Option ValueData) → given_values (v >>= one_kept) ≡ set_value v
-one_is None = refl
-one_is (Some v) = kept_small v (is_short v)
+one_is : (v : Limited ValueData) → given_values (limited_then one_kept v) ≡ set_value v
+one_is Over = refl
+one_is (Within v) = kept_small v (is_short v)
 
-abbrev some_value : Kind → Option ValueData → Option Got
+abbrev some_value : Kind → Limited ValueData → Option Got
 some_value kind value = Some (record { kind = kind; value = value })
 
-abbrev GivesOne : Option Got → Option Given → Type 0
-GivesOne o g = (kind : Kind) × (value : Option ValueData) × (o ≡ some_value kind value) × (g ≡ set_value value)
+abbrev GivesOne : Option Got → Limited Given → Type 0
+GivesOne o g = (kind : Kind) × (value : Limited ValueData) × (o ≡ some_value kind value) × (g ≡ set_value value)
 
-some_given : (kind : Kind) (value : Option ValueData) → one_given (some_value kind value) ≡ Some (set_value value)
-some_given kind value = ap (λ (g : Option Given). Some g) (one_is value)
+some_given : (kind : Kind) (value : Limited ValueData) → one_given (some_value kind value) ≡ Some (set_value value)
+some_given kind value = ap (λ (g : Limited Given). Some g) (one_is value)
 
-one_gives : (o : Option Got) (g : Option Given) → GivesOne o g → one_given o ≡ Some g
-one_gives o g h = ap one_given h.2 ∙ some_given h.0 h.1 ∙ ap (λ (x : Option Given). Some x) (sym h.3)
+one_gives : (o : Option Got) (g : Limited Given) → GivesOne o g → one_given o ≡ Some g
+one_gives o g h = ap one_given h.2 ∙ some_given h.0 h.1 ∙ ap (λ (x : Limited Given). Some x) (sym h.3)
 
-gives_one : (o : Option Got) (g : Option Given) → one_given o ≡ Some g → GivesOne o g
+gives_one : (o : Option Got) (g : Limited Given) → one_given o ≡ Some g → GivesOne o g
 gives_one None g e = absurd cc
 gives_one (Some read) g e =
     (read.kind, read.value, refl, sym (same_Some (set_value read.value) g (sym (some_given read.kind read.value) ∙ e)))
 
-pub one_is_read : (text : List ℕ) (g : Option Given) → IsOne text g ↔ (option_map given_values (one_from text) ≡ Some g)
+pub one_is_read : (text : List ℕ) (g : Limited Given) → IsOne text g ↔ (option_map given_values (one_from text) ≡ Some g)
 one_is_read text g = (
   λ h. one_given-is text ∙ one_gives (read_value text) g h,
   λ e. gives_one (read_value text) g (sym (one_given-is text) ∙ e),
 )
 
 -- ---- numbers of a kind
-abbrev number_in : Kind → Option Got → Option Number
-number_in kind o = option_map (λ (g : Got). g.value) o >>= λ v. v >>= number_of_kind kind
+abbrev number_got : Kind → Option Got → Option Number
+number_got kind o = option_map (λ (g : Got). g.value) o >>= number_in kind
 
-number_in-is : (kind : Kind) (text : List ℕ) → number_from kind text ≡ number_in kind (read_value text)
+number_got-is : (kind : Kind) (text : List ℕ) → number_from kind text ≡ number_got kind (read_value text)
 unfolding number_from
-number_in-is kind text = refl
+number_got-is kind text = refl
 
 number_again : (x : Number) → number_of (number_value x) ≡ Some x
 number_again (n.Int8 x) = refl
@@ -431,26 +437,26 @@ number_found kind x is =
     let same : is_same_kind (number_kind x) kind ≡ true = eq-eqb (code_of_kind (number_kind x)) (code_of_kind kind) (ap code_of_kind is) in
     rw (number_again x, same) refl
 
-number_gives : (o : Option Got) (kind : Kind) (x : Number) → IsNumber o kind x → number_in kind o ≡ Some x
-number_gives o kind x h = ap (number_in kind) h.0 ∙ number_found kind x h.1
+number_gives : (o : Option Got) (kind : Kind) (x : Number) → IsNumber o kind x → number_got kind o ≡ Some x
+number_gives o kind x h = ap (number_got kind) h.0 ∙ number_found kind x h.1
 
-value_gives : (kind told : Kind) (v : ValueData) (x : Number) → Holds 16 told v → number_of_kind kind v ≡ Some x → IsNumber (some_value told (Some v)) kind x
+value_gives : (kind told : Kind) (v : ValueData) (x : Number) → Holds 16 told v → number_of_kind kind v ≡ Some x → IsNumber (some_value told (Within v)) kind x
 value_gives kind told v x fine e =
     let s = bind_some (number_of v) (λ m. where_true (is_same_kind (number_kind m) kind) m) x e in
     let t = cond_some (is_same_kind (number_kind s.0) kind) s.0 x s.2 in
     let is : v ≡ number_value x = number_is v s.0 s.1 ∙ ap number_value t.1 in
     let kind_is : kind_of (number_value x) ≡ kind = ap kind_of (ap number_value (sym t.1)) ∙ same_kind-is (number_kind s.0) kind t.0 in
-    (ap (λ (k : Kind). some_value k (Some v)) (sym fine.kind_is) ∙ ap (λ (w : ValueData). Some (got w)) is, kind_is)
+    (ap (λ (k : Kind). some_value k (Within v)) (sym fine.kind_is) ∙ ap (λ (w : ValueData). Some (got w)) is, kind_is)
 
-gives_number : (o : Option Got) (kind : Kind) (x : Number) → IfSome o (IsFine 16) → number_in kind o ≡ Some x → IsNumber o kind x
+gives_number : (o : Option Got) (kind : Kind) (x : Number) → IfSome o (IsFine 16) → number_got kind o ≡ Some x → IsNumber o kind x
 gives_number None kind x fine e = absurd cc
 gives_number (Some read) kind x fine e = by_value read.kind read.value fine e where
-  by_value : (told : Kind) (value : Option ValueData) → IfSome value (Holds 16 told) → (value >>= number_of_kind kind) ≡ Some x → IsNumber (some_value told value) kind x
-  by_value told None fine e = absurd cc
-  by_value told (Some v) fine e = value_gives kind told v x fine e
+  by_value : (told : Kind) (value : Limited ValueData) → IfWithin value (Holds 16 told) → number_in kind value ≡ Some x → IsNumber (some_value told value) kind x
+  by_value told Over fine e = absurd cc
+  by_value told (Within v) fine e = value_gives kind told v x fine e
 
 pub number_is_read : (kind : Kind) (text : List ℕ) (x : Number) → ((read_value text ≡ Some (got (number_value x))) × (kind_of (number_value x) ≡ kind)) ↔ (number_from kind text ≡ Some x)
 number_is_read kind text x = (
-  λ h. number_in-is kind text ∙ number_gives (read_value text) kind x h,
-  λ e. gives_number (read_value text) kind x (read_fine text) (sym (number_in-is kind text) ∙ e),
+  λ h. number_got-is kind text ∙ number_gives (read_value text) kind x h,
+  λ e. gives_number (read_value text) kind x (read_fine text) (sym (number_got-is kind text) ∙ e),
 )

@@ -14,7 +14,9 @@ use Rattle.ak_base.specs.declared.code.Code.{Code}
 use Rattle.ak_base.proofs.Surface.{hex_found, quoted_found, bind_some, cond_some, some_is}
 use Rattle.ak_message.specs.declared.kind.Kind.TheVariants as k
 use Rattle.ak_message.specs.Message.{text_value}
-use Rattle.ak_base.specs.Option.{where_true}
+use Rattle.ak_base.specs.Option.{where_true, ◌>>=◌}
+use Rattle.ak_base.specs.declared.limited.Limited.{Limited}
+use Rattle.ak_base.specs.declared.limited.Limited.TheVariants.{Within, Over}
 use Rattle.ak_message.specs.Payload.{raw_from, unquoted}
 use Rattle.ak_message.specs.Reading.{Got, got, over, code_from, text_from, text_of}
 use Rattle.ak_message.proofs.Surface.{code_again, raws_take}
@@ -124,14 +126,20 @@ text_got_of word g e =
     let s = bind_some (unquoted word) (λ bytes. text_of bytes) g e in
     text_forms s.0 g (is_utf8 s.0) (leb (length s.0) 1024) (not (list_any (λ b. b == 0) s.0)) s.2
 
-pub text_takes : (word : List ℕ) (text : Option (List ℕ)) → quoted_from word ≡ Some text → WritesText word text
+abbrev text_of_got : Got → Option (Limited (List ℕ))
+text_of_got g = text_in g.value
+
+abbrev quoted_of : Option Got → Option (Limited (List ℕ))
+quoted_of o = o >>= λ g. text_of_got g
+
+pub text_takes : (word : List ℕ) (text : Limited (List ℕ)) → quoted_from word ≡ Some text → WritesText word text
 text_takes word text e =
-    let m = mapped_some text_in (text_from word) text e in
+    let m = bind_some (text_from word) text_of_got text e in
     ⊎_elim
-    (λ (f : (bytes : List ℕ) × (m.0 ≡ got (text_value bytes))). subst (λ (t : Option (List ℕ)). WritesText word t) (sym (ap text_in f.1) ∙ m.2) (m.1 ∙ ap (λ (g : Got). done g) f.1))
-    (λ (f : m.0 ≡ over k.Text). subst (λ (t : Option (List ℕ)). WritesText word t) (sym (ap text_in f) ∙ m.2) (m.1 ∙ ap (λ (g : Got). done g) f))
+    (λ (f : (bytes : List ℕ) × (m.0 ≡ got (text_value bytes))). subst (λ (t : Limited (List ℕ)). WritesText word t) (some_is (Within f.0) text (sym (ap text_of_got f.1) ∙ m.2)) (m.1 ∙ ap (λ (g : Got). done g) f.1))
+    (λ (f : m.0 ≡ over k.Text). subst (λ (t : Limited (List ℕ)). WritesText word t) (some_is Over text (sym (ap text_of_got f) ∙ m.2)) (m.1 ∙ ap (λ (g : Got). done g) f))
     (text_got_of word m.0 m.1)
 
-pub text_again : (word : List ℕ) (text : Option (List ℕ)) → WritesText word text → quoted_from word ≡ Some text
-text_again word (Some text) is = ap (λ (o : Option Got). option_map text_in o) is
-text_again word None is = ap (λ (o : Option Got). option_map text_in o) is
+pub text_again : (word : List ℕ) (text : Limited (List ℕ)) → WritesText word text → quoted_from word ≡ Some text
+text_again word (Within text) is = ap quoted_of is
+text_again word Over is = ap quoted_of is

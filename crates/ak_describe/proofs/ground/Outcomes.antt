@@ -2,6 +2,10 @@
 use Rattle.std.proofs.Common.{◌≡◌, ◌-◌, Bool, true, false, if◌then◌else◌, List, length, set, Option, Some, None, option_map, Result, Ok, Err, refl, sym, ap, ◌∙◌}
 use Rattle.ak_base.specs.declared.ending.RefusalKind.{RefusalKind}
 use Rattle.ak_base.specs.Option.{where_true, ◌>>=◌}
+use Rattle.ak_base.specs.declared.limited.Limited.{Limited}
+use Rattle.ak_base.specs.declared.limited.Limited.TheVariants.{Within, Over}
+use Rattle.ak_base.specs.Limited.{limited_map}
+use Rattle.ak_describe.specs.Made.{limited_then}
 use Rattle.ak_describe.specs.Pass.{judged, last_item, with_item, on_item, on_last, or_bad, or_limit, then_read}
 
 -- ---- of options
@@ -30,6 +34,41 @@ pub mapped : {A B : Type 0} (o : Option A) (f : A → B) (y : B) → option_map 
 mapped None f y e = absurd cc
 mapped (Some x) f y e = record { value = x; is = refl; then_is = cc }
 
+-- ---- of what passes no limit
+pub same_within : {A : Type 0} (x y : A) → Within x ≡ Within y → x ≡ y
+same_within x y e = cc
+
+pub within_is : {A : Type 0} (test : Bool) (x y : A) → (if test then Within x else Over) ≡ Within y → (test ≡ true) × (x ≡ y)
+within_is true x y e = (refl, cc)
+within_is false x y e = absurd cc
+
+pub record BoundWithin {A B : Type 0} (o : Limited A) (f : A → Limited B) (y : B) : Type 0 where
+  pub value : A
+  pub is : o ≡ Within value
+  pub then_is : f value ≡ Within y
+
+pub bound_within : {A B : Type 0} (o : Limited A) (f : A → Limited B) (y : B) → limited_then f o ≡ Within y → BoundWithin o f y
+bound_within Over f y e = absurd cc
+bound_within (Within x) f y e = record { value = x; is = refl; then_is = e }
+
+pub record MappedWithin {A B : Type 0} (o : Limited A) (f : A → B) (y : B) : Type 0 where
+  pub value : A
+  pub is : o ≡ Within value
+  pub then_is : f value ≡ y
+
+pub mapped_within : {A B : Type 0} (o : Limited A) (f : A → B) (y : B) → limited_map f o ≡ Within y → MappedWithin o f y
+mapped_within Over f y e = absurd cc
+mapped_within (Within x) f y e = record { value = x; is = refl; then_is = cc }
+
+pub record Kept {A B : Type 0} (o : Limited A) (f : A → Result B RefusalKind) (y : B) : Type 0 where
+  pub value : A
+  pub is : o ≡ Within value
+  pub then_is : f value ≡ Ok y
+
+pub not_over : {A B : Type 0} (o : Limited A) (f : A → Result B RefusalKind) (y : B) → or_limit o f ≡ Ok y → Kept o f y
+not_over Over f y e = absurd cc
+not_over (Within x) f y e = record { value = x; is = refl; then_is = e }
+
 -- ---- of what a line makes
 pub record Taken {A B : Type 0} (o : Option A) (f : A → Result B RefusalKind) (y : B) : Type 0 where
   pub value : A
@@ -39,10 +78,6 @@ pub record Taken {A B : Type 0} (o : Option A) (f : A → Result B RefusalKind) 
 pub not_bad : {A B : Type 0} (o : Option A) (f : A → Result B RefusalKind) (y : B) → or_bad o f ≡ Ok y → Taken o f y
 not_bad None f y e = absurd cc
 not_bad (Some x) f y e = record { value = x; is = refl; then_is = e }
-
-pub not_over : {A B : Type 0} (o : Option A) (f : A → Result B RefusalKind) (y : B) → or_limit o f ≡ Ok y → Taken o f y
-not_over None f y e = absurd cc
-not_over (Some x) f y e = record { value = x; is = refl; then_is = e }
 
 pub allowed : {A : Type 0} (in_use has_room : Bool) (next y : A) → judged in_use has_room next ≡ Ok y → (in_use ≡ false) × (has_room ≡ true) × (next ≡ y)
 allowed true has_room next y e = absurd cc

@@ -1,13 +1,11 @@
 -- The message of the written values of a template, as it grows field by field.
-use Rattle.std.proofs.Common.{◌≡◌, ◌≢◌, ℕ, ◌+◌, ◌<◌, ◌≤◌, false, List, [], ◌∷◌, ◌++◌, length, take, get_or, None, refl, sym, ap, subst, ◌∙◌, append_assoc, true, arith}
+use Rattle.std.proofs.Common.{◌≡◌, ◌≢◌, ℕ, ◌+◌, ◌<◌, ◌≤◌, List, [], ◌∷◌, ◌++◌, length, take, get_or, None, refl, sym, ap, subst, ◌∙◌, append_assoc, true, arith}
 use Rattle.std.specs.List.{All, AllPairs}
-use Rattle.std.proofs.lemmas.Bool.{false_from_ne_true}
 use Rattle.std.proofs.lemmas.List.{append-nil, length-append, length-take, take_more, get_or-take, get_or_default}
 use Rattle.std.proofs.lemmas.List.Elements.{All-head, All-tail}
-use Rattle.std.proofs.lemmas.Slice.Eq.{bytes_eq-Decides}
 use Rattle.ak_base.specs.Word.{is_word}
-use Rattle.ak_message.specs.Message.{ValueData, FieldData, kind_of}
-use Rattle.ak_message.specs.Fields.{is_named, field_named}
+use Rattle.ak_message.specs.Message.{ValueData, FieldData}
+use Rattle.ak_message.specs.Fields.{field_named}
 use Rattle.ak_action.specs.declared.template.TemplateField.{TemplateField}
 use Rattle.ak_action.specs.Building.{HasRoomFor, field_of_values}
 use Rattle.ak_action.specs.Template.{AreTemplateFields}

@@ -3,6 +3,8 @@ use Rattle.std.proofs.Common.{◌≡◌, ◌≢◌, ℕ, ◌-◌, ◌<◌, ◌�
 use Rattle.std.proofs.lemmas.Bool.{and_from, and_parts}
 use Rattle.std.proofs.lemmas.Bool.Decides.{Decides-ltb, Decides-eqb}
 use Rattle.std.proofs.lemmas.Slice.Eq.{bytes_eq-Decides}
+use Rattle.ak_base.specs.declared.limited.Limited.{Limited}
+use Rattle.ak_base.specs.declared.limited.Limited.TheVariants.{Within, Over}
 use Rattle.ak_base.specs.declared.code.Code.{Code}
 use Rattle.ak_base.specs.declared.ending.RefusalKind.{RefusalKind}
 use Rattle.ak_base.specs.declared.ending.RefusalKind.TheVariants as refusal
@@ -33,10 +35,10 @@ use Rattle.ak_describe.specs.Named.{need_of_filter, need_of_action}
 use Rattle.ak_describe.specs.Parts.{RowData, LooperData, AppData, opened, has_path, looper_named, row_named, property_named, has_reaction}
 use Rattle.ak_describe.specs.Pass.{State, or_bad, or_limit, then_read, judged, last_item, loopers_in, open_looper, new_app, new_looper, least_capacity, new_property, new_reaction, property_added, element_added, element_in, element_kept, element_line, action_added, with_action, added_form, bare, looper_line, looper_in, in_last_app, in_last_row, carry_in_looper, carry_in_row, carry}
 use Rattle.ak_describe.specs.Says as says
-use Rattle.ak_describe.specs.Says.{Form, says_app, says_looper, says_hook, says_prefer, says_common, says_handler, says_next, says_suite, says_filter, says_property, says_element, says_on, says_action, open_row, properties_in, open_properties, least_of, MayStand, HasLooper, HasRow, HasReaction, IsInUse, RowHas, LooperHas, PropertyHas, ReactionHas, reactions_in, IsThere, IsWithin, with_changed, usage_of, with_form, names_in}
+use Rattle.ak_describe.specs.Says.{Form, says_app, says_looper, says_hook, says_prefer, says_common, says_handler, says_next, says_suite, says_filter, says_property, says_element, says_on, says_action, open_row, properties_in, open_properties, least_of, MayStand, HasLooper, HasRow, HasReaction, IsInUse, RowHas, LooperHas, PropertyHas, ReactionHas, reactions_in, IsKept, IsWithin, with_changed, usage_of, with_form, names_in}
 use Rattle.ak_describe.specs.Words.{first_of, ends, only_name, only_code, coded}
 use Rattle.ak_describe.proofs.grammar.Properties.{value_is_read}
-use Rattle.ak_describe.proofs.grammar.Values.{Holds, IsFine, read_fine}
+use Rattle.ak_describe.proofs.grammar.Values.{IfWithin, Holds, IsFine, read_fine}
 use Rattle.ak_describe.proofs.ground.Ends.{last_there, changed_is}
 use Rattle.ak_describe.proofs.ground.Outcomes.{where_is}
 use Rattle.ak_describe.proofs.lines.Judging.{Judged, is_twice, is_over, is_done, over, placed, judged_over, judged_is, never, decides_room, last_over, then_over, put_looper, put_row, app_carried, judged_looper, app_row_carried, judged_row}
@@ -168,12 +170,12 @@ module _ (s : State) (a : AppData) (l : LooperData) (is_app : last_item s.apps �
         (judged_is false (not (length row.filters == 32)) (record row { filters = row.filters ++ f ∷ [] }) (need_of_filter f) never
         (in_row_at (not (length row.filters == 32)) (λ r. length r.filters < 32) (decides_room (length row.filters) 32 le)))
 
-    property_judged : (p : PropertyForm) (U W : Type 0) (u w : Bool) (usage : Option (List ℕ)) → Decides u U → Decides w W
-        → Judged U (IsThere usage × W) RowData (record row { properties = row.properties ++ new_property p (usage_of usage) ∷ [] }) None
+    property_judged : (p : PropertyForm) (U W : Type 0) (u w : Bool) (usage : Limited (List ℕ)) → Decides u U → Decides w W
+        → Judged U (IsKept usage × W) RowData (record row { properties = row.properties ++ new_property p (usage_of usage) ∷ [] }) None
         (if u then Err refusal.NameInUse else or_limit usage (λ (text : List ℕ). judged false w (record row { properties = row.properties ++ new_property p text ∷ [] }, None)))
     property_judged p U W true w usage du dw = is_twice (du.0 refl) refl
-    property_judged p U W false w None du dw = is_over (λ h. let wrong = du.1 h in absurd cc) (λ h. h.0) refl
-    property_judged p U W false w (Some text) du dw =
+    property_judged p U W false w Over du dw = is_over (λ h. let wrong = du.1 h in absurd cc) (λ h. h.0) refl
+    property_judged p U W false w (Within text) du dw =
         judged_is false w (record row { properties = row.properties ++ new_property p text ∷ [] }) None du (λ e. (tt, dw.0 e), λ h. dw.1 h.1)
 
     property_by : (o : Option PropertyForm)
@@ -183,7 +185,7 @@ module _ (s : State) (a : AppData) (l : LooperData) (is_app : last_item s.apps �
     property_by (Some p) =
         let U : Type 0 = Any (λ (q : PropertyParts). q.row.name ≡ p.name) (open_properties s) in
         let W : Type 0 = RowHas (open_row s) (λ r. length r.properties < 64) in
-        judged_row s.apps a l is_app is_looper row is_row U (IsThere p.usage × W) (λ (r : RowData). record r { properties = r.properties ++ new_property p (usage_of p.usage) ∷ [] }) None
+        judged_row s.apps a l is_app is_looper row is_row U (IsKept p.usage × W) (λ (r : RowData). record r { properties = r.properties ++ new_property p (usage_of p.usage) ∷ [] }) None
         (if is_some (property_named row.properties p.name) then Err refusal.NameInUse else property_added row p p.usage)
         (property_judged p U W (is_some (property_named row.properties p.name)) (nat_lt (length row.properties) 64) p.usage
         (subst (λ (o : Option RowData). Decides (is_some (property_named row.properties p.name)) (Any (λ (q : PropertyParts). q.row.name ≡ p.name) (properties_in o))) (sym is_open_row)
@@ -215,7 +217,7 @@ module _ (s : State) (a : AppData) (l : LooperData) (is_app : last_item s.apps �
       abbrev put_property : PropertyParts → RowData
       put_property left = record row { properties = slice_set row.properties (length row.properties - 1) left }
 
-      element_changed : (x : Option (List ℕ × ValueData)) → record row { properties = with_changed (says.element_added x) row.properties } ≡ put_property (says.element_added x p)
+      element_changed : (x : Limited (List ℕ × ValueData)) → record row { properties = with_changed (says.element_added x) row.properties } ≡ put_property (says.element_added x p)
       element_changed x = ap (λ (ps : List PropertyParts). record row { properties = ps }) (changed_is (says.element_added x) row.properties p is_property)
 
       room_decides : Decides (has_room p.elements) (length p.elements.list < 64)
@@ -225,7 +227,7 @@ module _ (s : State) (a : AppData) (l : LooperData) (is_app : last_item s.apps �
       )
 
       element_judged : (W : Type 0) (same room : Bool) (x : List ℕ × ValueData) → same ≡ true → Decides room W
-          → Judged ⊥ (Unit {0} × W) PropertyParts (says.element_added (Some x) p) None
+          → Judged ⊥ (Unit {0} × W) PropertyParts (says.element_added (Within x) p) None
           (element_kept (if same then (if room then None else Some fault.ElementLimit) else Some fault.BadType) (record p { elements = with_last p.elements x.0 x.1 }, None))
       element_judged W true true x is d = is_done (λ h. h) (tt, d.0 refl) refl
       element_judged W true false x is d = is_over (λ h. h) (λ h. let wrong = d.1 h.1 in absurd cc) refl
@@ -234,20 +236,20 @@ module _ (s : State) (a : AppData) (l : LooperData) (is_app : last_item s.apps �
       last_property : last_item (open_properties s) ≡ Some p
       last_property = ap (λ (o : Option RowData). last_item (properties_in o)) is_open_row ∙ is_property
 
-      element_by : (o : Option (Option (List ℕ × ValueData))) → ((x : List ℕ × ValueData) → o ≡ Some (Some x) → kind_of x.1 ≡ p.row.kind)
-          → CarriedBy s (option_map says_element o) (over (put_row s.apps a l) (over put_property (or_bad o (λ (read : Option (List ℕ × ValueData)). or_limit read (element_added p)))))
+      element_by : (o : Option (Limited (List ℕ × ValueData))) → ((x : List ℕ × ValueData) → o ≡ Some (Within x) → kind_of x.1 ≡ p.row.kind)
+          → CarriedBy s (option_map says_element o) (over (put_row s.apps a l) (over put_property (or_bad o (λ (read : Limited (List ℕ × ValueData)). or_limit read (element_added p)))))
       element_by None kind = refl
-      element_by (Some None) kind = is_over (λ h. h) (λ h. h.0) refl
-      element_by (Some (Some x)) kind =
+      element_by (Some Over) kind = is_over (λ h. h) (λ h. h.0) refl
+      element_by (Some (Within x)) kind =
           let W : Type 0 = PropertyHas (last_item (open_properties s)) (λ q. length q.elements.list < 64) in
           let room : Decides (has_room p.elements) W = subst (λ (o : Option PropertyParts). Decides (has_room p.elements) (PropertyHas o (λ q. length q.elements.list < 64))) (sym last_property) room_decides in
           let same : p.elements.kind ≡ kind_of x.1 = fits.same_kind ∙ sym (kind x refl) in
           let alike : is_same_kind p.elements.kind (kind_of x.1) ≡ true = subst (λ (k : Kind). is_same_kind p.elements.kind k ≡ true) same (eq-eqb _ _ refl) in
           let part = element_judged W (is_same_kind p.elements.kind (kind_of x.1)) (has_room p.elements) x alike room in
-          judged_row s.apps a l is_app is_looper row is_row ⊥ (Unit {0} × W) (λ (r : RowData). record r { properties = with_changed (says.element_added (Some x)) r.properties }) None
+          judged_row s.apps a l is_app is_looper row is_row ⊥ (Unit {0} × W) (λ (r : RowData). record r { properties = with_changed (says.element_added (Within x)) r.properties }) None
           (over put_property (element_added p x))
-          (subst (λ (done : RowData). Judged ⊥ (Unit {0} × W) RowData done None (over put_property (element_added p x))) (sym (element_changed (Some x)))
-          (judged_over put_property (says.element_added (Some x) p) None (element_added p x) part))
+          (subst (λ (done : RowData). Judged ⊥ (Unit {0} × W) RowData done None (over put_property (element_added p x))) (sym (element_changed (Within x)))
+          (judged_over put_property (says.element_added (Within x) p) None (element_added p x) part))
 
       element_line_is : (words : List (List ℕ)) → element_line row words ≡ over put_property (element_in p words)
       element_line_is words =
@@ -260,7 +262,7 @@ module _ (s : State) (a : AppData) (l : LooperData) (is_app : last_item s.apps �
       abbrev put_reaction : Reaction → RowData
       put_reaction left = record row { reactions = slice_set row.reactions (length row.reactions - 1) left }
 
-      action_changed : (x : Option Action) → record row { reactions = with_changed (says.action_added x) row.reactions } ≡ put_reaction (says.action_added x reaction)
+      action_changed : (x : Limited Action) → record row { reactions = with_changed (says.action_added x) row.reactions } ≡ put_reaction (says.action_added x reaction)
       action_changed x = ap (λ (rs : List Reaction). record row { reactions = rs }) (changed_is (says.action_added x) row.reactions reaction is_reaction)
 
       last_reaction : last_item (reactions_in (open_row s)) ≡ Some reaction
@@ -273,58 +275,58 @@ module _ (s : State) (a : AppData) (l : LooperData) (is_app : last_item s.apps �
           ∙ then_over (λ (rs : List Reaction). record row { reactions = rs }) (slice_set row.reactions (length row.reactions - 1)) (with_action act reaction)
 
       action_judged : (W : Type 0) (room : Bool) (act : Action) → Decides room W
-          → Judged ⊥ (Unit {0} × W) Reaction (says.action_added (Some act) reaction) (need_of_action act) (judged false room (record reaction { actions = reaction.actions ++ act ∷ [] }, need_of_action act))
+          → Judged ⊥ (Unit {0} × W) Reaction (says.action_added (Within act) reaction) (need_of_action act) (judged false room (record reaction { actions = reaction.actions ++ act ∷ [] }, need_of_action act))
       action_judged W room act d = judged_is false room (record reaction { actions = reaction.actions ++ act ∷ [] }) (need_of_action act) never (λ e. (tt, d.0 e), λ h. d.1 h.1)
 
-      action_done : (act : Action) → CarriedBy s (Some (says_action (Some act))) (over (put_row s.apps a l) (over put_reaction (with_action act reaction)))
+      action_done : (act : Action) → CarriedBy s (Some (says_action (Within act))) (over (put_row s.apps a l) (over put_reaction (with_action act reaction)))
       action_done act =
           let W : Type 0 = ReactionHas (last_item (reactions_in (open_row s))) (λ r. length r.actions < 16) in
           let room : Decides (not (length reaction.actions == 16)) W =
           subst (λ (o : Option Reaction). Decides (not (length reaction.actions == 16)) (ReactionHas o (λ r. length r.actions < 16))) (sym last_reaction) (decides_room (length reaction.actions) 16 le) in
-          judged_row s.apps a l is_app is_looper row is_row ⊥ (Unit {0} × W) (λ (r : RowData). record r { reactions = with_changed (says.action_added (Some act)) r.reactions }) (need_of_action act)
+          judged_row s.apps a l is_app is_looper row is_row ⊥ (Unit {0} × W) (λ (r : RowData). record r { reactions = with_changed (says.action_added (Within act)) r.reactions }) (need_of_action act)
           (over put_reaction (with_action act reaction))
-          (subst (λ (done : RowData). Judged ⊥ (Unit {0} × W) RowData done (need_of_action act) (over put_reaction (with_action act reaction))) (sym (action_changed (Some act)))
-          (judged_over put_reaction (says.action_added (Some act) reaction) (need_of_action act) (with_action act reaction) (action_judged W (not (length reaction.actions == 16)) act room)))
+          (subst (λ (done : RowData). Judged ⊥ (Unit {0} × W) RowData done (need_of_action act) (over put_reaction (with_action act reaction))) (sym (action_changed (Within act)))
+          (judged_over put_reaction (says.action_added (Within act) reaction) (need_of_action act) (with_action act reaction) (action_judged W (not (length reaction.actions == 16)) act room)))
 
-      action_by : (o : Option (Option Action)) → CarriedBy s (option_map says_action o) (over (put_row s.apps a l) (then_read (or_bad o (λ (x : Option Action). Ok x)) (λ (read : Option Action). or_limit read (action_added row))))
+      action_by : (o : Option (Limited Action)) → CarriedBy s (option_map says_action o) (over (put_row s.apps a l) (then_read (or_bad o (λ (x : Limited Action). Ok x)) (λ (read : Limited Action). or_limit read (action_added row))))
       action_by None = refl
-      action_by (Some None) = is_over (λ h. h) (λ h. h.0) refl
-      action_by (Some (Some act)) =
-          carried_at s (Some (says_action (Some act))) (over (put_row s.apps a l) (action_added row act)) (over (put_row s.apps a l) (over put_reaction (with_action act reaction)))
+      action_by (Some Over) = is_over (λ h. h) (λ h. h.0) refl
+      action_by (Some (Within act)) =
+          carried_at s (Some (says_action (Within act))) (over (put_row s.apps a l) (action_added row act)) (over (put_row s.apps a l) (over put_reaction (with_action act reaction)))
           (ap (over (put_row s.apps a l)) (action_added_is act)) (action_done act)
 
       same_properties : open_properties s ≡ row.properties
       same_properties = ap properties_in is_open_row
 
-      action_key : (read : List PropertyParts → Option (Option Action)) → CarriedBy s (option_map says_action (read (open_properties s))) (over (put_row s.apps a l) (then_read (or_bad (read row.properties) (λ (x : Option Action). Ok x)) (λ (x : Option Action). or_limit x (action_added row))))
+      action_key : (read : List PropertyParts → Option (Limited Action)) → CarriedBy s (option_map says_action (read (open_properties s))) (over (put_row s.apps a l) (then_read (or_bad (read row.properties) (λ (x : Limited Action). Ok x)) (λ (x : Limited Action). or_limit x (action_added row))))
       action_key read =
-          subst (λ (ps : List PropertyParts). CarriedBy s (option_map says_action (read ps)) (over (put_row s.apps a l) (then_read (or_bad (read row.properties) (λ (x : Option Action). Ok x)) (λ (x : Option Action). or_limit x (action_added row)))))
+          subst (λ (ps : List PropertyParts). CarriedBy s (option_map says_action (read ps)) (over (put_row s.apps a l) (then_read (or_bad (read row.properties) (λ (x : Limited Action). Ok x)) (λ (x : Limited Action). or_limit x (action_added row)))))
           (sym same_properties) (action_by (read row.properties))
 
 -- ---- what is read of an element is of the property's kind
-abbrev second_of : {A B : Type 0} → Option (A × B) → Option B
-second_of None = None
-second_of (Some p) = Some p.1
+abbrev second_of : {A B : Type 0} → Limited (A × B) → Limited B
+second_of Over = Over
+second_of (Within p) = Within p.1
 
-both_some : {A B : Type 0} (x : Option A) (y : Option B) (z : A × B) → both x y ≡ Some z → y ≡ Some z.1
-both_some None y z e = absurd cc
-both_some (Some x) None z e = absurd cc
-both_some (Some x) (Some y) z e = ap second_of e
+both_within : {A B : Type 0} (x : Limited A) (y : Limited B) (z : A × B) → both x y ≡ Within z → y ≡ Within z.1
+both_within Over y z e = absurd cc
+both_within (Within x) Over z e = absurd cc
+both_within (Within x) (Within y) z e = ap second_of e
 
-kind_of_read : (kind : Kind) (word : List ℕ) (o : Option ValueData) (v : ValueData) → value_of_kind kind word ≡ Some o → o ≡ Some v → kind_of v ≡ kind
+kind_of_read : (kind : Kind) (word : List ℕ) (o : Limited ValueData) (v : ValueData) → value_of_kind kind word ≡ Some o → o ≡ Within v → kind_of v ≡ kind
 kind_of_read kind word o v e is =
     let fine = subst (λ (g : Option Got). IfSome g (IsFine 16)) ((value_is_read kind word o).1 e) (read_fine word) in
-    let held : Holds 16 kind v = subst (λ (x : Option ValueData). IfSome x (Holds 16 kind)) is fine in
+    let held : Holds 16 kind v = subst (λ (x : Limited ValueData). IfWithin x (Holds 16 kind)) is fine in
     held.kind_is
 
-pub kind_of_element : (kind : Kind) (words : List (List ℕ)) (x : List ℕ × ValueData) → element_form kind words ≡ Some (Some x) → kind_of x.1 ≡ kind
+pub kind_of_element : (kind : Kind) (words : List (List ℕ)) (x : List ℕ × ValueData) → element_form kind words ≡ Some (Within x) → kind_of x.1 ≡ kind
 unfolding element_form
 kind_of_element kind words x e =
-    let word = bind_some (first_of words) _ (Some x) e in
-    let value = bind_some (value_of_kind kind word.0.0) _ (Some x) word.2 in
-    let name = bind_some (text_behind word.0.1 (codes "name")) _ (Some x) value.2 in
-    let kept = where_is (ends name.0.1) (both name.0.0 value.0) (Some x) name.2 in
-    kind_of_read kind word.0.0 value.0 x.1 value.1 (both_some name.0.0 value.0 x kept.1)
+    let word = bind_some (first_of words) _ (Within x) e in
+    let value = bind_some (value_of_kind kind word.0.0) _ (Within x) word.2 in
+    let name = bind_some (text_behind word.0.1 (codes "name")) _ (Within x) value.2 in
+    let kept = where_is (ends name.0.1) (both name.0.0 value.0) (Within x) name.2 in
+    kind_of_read kind word.0.0 value.0 x.1 value.1 (both_within name.0.0 value.0 x kept.1)
 
 -- ---- each line
 -- the parts that are open
@@ -378,9 +380,9 @@ element_carried s words h is =
     (subst (λ (o : Option PropertyParts). CarriedBy s (element_read o words) (over put (over (left p.row) (element_in q.0 words)))) (sym (last_property s p.app p.looper p.is_app p.is_looper p.row p.is_row q.0 q.1 q.2))
     (element_by s p.app p.looper p.is_app p.is_looper p.row p.is_row q.0 q.1 q.2 (element_form q.0.row.kind words) (λ x e. kind_of_element q.0.row.kind words x e))))
 
-action_carried : (s : State) (keyword : Keyword) (words : List (List ℕ)) (read : List PropertyParts → Option (Option Action)) → StateFits s → s.after ≡ following.Action → carry s.apps keyword words ≡ in_last_app s.apps keyword words
+action_carried : (s : State) (keyword : Keyword) (words : List (List ℕ)) (read : List PropertyParts → Option (Limited Action)) → StateFits s → s.after ≡ following.Action → carry s.apps keyword words ≡ in_last_app s.apps keyword words
     → ((l : LooperData) → carry_in_looper l keyword words ≡ in_last_row l keyword words)
-    → ((row : RowData) → carry_in_row row keyword words ≡ then_read (or_bad (read row.properties) (λ (x : Option Action). Ok x)) (λ (x : Option Action). or_limit x (action_added row)))
+    → ((row : RowData) → carry_in_row row keyword words ≡ then_read (or_bad (read row.properties) (λ (x : Limited Action). Ok x)) (λ (x : Limited Action). or_limit x (action_added row)))
     → CarriedBy s (option_map says_action (read (open_properties s))) (carry s.apps keyword words)
 action_carried s keyword words read h is same inside line =
     let p = part_after s h (λ plain. cc (is, plain)) in
@@ -388,7 +390,7 @@ action_carried s keyword words read h is same inside line =
     let put : RowData → List AppData = put_row s.apps p.app p.looper in
     row_key s p.app p.looper p.is_app p.is_looper p.row p.is_row keyword words (option_map says_action (read (open_properties s))) same (inside p.looper)
     (carried_at s (option_map says_action (read (open_properties s))) (over put (carry_in_row p.row keyword words))
-    (over put (then_read (or_bad (read p.row.properties) (λ (x : Option Action). Ok x)) (λ (x : Option Action). or_limit x (action_added p.row))))
+    (over put (then_read (or_bad (read p.row.properties) (λ (x : Limited Action). Ok x)) (λ (x : Limited Action). or_limit x (action_added p.row))))
     (ap (over put) (line p.row))
     (action_key s p.app p.looper p.is_app p.is_looper p.row p.is_row r.0 r.1 r.2 read))
 

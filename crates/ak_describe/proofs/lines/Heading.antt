@@ -5,7 +5,6 @@ use Rattle.std.proofs.lemmas.List.{length_push}
 use Rattle.std.proofs.lemmas.List.Elements.{All-nil, All-push, All-set}
 use Rattle.std.proofs.lemmas.Option.{get_or_from_slice_get, slice_get_within}
 use Rattle.ak_base.specs.Word.{is_word}
-use Rattle.ak_filter.specs.declared.filter.Filter.{Filter}
 use Rattle.ak_describe.specs.declared.form.heads.AppForm.{AppForm}
 use Rattle.ak_describe.specs.declared.form.heads.LooperForm.{LooperForm}
 use Rattle.ak_describe.specs.declared.keyword.Keyword.{Keyword}
@@ -15,7 +14,7 @@ use Rattle.ak_describe.specs.Parts.{RowData, LooperData, AppData, opened}
 use Rattle.ak_describe.specs.Pass.{State, last_item, loopers_in, new_app, new_looper, new_property, new_reaction}
 use Rattle.ak_describe.specs.Says.{Form, says_app, says_looper, says_hook, says_prefer, says_common, says_handler, says_next, says_suite, says_filter, says_property, says_element, says_on, says_action, least_of, IsComplete, MayStand, Says, IsInUse, HasLooper, IsWithin, changed, with_changed, in_app, in_looper, usage_of, element_added, action_added, with_form}
 use Rattle.ak_base.specs.AppName.{is_path, is_signature}
-use Rattle.ak_describe.proofs.ground.Ends.{changed_get, get_push, last_there, last_within, length_changed, one_some, push_cases}
+use Rattle.ak_describe.proofs.ground.Ends.{changed_get, length_changed, one_some, push_cases}
 use Rattle.ak_describe.proofs.ground.Places.{all_there}
 
 -- ---- lists of which the last one changes, or that get one more

@@ -1,6 +1,8 @@
 -- What always holds of what is open stays so as lines are added.
 use Rattle.std.proofs.Common.{◌≡◌, ◌≢◌, ℕ, ◌<◌, ◌≤◌, true, List, [], ◌∷◌, ◌++◌, length, Option, Some, None, IfSome, option_map, refl, sym, ap, subst, ◌∙◌, arith}
 use Rattle.std.proofs.lemmas.List.{length_push}
+use Rattle.ak_base.specs.declared.limited.Limited.{Limited}
+use Rattle.ak_base.specs.declared.limited.Limited.TheVariants.{Within, Over}
 use Rattle.ak_base.specs.declared.code.Code.{Code}
 use Rattle.ak_filter.specs.declared.filter.Filter.{Filter}
 use Rattle.ak_message.specs.declared.kind.Kind.TheVariants as k
@@ -82,15 +84,15 @@ if_changed P change xs step h = subst (λ o. IfSome o P) (sym (last_changed chan
 new_property_fits : (p : PropertyForm) (usage : List ℕ) → p.kind ≢ k.Message → PropertyFits (new_property p usage)
 new_property_fits p usage other = record { kind_is = other; same_kind = refl; limit = omega arith; next_id = refl }
 
-element_fits : (e : Option (List ℕ × ValueData)) (p : PropertyParts) → length p.elements.list < 64 → PropertyFits p → PropertyFits (element_added e p)
-element_fits None p lt h = h
-element_fits (Some x) p lt h =
+element_fits : (e : Limited (List ℕ × ValueData)) (p : PropertyParts) → length p.elements.list < 64 → PropertyFits p → PropertyFits (element_added e p)
+element_fits Over p lt h = h
+element_fits (Within x) p lt h =
     let more = length_push p.elements.list (record { name = x.0; id = p.elements.next_id; value = x.1 }) in
     record { kind_is = h.kind_is; same_kind = h.same_kind; limit = omega (arith, more); next_id = omega (arith, more, h.next_id) }
 
-action_fits : (a : Option Action) (r : Reaction) → length r.actions < 16 → ReactionFits r → ReactionFits (action_added a r)
-action_fits None r lt h = h
-action_fits (Some a) r lt h = omega (arith, length_push r.actions a)
+action_fits : (a : Limited Action) (r : Reaction) → length r.actions < 16 → ReactionFits r → ReactionFits (action_added a r)
+action_fits Over r lt h = h
+action_fits (Within a) r lt h = omega (arith, length_push r.actions a)
 
 -- ---- what a line asks of the limits, of what is open
 looper_has : (o : Option LooperData) (l : LooperData) (P : LooperData → Type 0) → o ≡ Some l → LooperHas o P → P l
@@ -168,7 +170,7 @@ module _ (s : State) (l : LooperData) (h : StateFits s) (is : open_looper s.apps
         action = λ e. omega (arith, length_push fits.row.reactions (new_reaction code));
       })
 
-  element_kept : (e : Option (List ℕ × ValueData)) → s.after ≡ following.Element → PropertyHas (last_item (open_properties s)) (λ p. length p.elements.list < 64)
+  element_kept : (e : Limited (List ℕ × ValueData)) → s.after ≡ following.Element → PropertyHas (last_item (open_properties s)) (λ p. length p.elements.list < 64)
       → OpenFits (open_looper (with_form s.apps (says_element e))) following.Element
   element_kept e stands within =
       let last : (p : PropertyParts) → last_item fits.row.properties ≡ Some p → length p.elements.list < 64 =
@@ -182,7 +184,7 @@ module _ (s : State) (l : LooperData) (h : StateFits s) (is : open_looper s.apps
         action = λ x. absurd cc;
       })
 
-  action_kept : (a : Option Action) → s.after ≡ following.Action → ReactionHas (last_item (reactions_in (open_row s))) (λ r. length r.actions < 16)
+  action_kept : (a : Limited Action) → s.after ≡ following.Action → ReactionHas (last_item (reactions_in (open_row s))) (λ r. length r.actions < 16)
       → OpenFits (open_looper (with_form s.apps (says_action a))) following.Action
   action_kept a stands within =
       let last : (r : Reaction) → last_item fits.row.reactions ≡ Some r → length r.actions < 16 =
@@ -211,12 +213,12 @@ some_there : {X : Type 0} (xs : List X) → xs ≢ [] → 1 ≤ length xs
 some_there [] other = absurd (other refl)
 some_there (x ∷ xs) other = omega arith
 
-action_line_kept : (s : State) (form : Form) (a : Option Action) → StateFits s → s.after ≡ following.Action → form ≡ says_action a → IsWithin s form → OpenFits (open_looper (with_form s.apps form)) following.Action
+action_line_kept : (s : State) (form : Form) (a : Limited Action) → StateFits s → s.after ≡ following.Action → form ≡ says_action a → IsWithin s form → OpenFits (open_looper (with_form s.apps form)) following.Action
 action_line_kept s form a h is e within =
     let l = is_open_after (open_looper s.apps) s.after h (λ plain. cc (is, plain)) in
     by_form s form (says_action a) following.Action e (λ w. action_kept s l.0 h l.1 a is w.1) within
 
-element_line_kept : (s : State) (form : Form) (x : Option (List ℕ × ValueData)) → StateFits s → s.after ≡ following.Element → form ≡ says_element x → IsWithin s form → OpenFits (open_looper (with_form s.apps form)) following.Element
+element_line_kept : (s : State) (form : Form) (x : Limited (List ℕ × ValueData)) → StateFits s → s.after ≡ following.Element → form ≡ says_element x → IsWithin s form → OpenFits (open_looper (with_form s.apps form)) following.Element
 element_line_kept s form x h is e within =
     let l = is_open_after (open_looper s.apps) s.after h (λ plain. cc (is, plain)) in
     by_form s form (says_element x) following.Element e (λ w. element_kept s l.0 h l.1 x is w.1) within

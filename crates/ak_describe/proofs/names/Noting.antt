@@ -1,10 +1,12 @@
 -- Whom an action names is noted, at the place of the action; so where nothing is wrong with the names, each looper is there.
-use Rattle.std.proofs.Common.{◌≡◌, ◌⊎◌, ℕ, ◌+◌, ◌-◌, Bool, true, false, ◌||◌, List, [], ◌∷◌, ◌++◌, length, map, All, Any, Option, Some, None, option_map, bytes_eq, slice_get, refl, sym, ap, subst, ◌∙◌, inl, inr, arith}
+use Rattle.std.proofs.Common.{◌≡◌, ◌⊎◌, ℕ, ◌+◌, ◌-◌, Bool, true, false, ◌||◌, List, [], ◌∷◌, ◌++◌, length, map, All, Option, Some, None, option_map, bytes_eq, slice_get, refl, sym, ap, subst, ◌∙◌, inl, inr, arith}
 use Rattle.std.specs.List.{list_any, list_all}
 use Rattle.std.proofs.lemmas.Bool.{and_from}
 use Rattle.std.proofs.lemmas.List.Elements.{All-head, All-nil, All-push, All-tail, All-weaker}
 use Rattle.std.proofs.lemmas.List.Folds.{list_all-map}
 use Rattle.std.proofs.lemmas.Slice.Eq.{bytes_eq-Decides}
+use Rattle.ak_base.specs.declared.limited.Limited.{Limited}
+use Rattle.ak_base.specs.declared.limited.Limited.TheVariants.{Within, Over}
 use Rattle.ak_base.specs.declared.ending.RefusalKind.TheVariants as refusal
 use Rattle.ak_action.specs.declared.action.Action.{Action}
 use Rattle.ak_action.specs.declared.action.Action.TheVariants as action
@@ -23,7 +25,7 @@ use Rattle.ak_describe.specs.Parts.{RowData, LooperData, AppData, opened}
 use Rattle.ak_describe.specs.Pass.{last_item, loopers_in, open_looper_place, new_app, new_looper, new_name, new_property, new_reaction, with_need}
 use Rattle.ak_describe.specs.Says.{Form, says_app, says_looper, says_hook, says_prefer, says_common, says_handler, says_next, says_suite, says_filter, says_property, says_element, says_on, says_action, with_changed, in_app, in_looper, in_row, usage_of, element_added, action_added, with_form, names_in}
 use Rattle.ak_describe.specs.Whole.{looper_names}
-use Rattle.ak_describe.proofs.ground.Ends.{changed_get, get_before, get_push, last_changed, length_changed, one_some, push_cases}
+use Rattle.ak_describe.proofs.ground.Ends.{changed_get, get_before, get_push, last_changed, length_changed, push_cases}
 use Rattle.ak_describe.proofs.lines.Heading.{all_changed}
 use Rattle.ak_describe.proofs.ground.Places.{all_there}
 use Rattle.ak_describe.proofs.ground.Searching.{any_decides}
@@ -206,21 +208,21 @@ last_looper apps change i j h =
     let last : last_item (in_looper change apps) ≡ Some (inner h.app) = last_changed inner apps ∙ ap (option_map inner) h.last in
     ap (λ (o : Option AppData). length (loopers_in o) - 1) last ∙ omega (arith, h.looper, length_changed change h.app.loopers)
 
-abbrev with_action : Option Action → RowData → RowData
+abbrev with_action : Limited Action → RowData → RowData
 with_action a r = record r { reactions = with_changed (action_added a) r.reactions }
 
-action_line : (apps : List AppData) (names : List Named) (line : ℕ) (a : Action) (i j : ℕ) (r : RowData) → let more = with_need names (in_row (with_action (Some a)) apps) line (need_of_action a) in
-    IsLast apps i j → RowNoted more i j r → RowNoted more i j (with_action (Some a) r)
+action_line : (apps : List AppData) (names : List Named) (line : ℕ) (a : Action) (i j : ℕ) (r : RowData) → let more = with_need names (in_row (with_action (Within a)) apps) line (need_of_action a) in
+    IsLast apps i j → RowNoted more i j r → RowNoted more i j (with_action (Within a) r)
 action_line apps names line a i j r h noted =
-    let left = in_row (with_action (Some a)) apps in
+    let left = in_row (with_action (Within a)) apps in
     let more = with_need names left line (need_of_action a) in
-    let app : length left - 1 ≡ i = last_app apps (λ (x : AppData). record x { loopers = with_changed (λ (l : LooperData). record l { rows = with_changed (with_action (Some a)) l.rows }) x.loopers }) i j h in
-    let looper : open_looper_place left ≡ j = last_looper apps (λ (l : LooperData). record l { rows = with_changed (with_action (Some a)) l.rows }) i j h in
-    all_changed (λ (x : Reaction). ReactionNoted more i j x) (action_added (Some a)) r.reactions
+    let app : length left - 1 ≡ i = last_app apps (λ (x : AppData). record x { loopers = with_changed (λ (l : LooperData). record l { rows = with_changed (with_action (Within a)) l.rows }) x.loopers }) i j h in
+    let looper : open_looper_place left ≡ j = last_looper apps (λ (l : LooperData). record l { rows = with_changed (with_action (Within a)) l.rows }) i j h in
+    all_changed (λ (x : Reaction). ReactionNoted more i j x) (action_added (Within a)) r.reactions
     (λ x here actions. All-push (λ (y : Action). ActionNoted more i j y) x.actions a actions (action_noted names left line i j app looper a)) noted
 
 -- ---- each line
-noted_by : (apps : List AppData) (more : List Named) (form : Form) → AllNoted apps more → ((a : Action) → form ≡ says_action (Some a) → AllNoted (with_form apps form) more) → AllNoted (with_form apps form) more
+noted_by : (apps : List AppData) (more : List Named) (form : Form) → AllNoted apps more → ((a : Action) → form ≡ says_action (Within a) → AllNoted (with_form apps form) more) → AllNoted (with_form apps form) more
 noted_by apps more (says_app f) h act = app_noted more apps (new_app f) refl h
 noted_by apps more (says_looper f) h act = looper_noted more apps (new_looper f) (λ i j. All-push (λ (r : RowData). RowNoted more i j r) [] (opened f.name) (All-nil (λ (r : RowData). RowNoted more i j r)) (opened_noted more i j f.name)) h
 noted_by apps more says_hook h act = in_looper_noted more (λ (l : LooperData). record l { quit_refused = true }) apps (λ i j l last is. is) h
@@ -236,20 +238,20 @@ noted_by apps more (says_element x) h act = in_row_noted more (λ (r : RowData).
 noted_by apps more (says_on code) h act =
     in_row_noted more (λ (r : RowData). record r { reactions = r.reactions ++ new_reaction code ∷ [] }) apps
     (λ i j r last is. All-push (λ (x : Reaction). ReactionNoted more i j x) r.reactions (new_reaction code) is (All-nil (λ (a : Action). ActionNoted more i j a))) h
-noted_by apps more (says_action None) h act = in_row_noted more (with_action None) apps (λ i j r last is. all_changed (λ (x : Reaction). ReactionNoted more i j x) (action_added None) r.reactions (λ x here actions. actions) is) h
-noted_by apps more (says_action (Some a)) h act = act a refl
+noted_by apps more (says_action Over) h act = in_row_noted more (with_action Over) apps (λ i j r last is. all_changed (λ (x : Reaction). ReactionNoted more i j x) (action_added Over) r.reactions (λ x here actions. actions) is) h
+noted_by apps more (says_action (Within a)) h act = act a refl
 
 pub form_noted : (apps : List AppData) (names : List Named) (line : ℕ) (form : Form) → AllNoted apps names → AllNoted (with_form apps form) (with_need names (with_form apps form) line (names_in form))
 form_noted apps names line form h =
     let more = with_need names (with_form apps form) line (names_in form) in
     let old : AllNoted apps more = all_more names more (noted_more names (with_form apps form) line (names_in form)) apps h in
     noted_by apps more form old (λ a e. by_action a e) where
-      by_action : (a : Action) → form ≡ says_action (Some a) → AllNoted (with_form apps form) (with_need names (with_form apps form) line (names_in form))
+      by_action : (a : Action) → form ≡ says_action (Within a) → AllNoted (with_form apps form) (with_need names (with_form apps form) line (names_in form))
       by_action a e =
-          let left = in_row (with_action (Some a)) apps in
+          let left = in_row (with_action (Within a)) apps in
           let more = with_need names left line (need_of_action a) in
           let old : AllNoted apps more = all_more names more (noted_more names left line (need_of_action a)) apps h in
-          let new : AllNoted left more = in_row_noted more (with_action (Some a)) apps (λ i j r last is. action_line apps names line a i j r last is) old in
+          let new : AllNoted left more = in_row_noted more (with_action (Within a)) apps (λ i j r last is. action_line apps names line a i j r last is) old in
           subst (λ (f : Form). AllNoted (with_form apps f) (with_need names (with_form apps f) line (names_in f))) (sym e) new
 
 -- ---- what is noted is there, where nothing is wrong with the names

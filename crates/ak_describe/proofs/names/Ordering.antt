@@ -2,6 +2,7 @@
 use Rattle.std.proofs.Common.{◌≡◌, ◌≢◌, ◌⊎◌, true, ℕ, zero, suc, ◌+◌, ◌-◌, ◌<◌, ◌≤◌, List, [], ◌∷◌, ◌++◌, length, Option, Some, None, option_map, slice_get, refl, sym, ap, subst, ◌∙◌, ⊎_elim, inl, inr, arith}
 use Rattle.std.proofs.lemmas.List.{length_push}
 use Rattle.std.proofs.lemmas.Option.{slice_get_within}
+use Rattle.ak_base.specs.declared.limited.Limited.{Limited}
 use Rattle.ak_action.specs.declared.action.Action.{Action}
 use Rattle.ak_describe.specs.declared.form.heads.AppForm.{AppForm}
 use Rattle.ak_describe.specs.declared.form.heads.LooperForm.{LooperForm}
@@ -378,7 +379,7 @@ some_there : {X : Type 0} (xs : List X) → xs ≢ [] → 1 ≤ length xs
 some_there [] other = absurd (other refl)
 some_there (x ∷ xs) other = omega arith
 
-action_names_kept : (s : State) (line : ℕ) (a : Option Action) → StateFits s → s.after ≡ following.Action → NamesFit s.apps s.names → NamesKept s line (says_action a)
+action_names_kept : (s : State) (line : ℕ) (a : Limited Action) → StateFits s → s.after ≡ following.Action → NamesFit s.apps s.names → NamesKept s line (says_action a)
 action_names_kept s line a h is n =
     let l = is_open_after (open_looper s.apps) s.after h (λ plain. cc (is, plain)) in
     row_line_names (λ (r : RowData). record r { reactions = with_changed (action_added a) r.reactions }) s.apps s.names line (names_in (says_action a)) (λ r. refl) (counted s l.0 h l.1) n

@@ -15,6 +15,7 @@ use crate::named::{Need, need_of_action, need_of_filter};
 use crate::parts::{PropertyParts, RowParts, property_named};
 use crate::words::{ends, only_code, only_name};
 use ak_action::{Action, ActionList, REACTION_LIMIT, Reaction, SUITE_LIMIT};
+use ak_base::Limited;
 use ak_message::Word;
 use ak_property::{PropertyRow, ROW_LIMIT};
 use ak_value::Elements;
@@ -99,7 +100,7 @@ impl RowParts {
             forms,
             usage,
         } = form;
-        let Some(usage) = usage else {
+        let Limited::Within(usage) = usage else {
             return Err(LineFault::Limit);
         };
         if self.properties.len() >= ROW_LIMIT {
@@ -160,8 +161,8 @@ impl RowParts {
         ensures err { OnErr result (row_data self.new ≡ row_data self.old) }
     {
         match action_from(alloc, &self.properties, keyword, words)? {
-            Some(action) => self.add_action(action),
-            None => Err(LineFault::Limit),
+            Limited::Within(action) => self.add_action(action),
+            Limited::Over => Err(LineFault::Limit),
         }
     }
 
@@ -186,13 +187,13 @@ fn with_action(reaction: &mut Reaction, action: Action) -> Result<Option<Need>, 
     Ok(need)
 }
 
-// The action that a line writes, or `None` where it passes a limit.
+// The action that a line writes, where it passes no limit.
 fn action_from(
     alloc: Global,
     properties: &[PropertyParts],
     keyword: Keyword,
     words: &[Word],
-) -> Result<Option<Action>, LineFault>
+) -> Result<Limited<Action>, LineFault>
     ensures { Tells result (reads.action_from properties.now keyword (texts words.now)) }
 {
     match keyword {
@@ -211,19 +212,19 @@ fn added_form(
     alloc: Global,
     properties: &[PropertyParts],
     words: &[Word],
-) -> Result<Option<Action>, FormFault>
+) -> Result<Limited<Action>, FormFault>
     ensures { Gives (λ a. a) result (reads.added_form properties.now (texts words.now)) }
 {
     let action = add_form(alloc, properties, words)?;
-    Ok(Some(action))
+    Ok(Limited::Within(action))
 }
 
 // An action alone.
-fn bare(action: Action, words: &[Word]) -> Result<Option<Action>, FormFault>
+fn bare(action: Action, words: &[Word]) -> Result<Limited<Action>, FormFault>
     ensures { Gives (λ a. a) result (reads.bare action (texts words.now)) }
 {
     if ends(words) {
-        Ok(Some(action))
+        Ok(Limited::Within(action))
     } else {
         Err(FormFault::BadValue)
     }
@@ -236,11 +237,11 @@ impl PropertyParts {
         ensures err { OnErr result (self.new ≡ self.old) }
     {
         match element_form(alloc, self.row.kind, words)? {
-            Some((name, value)) => {
+            Limited::Within((name, value)) => {
                 self.elements.add(name, value)?;
                 Ok(None)
             }
-            None => Err(LineFault::Limit),
+            Limited::Over => Err(LineFault::Limit),
         }
     }
 }

@@ -1,4 +1,4 @@
-//! The lines of actions. Each reader answers `None` where a limit is passed.
+//! The lines of actions. Of an action that passes a limit nothing is kept.
 
 ghost use Rattle.std.specs.Prelude.{◌≡◌, option_map};
 ghost use Rattle.ak_describe.specs.Actions as reads;
@@ -13,7 +13,7 @@ use crate::form::values::{number_from, one_from};
 use crate::parts::{PropertyParts, property_named};
 use crate::words::{ends, first_of, last_of, name_of};
 use ak_action::{Action, Dest, Given, Template};
-use ak_base::Text;
+use ak_base::{Limited, Text};
 use ak_message::Word;
 use std::alloc::Global;
 
@@ -23,12 +23,12 @@ pub(crate) fn reply_form(
     alloc: Global,
     properties: &[PropertyParts],
     words: &[Word],
-) -> Result<Option<Action>, FormFault>
+) -> Result<Limited<Action>, FormFault>
     ensures { Gives (λ a. a) result (reads.reply_form properties.now (texts words.now)) }
 {
     match template_form(alloc, properties, words)? {
-        Some(message) => Ok(Some(Action::Reply { message })),
-        None => Ok(None),
+        Limited::Within(message) => Ok(Limited::Within(Action::Reply { message })),
+        Limited::Over => Ok(Limited::Over),
     }
 }
 
@@ -38,7 +38,7 @@ pub(crate) fn post_form(
     alloc: Global,
     properties: &[PropertyParts],
     words: &[Word],
-) -> Result<Option<Action>, FormFault>
+) -> Result<Limited<Action>, FormFault>
     ensures { Gives (λ a. a) result (reads.post_form properties.now (texts words.now)) }
 {
     let (to, words) = dest_at(alloc, words)?;
@@ -47,12 +47,12 @@ pub(crate) fn post_form(
     Ok(post_action(to, back, message))
 }
 
-fn post_action(to: Dest, back: bool, message: Option<Template>) -> Option<Action>
+fn post_action(to: Dest, back: bool, message: Limited<Template>) -> Limited<Action>
     ensures { result ≡ reads.post_action to back message }
 {
     match message {
-        Some(message) => Some(Action::Post { to, message, back }),
-        None => None,
+        Limited::Within(message) => Limited::Within(Action::Post { to, message, back }),
+        Limited::Over => Limited::Over,
     }
 }
 
@@ -76,7 +76,7 @@ pub(crate) fn ask_form(
     alloc: Global,
     properties: &[PropertyParts],
     words: &[Word],
-) -> Result<Option<Action>, FormFault>
+) -> Result<Limited<Action>, FormFault>
     ensures { Gives (λ a. a) result (reads.ask_form properties.now (texts words.now)) }
 {
     let (to, words) = dest_at(alloc, words)?;
@@ -88,12 +88,12 @@ pub(crate) fn ask_form(
     Ok(ask_action(to, into, message))
 }
 
-fn ask_action(to: Dest, into: Option<Text>, message: Option<Template>) -> Option<Action>
+fn ask_action(to: Dest, into: Option<Text>, message: Limited<Template>) -> Limited<Action>
     ensures { result ≡ reads.ask_action to into message }
 {
     match message {
-        Some(message) => Some(Action::Ask { to, message, into }),
-        None => None,
+        Limited::Within(message) => Limited::Within(Action::Ask { to, message, into }),
+        Limited::Over => Limited::Over,
     }
 }
 
@@ -145,7 +145,7 @@ pub(crate) fn set_form(
     alloc: Global,
     properties: &[PropertyParts],
     words: &[Word],
-) -> Result<Option<Action>, FormFault>
+) -> Result<Limited<Action>, FormFault>
     ensures { Gives (λ a. a) result (reads.set_form properties.now (texts words.now)) }
 {
     let (name, word) = two_words(words)?;
@@ -154,12 +154,12 @@ pub(crate) fn set_form(
     Ok(set_action(property, given))
 }
 
-fn set_action(property: Text, value: Option<Given>) -> Option<Action>
+fn set_action(property: Text, value: Limited<Given>) -> Limited<Action>
     ensures { result ≡ reads.set_action property value }
 {
     match value {
-        Some(value) => Some(Action::Set { property, value }),
-        None => None,
+        Limited::Within(value) => Limited::Within(Action::Set { property, value }),
+        Limited::Over => Limited::Over,
     }
 }
 
@@ -168,11 +168,11 @@ fn set_given(
     alloc: Global,
     properties: &[PropertyParts],
     word: &[u8],
-) -> Result<Option<Given>, FormFault>
+) -> Result<Limited<Given>, FormFault>
     ensures { Gives (λ g. g) result (reads.set_given properties.now word.now) }
 {
     if let Some(given) = copied_from(alloc, properties, word)? {
-        return Ok(Some(given));
+        return Ok(Limited::Within(given));
     }
     Ok(given_values(one_from(alloc, word)?))
 }

@@ -1,6 +1,7 @@
 //! The lines of properties and of their elements.
 
-ghost use Rattle.std.specs.Prelude.{◌≡◌, Some, option_map};
+ghost use Rattle.std.specs.Prelude.{◌≡◌, Some};
+ghost use Rattle.ak_base.specs.Limited.{limited_map};
 ghost use Rattle.ak_message.specs.Seen.{value_of};
 ghost use Rattle.ak_describe.specs.Answers.{Gives};
 ghost use Rattle.ak_describe.specs.Forms as reads;
@@ -10,21 +11,21 @@ ghost use Rattle.ak_describe.specs.Words.{texts, code_of, many};
 use crate::fault::FormFault;
 use crate::form::values::{quoted_from, value_of_kind};
 use crate::words::{behind, code_of, ends, first_of, kind_of, name_at, number_within};
-use ak_base::{Code, Items, Text};
+use ak_base::{Code, Items, Limited, Text};
 use ak_message::{Kind, Value, Word};
 use std::alloc::Global;
 
 // The last of the forms of specifiers.
 const FORM_LIMIT: u32 = 7;
 
-/// A property. `usage` is `None` where it passes a limit.
+/// A property. Where `usage` passes a limit, the rest is told without it.
 #[derive(Drop)]
 pub(crate) struct PropertyForm {
     pub name: Text,
     pub kind: Kind,
     pub commands: Items<Code>,
     pub forms: Items<u32>,
-    pub usage: Option<Text>,
+    pub usage: Limited<Text>,
 }
 
 /// `NAME KIND [commands CODE ...] [forms NUMBER ...] [usage TEXT]`
@@ -126,31 +127,30 @@ fn form_of(word: &[u8]) -> Option<u32>
     number_within(word, 1, FORM_LIMIT)
 }
 
-// The text behind that word, which is empty where the word does not stand here, and `None` where it passes a
-// limit.
+// The text behind that word, where it passes no limit. It is empty where the word does not stand here.
 fn text_behind<'a>(
     alloc: Global,
     words: &'a [Word],
     key: &[u8],
-) -> Result<(Option<Text>, &'a [Word]), FormFault>
+) -> Result<(Limited<Text>, &'a [Word]), FormFault>
     ensures { Gives read_and_rest result (reads.text_behind (texts words.now) key.now) }
 {
     let Some(rest) = behind(words, key) else {
-        return Ok((Some(Text::empty(alloc)?), words));
+        return Ok((Limited::Within(Text::empty(alloc)?), words));
     };
     let (word, rest) = first_of(rest)?;
     let text = quoted_from(alloc, word)?;
     Ok((text, rest))
 }
 
-/// `VALUE [name TEXT]`, the value of that kind. `None` where either passes a limit.
+/// `VALUE [name TEXT]`, the value of that kind: the name and the value, where neither passes a limit.
 #[tactic(auto, unfolding(crate::specs::Forms::element_form))]
 pub(crate) fn element_form(
     alloc: Global,
     kind: Kind,
     words: &[Word],
-) -> Result<Option<(Text, Value)>, FormFault>
-    ensures { Gives (option_map element_pair) result (reads.element_form kind (texts words.now)) }
+) -> Result<Limited<(Text, Value)>, FormFault>
+    ensures { Gives (limited_map element_pair) result (reads.element_form kind (texts words.now)) }
 {
     let (word, words) = first_of(words)?;
     let value = value_of_kind(alloc, kind, word)?;
@@ -161,8 +161,14 @@ pub(crate) fn element_form(
     Ok(both(name, value))
 }
 
-fn both(name: Option<Text>, value: Option<Value>) -> Option<(Text, Value)>
-    ensures { option_map element_pair result ≡ reads.both name (option_map value_of value) }
+fn both(name: Limited<Text>, value: Limited<Value>) -> Limited<(Text, Value)>
+    ensures { limited_map element_pair result ≡ reads.both name (limited_map value_of value) }
 {
-    Some((name?, value?))
+    let Limited::Within(name) = name else {
+        return Limited::Over;
+    };
+    let Limited::Within(value) = value else {
+        return Limited::Over;
+    };
+    Limited::Within((name, value))
 }

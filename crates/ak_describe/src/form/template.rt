@@ -14,30 +14,30 @@ use crate::words::{code_at, name_of};
 use ak_action::{
     Given, Template, TemplateFault, TemplateField, TemplateFields, Values, add_values,
 };
-use ak_base::{Code, NoMemory, Text};
+use ak_base::{Code, Limited, NoMemory, Text};
 use ak_flatten::{FLAT_LIMIT, flat_len};
 use ak_message::{Message, Word, split_field};
 use indexmap::IndexSet;
 use std::alloc::Global;
 
-/// The template, for a handler with these properties. `None` where it passes a limit.
+/// The template, for a handler with these properties. Nothing of it is kept where it passes a limit.
 #[tactic(auto, unfolding(crate::specs::Actions::template_form))]
 pub(crate) fn template_form(
     alloc: Global,
     properties: &[PropertyParts],
     words: &[Word],
-) -> Result<Option<Template>, FormFault>
+) -> Result<Limited<Template>, FormFault>
     ensures { Gives (λ t. t) result (reads.template_form properties.now (texts words.now)) }
 {
     let (what, words) = code_at(words)?;
     let begun = Building {
         names: IndexSet::new(alloc),
-        fields: Some(TemplateFields::new(alloc)),
+        fields: Limited::Within(TemplateFields::new(alloc)),
     };
     let Building { names: _, fields } = with_fields(alloc, properties, begun, words)?;
     match fields {
-        Some(fields) => Ok(short_template(alloc, what, fields)?),
-        None => Ok(None),
+        Limited::Within(fields) => Ok(short_template(alloc, what, fields)?),
+        Limited::Over => Ok(Limited::Over),
     }
 }
 
@@ -45,7 +45,7 @@ pub(crate) fn template_form(
 #[derive(Drop)]
 struct Building<'a> {
     names: IndexSet<&'a [u8]>,
-    fields: Option<TemplateFields>,
+    fields: Limited<TemplateFields>,
 }
 
 // With these fields more.
@@ -87,7 +87,7 @@ fn add<'a>(
     alloc: Global,
     building: Building<'a>,
     name: &'a [u8],
-    given: Option<Given>,
+    given: Limited<Given>,
 ) -> Result<Building<'a>, FormFault>
     ensures { Gives built_of result (reads.field_added (built_of building.entry) name.now given) }
 {
@@ -102,48 +102,48 @@ fn add<'a>(
 
 // The fields and one more, where they and it pass no limit.
 fn with_field(
-    fields: Option<TemplateFields>,
+    fields: Limited<TemplateFields>,
     name: Text,
-    given: Option<Given>,
-) -> Result<Option<TemplateFields>, FormFault>
+    given: Limited<Given>,
+) -> Result<Limited<TemplateFields>, FormFault>
     ensures { Gives (λ fs. fs) result (reads.with_field fields name given) }
 {
-    let Some(mut fields) = fields else {
-        return Ok(None);
+    let Limited::Within(mut fields) = fields else {
+        return Ok(Limited::Over);
     };
-    let Some(given) = given else {
-        return Ok(None);
+    let Limited::Within(given) = given else {
+        return Ok(Limited::Over);
     };
     match fields.add(TemplateField { name, given }) {
-        Ok(()) => Ok(Some(fields)),
-        Err(TemplateFault::FieldLimit) => Ok(None),
+        Ok(()) => Ok(Limited::Within(fields)),
+        Err(TemplateFault::FieldLimit) => Ok(Limited::Over),
         Err(TemplateFault::NoMemory) => Err(FormFault::NoMemory),
         Err(TemplateFault::BadName | TemplateFault::NameInUse) => Err(FormFault::BadValue),
     }
 }
 
-/// What a field gets: `$NAME` alone, `@NAME` alone, or values. `None` where they pass a limit.
+/// What a field gets: `$NAME` alone, `@NAME` alone, or values, where they pass no limit.
 #[tactic(auto, unfolding(crate::specs::Actions::given_from))]
 fn given_from(
     alloc: Global,
     properties: &[PropertyParts],
     text: &[u8],
-) -> Result<Option<Given>, FormFault>
+) -> Result<Limited<Given>, FormFault>
     ensures { Gives (λ g. g) result (reads.given_from properties.now text.now) }
 {
     if let Some(given) = copied_from(alloc, properties, text)? {
-        return Ok(Some(given));
+        return Ok(Limited::Within(given));
     }
     Ok(given_values(values_from(alloc, text)?))
 }
 
 /// The values as what a field gets.
-pub(crate) fn given_values(values: Option<Values>) -> Option<Given>
+pub(crate) fn given_values(values: Limited<Values>) -> Limited<Given>
     ensures { result ≡ reads.given_values values }
 {
     match values {
-        Some(values) => Some(Given::Values(values)),
-        None => None,
+        Limited::Within(values) => Limited::Within(Given::Values(values)),
+        Limited::Over => Limited::Over,
     }
 }
 
@@ -201,14 +201,14 @@ fn short_template(
     alloc: Global,
     what: Code,
     fields: TemplateFields,
-) -> Result<Option<Template>, NoMemory>
+) -> Result<Limited<Template>, NoMemory>
     ensures { IfOk result (λ t. t ≡ reads.short_template what fields) }
 {
     let message = written(alloc, what, &fields)?;
     if flat_len(&message) <= FLAT_LIMIT as u64 {
-        Ok(Some(Template { what, fields }))
+        Ok(Limited::Within(Template { what, fields }))
     } else {
-        Ok(None)
+        Ok(Limited::Over)
     }
 }
 

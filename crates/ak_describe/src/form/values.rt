@@ -1,6 +1,8 @@
 //! Values, and what of them passes a limit.
 
 ghost use Rattle.std.specs.Prelude.{◌≡◌, None, Some, option_map};
+ghost use Rattle.ak_base.specs.declared.limited.Limited.TheVariants.{Within};
+ghost use Rattle.ak_base.specs.Limited.{limited_map};
 ghost use Rattle.ak_message.specs.Seen.{value_of};
 ghost use Rattle.ak_describe.specs.Answers.{Gives};
 ghost use Rattle.ak_describe.specs.Faults as faults;
@@ -9,33 +11,33 @@ ghost use Rattle.ak_describe.specs.Seen.{values_seen};
 
 use crate::fault::FormFault;
 use ak_action::{Number, Values, ValuesFault};
-use ak_base::Text;
+use ak_base::{Limited, Text};
 use ak_flatten::{FLAT_LIMIT, flat_len};
 use ak_message::{Kind, ParseFault, Value, read_quoted, read_value, read_values};
 use std::alloc::Global;
 
-/// What was read, or `None` where it passes a limit.
-fn kept<T>(read: Result<T, ParseFault>) -> Result<Option<T>, FormFault>
+/// What was read, where it passes no limit.
+fn kept<T>(read: Result<T, ParseFault>) -> Result<Limited<T>, FormFault>
     ensures { result ≡ faults.kept read }
 {
     match read {
-        Ok(got) => Ok(Some(got)),
-        Err(ParseFault::Limit) => Ok(None),
+        Ok(got) => Ok(Limited::Within(got)),
+        Err(ParseFault::Limit) => Ok(Limited::Over),
         Err(ParseFault::BadValue) => Err(FormFault::BadValue),
         Err(ParseFault::NoMemory) => Err(FormFault::NoMemory),
     }
 }
 
 /// A text in quotes.
-pub(crate) fn quoted_from(alloc: Global, word: &[u8]) -> Result<Option<Text>, FormFault>
+pub(crate) fn quoted_from(alloc: Global, word: &[u8]) -> Result<Limited<Text>, FormFault>
     ensures { Gives (λ t. t) result (reads.quoted_from word.now) }
 {
     kept(read_quoted(alloc, word))
 }
 
 // The value that a word writes.
-fn value_from(alloc: Global, word: &[u8]) -> Result<Option<Value>, FormFault>
-    ensures { Gives (option_map value_of) result (reads.value_from word.now) }
+fn value_from(alloc: Global, word: &[u8]) -> Result<Limited<Value>, FormFault>
+    ensures { Gives (limited_map value_of) result (reads.value_from word.now) }
 {
     kept(read_value(alloc, word))
 }
@@ -46,8 +48,8 @@ pub(crate) fn value_of_kind(
     alloc: Global,
     kind: Kind,
     word: &[u8],
-) -> Result<Option<Value>, FormFault>
-    ensures { Gives (option_map value_of) result (reads.value_of_kind kind word.now) }
+) -> Result<Limited<Value>, FormFault>
+    ensures { Gives (limited_map value_of) result (reads.value_of_kind kind word.now) }
 {
     let value = value_from(alloc, word)?;
     if kind_read(&value, word) == kind {
@@ -58,12 +60,12 @@ pub(crate) fn value_of_kind(
 }
 
 // The kind of what a word writes.
-fn kind_read(value: &Option<Value>, word: &[u8]) -> Kind
-    ensures { result ≡ reads.kind_read (option_map value_of value.now) word.now }
+fn kind_read(value: &Limited<Value>, word: &[u8]) -> Kind
+    ensures { result ≡ reads.kind_read (limited_map value_of value.now) word.now }
 {
     match value {
-        Some(value) => value.kind(),
-        None => kind_over(word),
+        Limited::Within(value) => value.kind(),
+        Limited::Over => kind_over(word),
     }
 }
 
@@ -82,16 +84,26 @@ fn kind_over(word: &[u8]) -> Kind
 
 /// The values of a field, all of one kind.
 #[tactic(auto, unfolding(crate::specs::Made::values_from))]
-pub(crate) fn values_from(alloc: Global, text: &[u8]) -> Result<Option<Values>, FormFault>
+pub(crate) fn values_from(alloc: Global, text: &[u8]) -> Result<Limited<Values>, FormFault>
     ensures { Gives (λ v. v) result (reads.values_from text.now) }
 {
     match kept(read_values(alloc, text))? {
-        Some(values) => values_of(alloc, values),
-        None => Ok(None),
+        Limited::Within(values) => some_values(values_of(alloc, values)?),
+        Limited::Over => Ok(Limited::Over),
     }
 }
 
-// Values that one field may hold.
+// One value or more.
+fn some_values(values: Option<Values>) -> Result<Limited<Values>, FormFault>
+    ensures { Gives (λ v. v) result (option_map Within values) }
+{
+    match values {
+        Some(values) => Ok(Limited::Within(values)),
+        None => Err(FormFault::BadValue),
+    }
+}
+
+// Values that one field may hold; `None` where there are none.
 #[tactic(auto, unfolding(crate::specs::Made::values_of))]
 fn values_of(alloc: Global, values: Vec<Value>) -> Result<Option<Values>, FormFault>
     ensures { Gives (λ v. v) result (reads.values_of None (values_seen values.items)) }
@@ -129,23 +141,23 @@ fn held<T>(outcome: Result<T, ValuesFault>) -> Result<T, FormFault>
 
 /// One value alone, of any kind.
 #[tactic(auto, unfolding(crate::specs::Made::one_from))]
-pub(crate) fn one_from(alloc: Global, word: &[u8]) -> Result<Option<Values>, FormFault>
+pub(crate) fn one_from(alloc: Global, word: &[u8]) -> Result<Limited<Values>, FormFault>
     ensures { Gives (λ v. v) result (reads.one_from word.now) }
 {
     match value_from(alloc, word)? {
-        Some(value) => one_kept(alloc, value),
-        None => Ok(None),
+        Limited::Within(value) => one_kept(alloc, value),
+        Limited::Over => Ok(Limited::Over),
     }
 }
 
 // The value, where it is no message that is too long. It may be one that no field can hold.
-fn one_kept(alloc: Global, value: Value) -> Result<Option<Values>, FormFault>
+fn one_kept(alloc: Global, value: Value) -> Result<Limited<Values>, FormFault>
     ensures { Gives (λ v. v) result (Some (reads.one_kept (value_of value))) }
 {
     if !is_short(&value) {
-        return Ok(None);
+        return Ok(Limited::Over);
     }
-    Ok(Some(Values::alone(alloc, value)?))
+    Ok(Limited::Within(Values::alone(alloc, value)?))
 }
 
 fn is_short(value: &Value) -> bool
@@ -162,7 +174,7 @@ fn is_short(value: &Value) -> bool
 pub(crate) fn number_from(alloc: Global, kind: Kind, word: &[u8]) -> Result<Number, FormFault>
     ensures { Gives (λ n. n) result (reads.number_from kind word.now) }
 {
-    let Some(value) = value_from(alloc, word)? else {
+    let Limited::Within(value) = value_from(alloc, word)? else {
         return Err(FormFault::BadValue);
     };
     match number_of_kind(kind, &value) {

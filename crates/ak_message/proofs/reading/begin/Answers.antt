@@ -2,9 +2,11 @@ use Rattle.std.proofs.Common.{◌≡◌, ℕ, Bool, true, false, not, cond, List
 use Rattle.std.specs.Prelude.{map}
 use Rattle.std.specs.List.{list_any}
 use Rattle.std.specs.Str.{bytes_eq}
+use Rattle.std.proofs.lemmas.Bool.{not-false, not-true}
 use Rattle.std.proofs.lemmas.List.{map-append}
 use Rattle.ak_message.specs.Message.{MessageData}
 use Rattle.ak_base.specs.Option.{where_true}
+use Rattle.ak_base.specs.declared.limited.Limited.{Limited}
 use Rattle.ak_message.specs.Reading.{Built}
 use Rattle.ak_message.specs.ReadSeen.{seen}
 use Rattle.ak_message.proofs.reading.begin.Goals as goal
@@ -14,21 +16,13 @@ any_seen : (name : List ℕ) (names : List (Bor (List ℕ))) → list_any (bytes
 any_seen name [] = refl
 any_seen name (first ∷ names) = rw (any_seen name names) refl
 
-is_used : (t : Bool) → not t ≡ false → t ≡ true
-is_used true h = refl
-is_used false h = absurd cc
-
-is_new : (t : Bool) → not t ≡ true → t ≡ false
-is_new true h = absurd cc
-is_new false h = refl
-
-abbrev some_built : List (List ℕ) → Option MessageData → Option Built
+abbrev some_built : List (List ℕ) → Limited MessageData → Option Built
 some_built names message = Some (record { names = names; message = message })
 
 pub returns-then-branch : goal.returns-then-branch
 returns-then-branch c =
     let new : list_any (λ (other : Bor (List ℕ)). bytes_eq c.args.name.now other.now) c.args.building.names.keys ≡ false =
-    is_new _ (sym c.in_ok-insert.ensures.added ∙ c.if-branch.true) in
+    not-true _ (sym c.in_ok-insert.ensures.added ∙ c.if-branch.true) in
     let keys : c.insert.new.self.keys ≡ c.args.building.names.keys ++ c.args.name ∷ [] =
     c.in_ok-insert.ensures.keys ∙ ap (λ (t : Bool). cond t c.args.building.names.keys (c.args.building.names.keys ++ c.args.name ∷ [])) new in
     let names : map seen c.args.building.names.keys ++ c.args.name.now ∷ [] ≡ map seen c.insert.new.self.keys =
@@ -39,5 +33,5 @@ returns-then-branch c =
 pub returns : goal.returns
 returns c =
     let used : list_any (λ (other : Bor (List ℕ)). bytes_eq c.args.name.now other.now) c.args.building.names.keys ≡ true =
-    is_used _ (sym c.in_ok-insert.ensures.added ∙ c.if-branch.false) in
+    not-false _ (sym c.in_ok-insert.ensures.added ∙ c.if-branch.false) in
     ap (λ (t : Bool). where_true (not t) (record { names = map seen c.args.building.names.keys ++ c.args.name.now ∷ []; message = c.args.building.message })) (any_seen c.args.name.now c.args.building.names.keys ∙ used)

@@ -1,10 +1,12 @@
 -- The names as the set holds them, and as they are seen.
-use Rattle.std.proofs.Common.{◌≡◌, ℕ, Bool, true, false, not, ◌||◌, cond, List, [], ◌∷◌, ◌++◌, Bor, Option, Some, None, refl, sym, ap, ap₂, ◌∙◌}
+use Rattle.std.proofs.Common.{◌≡◌, ℕ, Bool, true, false, ◌||◌, cond, List, [], ◌∷◌, ◌++◌, Bor, Option, Some, None, refl, sym, ap, ap₂, ◌∙◌}
 use Rattle.std.specs.Prelude.{map}
 use Rattle.std.specs.List.{list_any}
 use Rattle.std.specs.Str.{bytes_eq}
 use Rattle.std.specs.Cmp.Lexicographic.{nat_list_eq_equiv}
+use Rattle.std.proofs.lemmas.Bool.{not-false, not-true}
 use Rattle.std.proofs.lemmas.List.{map-append}
+use Rattle.ak_base.specs.declared.limited.Limited.{Limited}
 use Rattle.ak_action.specs.declared.template.TemplateField.{TemplateField}
 use Rattle.ak_describe.specs.Actions.{Built, has_name, named_too}
 use Rattle.ak_describe.specs.Seen.{seen, built_of}
@@ -14,27 +16,19 @@ any_seen : (names : List (Bor (List ℕ))) (name : List ℕ) → has_name (map s
 any_seen [] name = refl
 any_seen (first ∷ names) name = ap₂ ◌||◌ (nat_list_eq_equiv.symm first.now name) (any_seen names name)
 
-is_used : (t : Bool) → not t ≡ false → t ≡ true
-is_used true h = refl
-is_used false h = absurd cc
-
-is_new : (t : Bool) → not t ≡ true → t ≡ false
-is_new true h = absurd cc
-is_new false h = refl
-
-abbrev some_built : List (List ℕ) → Option (List TemplateField) → Option Built
+abbrev some_built : List (List ℕ) → Limited (List TemplateField) → Option Built
 some_built names fields = Some (record { names = names; fields = fields })
 
 pub returns-then-not-branch : goal.returns-then-not-branch
 returns-then-not-branch c =
     let used : list_any (λ (other : Bor (List ℕ)). bytes_eq c.args.name.now other.now) c.args.building.names.keys ≡ true =
-    is_used _ (sym c.in_ok-insert.ensures.added ∙ c.if-not-branch.true) in
+    not-false _ (sym c.in_ok-insert.ensures.added ∙ c.if-not-branch.true) in
     ap (λ (t : Bool). cond t None (named_too (built_of c.args.building) c.args.name.now c.args.given)) (any_seen c.args.building.names.keys c.args.name.now ∙ used)
 
 pub returns : goal.returns
 returns c =
     let new : list_any (λ (other : Bor (List ℕ)). bytes_eq c.args.name.now other.now) c.args.building.names.keys ≡ false =
-    is_new _ (sym c.in_ok-insert.ensures.added ∙ c.if-not-branch.false) in
+    not-true _ (sym c.in_ok-insert.ensures.added ∙ c.if-not-branch.false) in
     let keys : c.insert.new.self.keys ≡ c.args.building.names.keys ++ c.args.name ∷ [] =
     c.in_ok-insert.ensures.keys ∙ ap (λ (t : Bool). cond t c.args.building.names.keys (c.args.building.names.keys ++ c.args.name ∷ [])) new in
     let names : map seen c.args.building.names.keys ++ c.args.name.now ∷ [] ≡ map seen c.insert.new.self.keys =
