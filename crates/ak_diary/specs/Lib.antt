@@ -1,5 +1,6 @@
 pub mod Diary
 pub mod Histories
+pub mod Laws
 pub mod Looper
 pub mod Step
 pub mod Turns

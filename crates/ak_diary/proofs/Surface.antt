@@ -1,0 +1,2 @@
+-- What the layers above may cite of these proofs: they name this file alone.
+pub use Rattle.ak_diary.proofs.Quiet.{IsQuiet, IsServing, all_serving, are_quiet, handed-append, quiet_at_no_desk, quiet_calls, quiet_hand_nothing, serving_not_short, settles_quiet}
