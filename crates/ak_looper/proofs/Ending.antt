@@ -24,7 +24,7 @@ use Rattle.ak_looper.specs.Rosters.{RosterSeat}
 use Rattle.ak_looper.specs.Stands.{BookStands, DeskStands, DoorStands, GoesOn, PortStands, RosterStands, Stands}
 use Rattle.ak_looper.specs.Ways.{KeepsPlaces}
 use Rattle.ak_looper.proofs.Going.{keeps_seat_on}
-use Rattle.ak_looper.proofs.Quiet.{IsServing, are_quiet, quiet_at_no_desk, serving_not_short}
+use Rattle.ak_diary.proofs.Surface.{IsServing, are_quiet, quiet_at_no_desk, serving_not_short}
 use Rattle.ak_looper.proofs.Tallies.{desk-append, none_in_hand, short-append}
 use Rattle.ak_diary.specs.Diary.{by_quit, by_team, ending_of, without_memory}
 use Rattle.ak_diary.specs.Looper.{LooperFacts, desk_list, doors_got, in_hand, last_quits}

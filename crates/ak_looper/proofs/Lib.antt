@@ -16,7 +16,6 @@ pub mod Lives
 pub mod Nexts
 pub mod Opening
 pub mod Paying
-pub mod Quiet
 pub mod RosterStands
 pub mod RosterSteps
 pub mod RosterTurns

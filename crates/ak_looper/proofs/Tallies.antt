@@ -17,7 +17,7 @@ use Rattle.ak_desk.specs.Machine.{counted, dispatches}
 use Rattle.ak_desk.proofs.Surface.{counted_push}
 use Rattle.ak_diary.specs.Looper.{LooperFacts, calls_for_closing, desk_list, dispatched_in, in_hand, is_closing, taken_in}
 use Rattle.ak_diary.specs.Step.{Step, at_roster, at_book, at_port, at_desk, saw_roster, saw_book, saw_port, lacked, desk_entries, desk_entry, is_lack, port_entries, port_entry, ran_short}
-use Rattle.ak_looper.proofs.Quiet.{IsQuiet, handed-append, quiet_at_no_desk, quiet_hand_nothing}
+use Rattle.ak_diary.proofs.Surface.{IsQuiet, handed-append, quiet_at_no_desk, quiet_hand_nothing}
 
 -- ---- of steps in two parts
 pub taken-append : (l : LooperFacts) (xs ys : List Step) → taken_in l (xs ++ ys) ≡ taken_in l xs ++ handed_by (port_entries l.number ys)

@@ -29,7 +29,7 @@ use Rattle.ak_diary.specs.Looper.{LooperFacts, desk_list, dispatched_in, ends_it
 use Rattle.ak_diary.specs.Step.{Step, at_desk, lacked, desk_entries, ran_short}
 use Rattle.ak_diary.specs.Turns.{Carried, GivenUp, IsDispatch, lacked_if}
 use Rattle.ak_diary.specs.Turns as turns
-use Rattle.ak_looper.proofs.Quiet.{IsQuiet, IsServing, all_serving, are_quiet, quiet_calls, serving_not_short, settles_quiet}
+use Rattle.ak_diary.proofs.Surface.{IsQuiet, IsServing, all_serving, are_quiet, quiet_calls, serving_not_short, settles_quiet}
 use Rattle.ak_looper.proofs.Tallies.{closing-append, desk_list_more, desk_quiet, dispatched_more, not_short, short-append, taken-append, taken_quiet}
 
 -- the last things of two lists that are the same
