@@ -1,15 +1,14 @@
 -- A turn at the looper's desk: where it begins, and what it leaves.
-use Rattle.std.proofs.Common.{◌≡◌, ◌≢◌, ℕ, cond, false, List, [], ◌∷◌, ◌++◌, Option, Some, IsSomeAnd, refl, sym, ap, ◌∙◌, subst, inr, append-nil, eq-eqb, ne_eqb}
+use Rattle.std.proofs.Common.{◌≡◌, ℕ, cond, false, List, [], ◌∷◌, ◌++◌, Option, Some, IsSomeAnd, refl, sym, ap, ◌∙◌, subst, inr, eq-eqb}
 use Rattle.std.proofs.lemmas.List.Concat.{flat_map-append}
-use Rattle.std.proofs.lemmas.List.Elements.{All-head, All-tail, filter-append}
 use Rattle.ak_base.specs.Thread.{looper_thread}
 use Rattle.ak_flatten.specs.declared.item.Taken.{Taken}
 use Rattle.ak_turn.specs.Called.{KeepsSeat}
-use Rattle.ak_turn.specs.Entries.{AreByOthers, made_by}
+use Rattle.ak_turn.specs.Entries.{made_by}
 use Rattle.ak_turn.specs.Noted.{Noted, note, noted}
 use Rattle.ak_turn.specs.Seats as seats
 use Rattle.ak_turn.specs.Seats.{IsGiven, at_leisure, at_turn, entered_by, later}
-use Rattle.ak_turn.proofs.Surface.{noted-others, noted-own}
+use Rattle.ak_turn.proofs.Surface.{noted-others, noted-own, still_made}
 use Rattle.ak_action.specs.declared.state.DeskState.{DeskState}
 use Rattle.ak_desk.specs.Desk.{DeskData}
 use Rattle.ak_desk.specs.Entry.{EntryData}
@@ -27,23 +26,11 @@ use Rattle.ak_looper.specs.Stands.{DeskStands, GoesOn, IsStanding, Stands}
 use Rattle.ak_looper.proofs.ServedElsewhere.{serves_all}
 
 -- ---- where it begins
-made_by-others : (thread : ℕ) (entries : List EntryData) → AreByOthers by_number thread entries → made_by by_number thread entries ≡ []
-made_by-others thread [] others = refl
-made_by-others thread (x ∷ xs) others =
-    ap (λ b. cond b (x ∷ made_by by_number thread xs) (made_by by_number thread xs)) (ne_eqb (by_number x) thread (All-head (λ entry. by_number entry ≢ thread) x xs others))
-    ∙ made_by-others thread xs (All-tail (λ entry. by_number entry ≢ thread) x xs others)
-
--- with the turn the thread has made what it had made before
-still_made : (seat given : DeskSeat) → IsGiven by_number seat given → made_by by_number seat.thread given.front ≡ made_by by_number seat.thread seat.front
-still_made seat given seen =
-    let made = made_by by_number seat.thread in
-    ap (λ (s : DeskSeat). made s.front) seen.after ∙ filter-append _ seat.front seen.between ∙ ap (λ l. made seat.front ++ l) (made_by-others seat.thread seen.between seen.others) ∙ append-nil (made seat.front)
-
--- so the message is still the next one
+-- with the turn the message is still the next one
 pub still_next : (taken : Taken) (thread : ℕ) (entries : List EntryData) (seat given : DeskSeat) → IsGiven by_number seat given → entries ≡ given.front → seat.thread ≡ thread → IsNext taken seat.thread seat.front → IsNext taken thread entries
 still_next taken thread entries seat given seen list same next =
     let made : made_by by_number seat.thread seat.front ≡ made_by by_number thread entries =
-    sym (still_made seat given seen) ∙ ap (λ (l : List EntryData). made_by by_number seat.thread l) (sym list) ∙ ap (λ (t : ℕ). made_by by_number t entries) same in
+    sym (still_made by_number seat given seen) ∙ ap (λ (l : List EntryData). made_by by_number seat.thread l) (sym list) ∙ ap (λ (t : ℕ). made_by by_number t entries) same in
     record { position = next.position ∙ ap dispatches made; once = sym (ap gave_up made) ∙ next.once }
 
 -- the desk is the looper's, by the opening that the book has

@@ -2,7 +2,7 @@
 use Rattle.std.proofs.Common.{◌≡◌, ℕ, zero, suc, ◌+◌, ◌-◌, ◌==◌, Bool, true, false, List, [], ◌∷◌, ◌++◌, length, map, Option, Some, None, All, cond, refl, sym, ap, ◌∙◌, subst, inl, append-nil, length-append, arith}
 use Rattle.std.specs.Prelude.{◌||◌, slice_get, option_map, unwrap_or, IfSome}
 use Rattle.std.specs.Option.{option_to_list}
-use Rattle.std.proofs.lemmas.Bool.{false≢true}
+use Rattle.std.proofs.lemmas.Bool.{or_parts}
 use Rattle.std.proofs.lemmas.List.{map-append}
 use Rattle.std.proofs.lemmas.List.Elements.{All-append, All-cons, All-head, All-nil, All-tail}
 use Rattle.ak_turn.specs.Noted.{Noted, entry_of}
@@ -82,19 +82,11 @@ if_no_mark : (b : Bool) (n : Noted EntryData) → HasNoMark n.entry → All HasN
 if_no_mark true n none = All-cons HasNoMark n.entry [] none (All-nil HasNoMark)
 if_no_mark false n none = All-nil HasNoMark
 
-first_false : (a b : Bool) → (a || b) ≡ false → a ≡ false
-first_false false b e = refl
-first_false true b e = e
-
-second_false : (a b : Bool) → (a || b) ≡ false → b ≡ false
-second_false false b e = e
-second_false true b e = absurd (false≢true (sym e))
-
 step_no_mark : (looper : ℕ) (s : Step) → calls_for_closing s ≡ false → All HasNoMark (map entry_of (desk_entry looper s))
 step_no_mark looper (at_roster n) calls = All-nil HasNoMark
 step_no_mark looper (at_book n) calls = All-nil HasNoMark
 step_no_mark looper (at_port number n) calls = All-nil HasNoMark
-step_no_mark looper (at_desk number n) calls = if_no_mark (number == looper) n (first_false (has_quit_mark n.entry.plain.event) (gives_up n.entry.plain.event) calls)
+step_no_mark looper (at_desk number n) calls = if_no_mark (number == looper) n (or_parts (has_quit_mark n.entry.plain.event) (gives_up n.entry.plain.event) calls).0
 step_no_mark looper (saw_roster seen) calls = All-nil HasNoMark
 step_no_mark looper (saw_book seen) calls = All-nil HasNoMark
 step_no_mark looper (saw_port number seen) calls = All-nil HasNoMark
@@ -104,8 +96,8 @@ no_marks : (l : LooperFacts) (xs : List Step) → is_closing xs ≡ false → Al
 no_marks l [] calls = All-nil HasNoMark
 no_marks l (x ∷ xs) calls =
     subst (All HasNoMark) (sym (map-append entry_of (desk_entry l.number x) (desk_entries l.number xs)))
-    (All-append HasNoMark (map entry_of (desk_entry l.number x)) (desk_list l xs) (step_no_mark l.number x (first_false (calls_for_closing x) (is_closing xs) calls))
-    (no_marks l xs (second_false (calls_for_closing x) (is_closing xs) calls)))
+    (All-append HasNoMark (map entry_of (desk_entry l.number x)) (desk_list l xs) (step_no_mark l.number x (or_parts (calls_for_closing x) (is_closing xs) calls).0)
+    (no_marks l xs (or_parts (calls_for_closing x) (is_closing xs) calls).1))
 
 pub no_last_mark : (l : LooperFacts) (xs : List Step) → is_closing xs ≡ false → last_quits (desk_list l xs) ≡ false
 no_last_mark l xs calls = no_mark_at (λ (entry : EntryData). has_quit_mark entry.plain.event) (desk_list l xs) (no_marks l xs calls) (length (desk_list l xs) - 1)

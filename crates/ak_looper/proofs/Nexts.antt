@@ -1,7 +1,7 @@
 -- The item in hand is the next one of the desk, and what a served item leaves.
 use Rattle.std.proofs.Common.{◌≡◌, ℕ, ◌==◌, Bool, true, false, List, [], ◌∷◌, ◌++◌, map, cond, refl, sym, ap, ◌∙◌, subst}
 use Rattle.std.specs.Prelude.{◌||◌}
-use Rattle.std.proofs.lemmas.Bool.{false≢true}
+use Rattle.std.proofs.lemmas.Bool.{or_parts}
 use Rattle.std.proofs.lemmas.List.{map-append}
 use Rattle.std.proofs.lemmas.List.Folds.{list_any-append}
 use Rattle.ak_turn.specs.Entries.{made_by}
@@ -23,14 +23,6 @@ use Rattle.ak_looper.specs.Ways.{KeepsReach}
 use Rattle.ak_diary.specs.Looper.{LooperFacts, calls_for_closing, desk_list, has_quit_mark, is_closing}
 use Rattle.ak_diary.specs.Step.{Step, at_roster, at_book, at_port, at_desk, saw_roster, saw_book, saw_port, lacked, desk_entries, desk_entry}
 
-first_false : (a b : Bool) → (a || b) ≡ false → a ≡ false
-first_false false b e = refl
-first_false true b e = e
-
-second_false : (a b : Bool) → (a || b) ≡ false → b ≡ false
-second_false false b e = e
-second_false true b e = absurd (false≢true (sym e))
-
 -- ---- where nothing calls for a closing, no message was given up
 if_gave_up : (b : Bool) (n : Noted EntryData) → gives_up n.entry.plain.event ≡ false → gave_up (map entry_of (cond b (n ∷ []) [])) ≡ false
 if_gave_up true n none = ap (λ x. x || false) none
@@ -40,7 +32,7 @@ step_gave_up : (looper : ℕ) (s : Step) → calls_for_closing s ≡ false → g
 step_gave_up looper (at_roster n) calls = refl
 step_gave_up looper (at_book n) calls = refl
 step_gave_up looper (at_port number n) calls = refl
-step_gave_up looper (at_desk number n) calls = if_gave_up (number == looper) n (second_false (has_quit_mark n.entry.plain.event) (gives_up n.entry.plain.event) calls)
+step_gave_up looper (at_desk number n) calls = if_gave_up (number == looper) n (or_parts (has_quit_mark n.entry.plain.event) (gives_up n.entry.plain.event) calls).1
 step_gave_up looper (saw_roster seen) calls = refl
 step_gave_up looper (saw_book seen) calls = refl
 step_gave_up looper (saw_port number seen) calls = refl
@@ -51,8 +43,8 @@ none_given_up l [] calls = refl
 none_given_up l (x ∷ xs) calls =
     ap gave_up (map-append entry_of (desk_entry l.number x) (desk_entries l.number xs))
     ∙ list_any-append (λ (entry : EntryData). gives_up entry.plain.event) (map entry_of (desk_entry l.number x)) (desk_list l xs)
-    ∙ ap (λ b. b || gave_up (desk_list l xs)) (step_gave_up l.number x (first_false (calls_for_closing x) (is_closing xs) calls))
-    ∙ none_given_up l xs (second_false (calls_for_closing x) (is_closing xs) calls)
+    ∙ ap (λ b. b || gave_up (desk_list l xs)) (step_gave_up l.number x (or_parts (calls_for_closing x) (is_closing xs) calls).0)
+    ∙ none_given_up l xs (or_parts (calls_for_closing x) (is_closing xs) calls).1
 
 -- what the thread made at its desk
 made_is : (l : LooperFacts) (work : List Step) (desk : DeskSeat) → DeskStands l work desk → made_by by_number desk.thread desk.front ≡ desk_list l work

@@ -166,16 +166,6 @@ keeps_called entry x y called = record {
   names = ap (λ (s : RosterSeat). s.names) called.after;
 }
 
-pub keeps_twice : (x y z : RosterSeat) → KeepsSeat x y → KeepsSeat y z → KeepsSeat x z
-keeps_twice x y z one two = record {
-  lock = two.lock ∙ one.lock;
-  opening = two.opening ∙ one.opening;
-  thread = two.thread ∙ one.thread;
-  joined = two.joined ∙ one.joined;
-  turn = two.turn ∙ one.turn;
-  names = two.names ∙ one.names;
-}
-
 -- ---- who may get a door
 -- at the turn the thread has no part of what the looper's door leads to
 pub stranger_at_turn : {D : Type 0} (looper : ℕ) (seat given : RosterSeat) (book : RosterData D Object) (clock : Clock) → IsGiven by_number seat given → book.entries ≡ given.front → seat.opening ≡ Some book.heads → seat.thread ≡ clock.thread.0

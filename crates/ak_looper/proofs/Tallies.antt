@@ -1,10 +1,10 @@
 -- What steps add to what a looper took and dispatched, and to whether it closes.
-use Rattle.std.proofs.Common.{◌≡◌, ℕ, ◌+◌, Bool, true, false, List, [], ◌∷◌, ◌++◌, length, map, drop, get_or, All, cond, refl, sym, ap, ◌∙◌, append-nil, eq-eqb, arith}
+use Rattle.std.proofs.Common.{◌≡◌, ℕ, ◌+◌, true, false, List, [], ◌∷◌, ◌++◌, length, map, drop, get_or, All, cond, refl, sym, ap, ◌∙◌, append-nil, eq-eqb, arith}
 use Rattle.std.specs.Prelude.{◌||◌}
 use Rattle.std.proofs.lemmas.Grind.{flat_map-append}
 use Rattle.std.proofs.lemmas.List.{map-append}
 use Rattle.std.proofs.lemmas.List.Folds.{list_any-append}
-use Rattle.std.proofs.lemmas.Bool.{false≢true}
+use Rattle.std.proofs.lemmas.Bool.{false≢true, or_parts}
 use Rattle.std.proofs.Math.Seq.{drop-append_seam, drop-length}
 use Rattle.ak_turn.specs.Noted.{Noted, entry_of}
 use Rattle.ak_flatten.specs.Item.{ItemData}
@@ -94,15 +94,7 @@ step_short (saw_book seen) calls = refl
 step_short (saw_port looper seen) calls = refl
 step_short lacked calls = absurd (false≢true (sym calls))
 
-first_false : (a b : Bool) → (a || b) ≡ false → a ≡ false
-first_false false b e = refl
-first_false true b e = e
-
-second_false : (a b : Bool) → (a || b) ≡ false → b ≡ false
-second_false false b e = e
-second_false true b e = absurd (false≢true (sym e))
-
 pub not_short : (xs : List Step) → is_closing xs ≡ false → ran_short xs ≡ false
 not_short [] calls = refl
 not_short (x ∷ xs) calls =
-    ap (λ b. b || ran_short xs) (step_short x (first_false (calls_for_closing x) (is_closing xs) calls)) ∙ not_short xs (second_false (calls_for_closing x) (is_closing xs) calls)
+    ap (λ b. b || ran_short xs) (step_short x (or_parts (calls_for_closing x) (is_closing xs) calls).0) ∙ not_short xs (or_parts (calls_for_closing x) (is_closing xs) calls).1

@@ -7,7 +7,6 @@ use Rattle.std.proofs.lemmas.Option.{slice_get_within}
 use Rattle.ak_base.specs.declared.no_memory.NoMemory.{NoMemory}
 use Rattle.ak_turn.specs.declared.clock.Clock.{Clock}
 use Rattle.ak_turn.specs.Entries.{AreByOthers}
-use Rattle.ak_turn.specs.Called.{KeepsSeat}
 use Rattle.ak_turn.specs.Seats.{HasCalled, HasSeen, IsGiven, at_leisure, entered_by, with_own}
 use Rattle.ak_turn.proofs.Surface.{seen_then_seen, seen_then_called}
 use Rattle.ak_port.specs.declared.reply_entry.ReplyEntry.{ReplyEntry}
@@ -195,14 +194,3 @@ seen_then_looked clock a b x y z one same two = record { seen = seen_then_seen m
 
 pub seen_then_settled : (n : ℕ) (clock a b : Clock) (x y z : ReplySeat) → HasSeen maker_of x y → a ≡ clock → HasFoundSettled n a b y z → HasFoundSettled n clock b x z
 seen_then_settled n clock a b x y z one same two = record { looked = seen_then_looked clock a b x y z one same two.looked; legal = two.legal; settled = two.settled }
-
--- ---- what calls keep of a seat, one after another
-pub keeps_twice : (x y z : ReplySeat) → KeepsSeat x y → KeepsSeat y z → KeepsSeat x z
-keeps_twice x y z one two = record {
-  lock = two.lock ∙ one.lock;
-  opening = two.opening ∙ one.opening;
-  thread = two.thread ∙ one.thread;
-  joined = two.joined ∙ one.joined;
-  turn = two.turn ∙ one.turn;
-  names = two.names ∙ one.names;
-}

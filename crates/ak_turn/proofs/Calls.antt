@@ -52,6 +52,13 @@ module _ {L : Type 0} (by : L → ℕ) where
       ∙ ap (λ l. made_by by thread front ++ l) (made_by-own thread entry mine)
 
 module _ {O L : Type 0} (by : L → ℕ) where
+  -- with the turn a thread has made what it had made before
+  pub still_made : (seat given : SeatData O L) → IsGiven by seat given → made_by by seat.thread given.front ≡ made_by by seat.thread seat.front
+  still_made seat given seen =
+      let made = made_by by seat.thread in
+      ap (λ (s : SeatData O L). made s.front) seen.after ∙ filter-append _ seat.front seen.between ∙ ap (λ l. made seat.front ++ l) (made_by-others by seat.thread seen.between seen.others) ∙ append-nil (made seat.front)
+
+module _ {O L : Type 0} (by : L → ℕ) where
   -- a call is one entry more that the thread made
   pub makes_one : (lock : LockId) (thread : ℕ) (made : List L) (entry : L) (old new : SeatData O L) → HasMade by lock thread made old → HasCalled by entry old new → HasMade by lock thread (made ++ entry ∷ []) new
   makes_one lock thread made entry old new has call = record {

@@ -1,15 +1,14 @@
 -- A turn at the desk: where it begins, and what it leaves.
-use Rattle.std.proofs.Common.{◌≡◌, ◌≢◌, ℕ, ◌+◌, List, [], ◌∷◌, ◌++◌, false, Option, Some, Result, Ok, Err, cond, refl, sym, ap, ◌∙◌, subst, inl, inr, append-nil, ne_eqb}
+use Rattle.std.proofs.Common.{◌≡◌, ℕ, ◌+◌, List, [], ◌∷◌, ◌++◌, false, Option, Some, Result, Ok, Err, refl, sym, ap, ◌∙◌, subst, inl, inr}
 use Rattle.std.specs.Prelude.{IfOk, IsSomeAnd, OnErr, OnOk}
-use Rattle.std.proofs.lemmas.List.Elements.{All-head, All-tail, filter-append}
 use Rattle.ak_base.specs.Thread.{looper_thread}
 use Rattle.ak_base.specs.declared.no_memory.NoMemory.{NoMemory}
 use Rattle.ak_base.specs.declared.thread.ThreadId.{ThreadId}
 use Rattle.ak_flatten.specs.declared.item.Taken.{Taken}
 use Rattle.ak_turn.specs.declared.clock.Clock.{Clock}
-use Rattle.ak_turn.specs.Entries.{AreByOthers, made_by}
+use Rattle.ak_turn.specs.Entries.{made_by}
 use Rattle.ak_turn.specs.Seats.{HasCalled, HasMade, IsGiven, IsNext, LockId, at_leisure, entered_by}
-use Rattle.ak_turn.proofs.Surface.{makes_one}
+use Rattle.ak_turn.proofs.Surface.{makes_one, still_made}
 use Rattle.ak_port.specs.PortCalls.{CanTake, PortSeat}
 use Rattle.ak_port.specs.ReplySeats.{ReplySeat}
 use Rattle.ak_turn.specs.Called.{KeepsSeat}
@@ -24,18 +23,6 @@ use Rattle.ak_desk.specs.Shared.{DeskSeat, IsAtDesk, by_number}
 use Rattle.uses_asks.specs.Serving.{CanServe, DispatchesThere, EndsSo, IsOfLooper, TakesNext}
 
 -- ---- how many messages were dispatched
-made_by-others : (thread : ℕ) (entries : List EntryData) → AreByOthers by_number thread entries → made_by by_number thread entries ≡ []
-made_by-others thread [] others = refl
-made_by-others thread (x ∷ xs) others =
-    ap (λ b. cond b (x ∷ made_by by_number thread xs) (made_by by_number thread xs)) (ne_eqb (by_number x) thread (All-head (λ entry. by_number entry ≢ thread) x xs others))
-    ∙ made_by-others thread xs (All-tail (λ entry. by_number entry ≢ thread) x xs others)
-
--- with the turn the thread has made what it had made before
-still_made : (seat given : DeskSeat) → IsGiven by_number seat given → made_by by_number seat.thread given.front ≡ made_by by_number seat.thread seat.front
-still_made seat given seen =
-    let made = made_by by_number seat.thread in
-    ap (λ (s : DeskSeat). made s.front) seen.after ∙ filter-append _ seat.front seen.between ∙ ap (λ l. made seat.front ++ l) (made_by-others seat.thread seen.between seen.others) ∙ append-nil (made seat.front)
-
 pub by_law : DispatchesAreOwn → (d : DeskData) (n : ℕ) → IsHistory d.opening d.entries d.state → n ≡ dispatches (made_by by_number (looper_thread d.opening.looper) d.entries) → n ≡ dispatches d.entries
 by_law law d n history is = is ∙ sym (law d.opening.looper d.opening d.entries d.state history.replays).0
 
@@ -46,7 +33,7 @@ of_looper thread seat opening is looper = subst (λ (o : Option DeskState). IsSo
 -- how many it dispatched, by the entries that the book has
 pub in_step : (n : ℕ) (seat given : DeskSeat) (d : DeskData) → IsGiven by_number seat given → d.entries ≡ given.front → seat.thread ≡ looper_thread d.opening.looper → n ≡ dispatches (made_by by_number seat.thread seat.front) → n ≡ dispatches (made_by by_number (looper_thread d.opening.looper) d.entries)
 in_step n seat given d seen list thread is =
-    is ∙ ap dispatches (sym (still_made seat given seen)) ∙ ap (λ (l : List EntryData). dispatches (made_by by_number seat.thread l)) (sym list)
+    is ∙ ap dispatches (sym (still_made by_number seat given seen)) ∙ ap (λ (l : List EntryData). dispatches (made_by by_number seat.thread l)) (sym list)
     ∙ ap (λ (t : ℕ). dispatches (made_by by_number t d.entries)) thread
 
 -- ---- what it leaves
