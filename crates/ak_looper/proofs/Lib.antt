@@ -2,6 +2,7 @@ pub mod AtTurn
 pub mod Beginning
 pub mod Carried
 pub mod ClosingSteps
+pub mod Crossing
 pub mod Debts
 pub mod DeskSteps
 pub mod Doors
@@ -25,6 +26,7 @@ pub mod Settling
 pub mod Shutting
 pub mod Sides
 pub mod Strangers
+pub mod Surface
 pub mod Takes
 pub mod Tallies
 pub mod TeamWays

@@ -70,7 +70,8 @@ fn for_address(alloc: Global, team: u32, to: Address, reply: &Message) -> Prepar
     ensures debt { IsBackDebt team to reply.now result.lacked result.debt }
     ensures payable { IsPayable result.debt }
 {
-    if is_no_reply(reply) {
+    let none = is_no_reply(reply);
+    if none {
         return Prepared {
             debt: Debt::Nothing,
             lacked: false,

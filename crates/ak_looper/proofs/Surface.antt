@@ -1,0 +1,3 @@
+-- What the layers above may cite of these proofs: they name this file alone.
+pub use Rattle.ak_looper.proofs.Crossing.{LooperEnd-send, LooperJob-send}
+pub use Rattle.ak_looper.proofs.Doors.{new_door, nothing_noted, still_new}
