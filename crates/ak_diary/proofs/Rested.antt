@@ -10,28 +10,17 @@ use Rattle.ak_port.specs.PortCalls.{IsRest, by_number}
 use Rattle.ak_port.specs.PortLaws.{WithinLimits}
 use Rattle.ak_port.specs.PortMachine.{AreSteps, IsAllowed, IsPort, PortState, PortStep, StampsRise, follows_making, pending_count, replayed, state_after, state_of, taken_items, unmade, written_in}
 use Rattle.ak_port.specs.TakerLaws.{HasEnded, NothingAfterRest, TakenAreCounted}
+use Rattle.ak_port.proofs.Surface.{AreSteps-before, AreSteps-behind, state_of-push}
 use Rattle.ak_diary.specs.Laws.{IsNoRest, TakesRestOnce}
 use Rattle.ak_diary.proofs.Lists.{stands_at}
 
 -- ---- a list in two parts
-in_parts : (s : PortState) (xs ys : List PortEntry) → replayed s (xs ++ ys) ≡ replayed (replayed s xs) ys
-in_parts s [] ys = refl
-in_parts s (x ∷ xs) ys = in_parts (state_after s x.event) xs ys
-
-steps_behind : (taker : ℕ) (s : PortState) (xs ys : List PortEntry) → AreSteps taker s (xs ++ ys) → AreSteps taker (replayed s xs) ys
-steps_behind taker s [] ys steps = steps
-steps_behind taker s (x ∷ xs) ys steps = steps_behind taker (state_after s x.event) xs ys steps.1
-
-steps_before : (taker : ℕ) (s : PortState) (xs ys : List PortEntry) → AreSteps taker s (xs ++ ys) → AreSteps taker s xs
-steps_before taker s [] ys steps = tt
-steps_before taker s (x ∷ xs) ys steps = (steps.0, steps_before taker (state_after s x.event) xs ys steps.1)
-
 stamps_before : (last : ℕ) (xs ys : List PortEntry) → StampsRise last (xs ++ ys) → StampsRise last xs
 stamps_before last [] ys rise = tt
 stamps_before last (x ∷ xs) ys rise = (rise.0, stamps_before x.stamp xs ys rise.1)
 
 first_part : (taker : ℕ) (xs ys : List PortEntry) → IsPort taker (xs ++ ys) → (state_of xs).made ≡ true → IsPort taker xs
-first_part taker xs ys port made = record { steps = steps_before taker unmade xs ys port.steps; stamps = stamps_before 0 xs ys port.stamps; made = made }
+first_part taker xs ys port made = record { steps = AreSteps-before taker unmade xs ys port.steps; stamps = stamps_before 0 xs ys port.stamps; made = made }
 
 -- ---- entries that take the rest
 rested_after : (s : PortState) (e : PortEvent) → s.rested ≡ true → (state_after s e).rested ≡ true
@@ -105,7 +94,7 @@ module _ (counted : TakenAreCounted) (limits : WithinLimits) (nothing_after : No
     upto = n.before ++ n.entry ∷ []
 
     step : PortStep taker found n.entry
-    step = (steps_behind taker unmade n.before (n.entry ∷ behind) legal.steps).0
+    step = (AreSteps-behind taker unmade n.before (n.entry ∷ behind) legal.steps).0
 
     allowed : IsAllowed taker n.entry.by.0 found (event.Rest count)
     allowed = subst (IsAllowed taker n.entry.by.0 found) is_rest step.allowed
@@ -117,7 +106,7 @@ module _ (counted : TakenAreCounted) (limits : WithinLimits) (nothing_after : No
     before_legal = first_part taker n.before (n.entry ∷ behind) legal made
 
     after_is : state_of upto ≡ state_after found (event.Rest count)
-    after_is = in_parts unmade n.before (n.entry ∷ []) ∙ ap (state_after found) is_rest
+    after_is = state_of-push n.before n.entry ∙ ap (state_after found) is_rest
 
     rested : (state_of upto).rested ≡ true
     rested = ap (λ (s : PortState). s.rested) after_is
@@ -155,7 +144,7 @@ module _ (counted : TakenAreCounted) (limits : WithinLimits) (nothing_after : No
       behind = behind;
       is = refl;
       none_before = none_so_far unmade n.before allowed.2;
-      none_behind = none_from_now taker (state_of upto) behind rested (steps_behind taker unmade upto behind legal_so.steps);
+      none_behind = none_from_now taker (state_of upto) behind rested (AreSteps-behind taker unmade upto behind legal_so.steps);
       ended = ended;
       total = total;
     }

@@ -10,40 +10,24 @@ use Rattle.ak_port.specs.declared.port_entry.PortEntry.{PortEntry}
 use Rattle.ak_port.specs.declared.port_entry.PortEvent.{PortEvent}
 use Rattle.ak_port.specs.declared.port_entry.PortEvent.TheVariants as event
 use Rattle.ak_port.specs.PortCalls.{PortSeat, by_number}
-use Rattle.ak_port.specs.PortMachine.{PortState, replayed, state_after, state_of, unmade}
+use Rattle.ak_port.specs.PortMachine.{PortState, state_after, state_of}
+use Rattle.ak_port.proofs.Surface.{state_of-push}
 use Rattle.ak_looper.specs.declared.reach.Reach.{Reach}
 use Rattle.ak_looper.specs.Stands.{GoesOn, IsStanding, PortStands, Stands}
 use Rattle.ak_diary.specs.Looper.{LooperFacts, closed_by, is_of_team, is_own}
 use Rattle.ak_diary.specs.Step.{Step, at_roster, at_book, at_port, at_desk, saw_roster, saw_book, saw_port, lacked, port_entries, port_entry, port_sight, port_sights}
 use Rattle.ak_diary.specs.Turns.{Closes, Shuts, ShutsAll}
+use Rattle.ak_looper.proofs.Takes.{shut_stays}
 
--- ---- no event opens a shut port
-still_shut : (s : PortState) (e : PortEvent) → s.shut ≡ true → (state_after s e).shut ≡ true
-still_shut s (event.Made capacity life) is = is
-still_shut s (event.Written position item) is = is
-still_shut s event.Full is = is
-still_shut s event.Spent is = is
-still_shut s event.Refused is = is
-still_shut s (event.Took count) is = is
-still_shut s (event.Rest count) is = is
-still_shut s event.Shut is = refl
-
-stays_shut : (s : PortState) (entries : List PortEntry) → s.shut ≡ true → (replayed s entries).shut ≡ true
-stays_shut s [] is = is
-stays_shut s (x ∷ xs) is = stays_shut (state_after s x.event) xs (still_shut s x.event is)
-
-replayed-append : (s : PortState) (xs ys : List PortEntry) → replayed s (xs ++ ys) ≡ replayed (replayed s xs) ys
-replayed-append s [] ys = refl
-replayed-append s (x ∷ xs) ys = replayed-append (state_after s x.event) xs ys
-
+-- ---- what is shut stays so
 shut_behind : (front seen : List PortEntry) → StartsWith front seen → (state_of seen).shut ≡ true → (state_of front).shut ≡ true
 shut_behind front seen starts is =
-    ap (λ (entries : List PortEntry). (state_of entries).shut) starts.1 ∙ ap (λ (s : PortState). s.shut) (replayed-append unmade seen starts.0) ∙ stays_shut (state_of seen) starts.0 is
+    ap (λ (entries : List PortEntry). (state_of entries).shut) starts.1 ∙ shut_stays seen starts.0 is
 
 -- the entry that shuts it
 shut_there : (before : List PortEntry) (entry : PortEntry) → entry.event ≡ event.Shut → (state_of (before ++ entry ∷ [])).shut ≡ true
 shut_there before entry is =
-    ap (λ (s : PortState). s.shut) (replayed-append unmade before (entry ∷ [])) ∙ ap (λ (e : PortEvent). (state_after (state_of before) e).shut) is
+    ap (λ (s : PortState). s.shut) (state_of-push before entry) ∙ ap (λ (e : PortEvent). (state_after (state_of before) e).shut) is
 
 -- ---- among the steps
 -- the step shuts the port of that looper, or finds it shut

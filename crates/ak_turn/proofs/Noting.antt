@@ -4,10 +4,13 @@ use Rattle.std.proofs.lemmas.List.Elements.{All-cons, All-head, All-nil, All-tai
 use Rattle.std.proofs.Math.Seq.{take-append_seam}
 use mathlib.Core.Logic.{dite}
 use native.Mathlib.Decide.{ℕ_discrete}
-use Rattle.ak_turn.specs.Entries.{AreByOthers, made_by}
+use Rattle.ak_turn.specs.declared.view.Part.{Part}
+use Rattle.ak_turn.specs.Entries.{AreByOthers, made_by, places}
 use Rattle.ak_turn.specs.Noted.{note, noted, noted_from, entry_of, StandsIn}
+use Rattle.ak_turn.specs.Rule.{IsKnown}
 use Rattle.ak_turn.specs.Seats.{SeatData, HasSeen, HasCalled}
 use Rattle.ak_turn.proofs.NewSeats.{made_own, made_other}
+use Rattle.ak_turn.proofs.Placing.{rest_by_others}
 
 module _ {L : Type 0} (by : L → ℕ) (thread : ℕ) where
   noted_own : (before : List L) (x : L) (xs : List L) → by x ≡ thread → noted_from by thread before (x ∷ xs) ≡ note before x ∷ noted_from by thread (before ++ x ∷ []) xs
@@ -78,3 +81,11 @@ module _ {O L : Type 0} (by : L → ℕ) where
       ∙ noted-own by a.thread (a.front ++ call.between) entry call.mine
       ∙ ap (λ l. l ++ note (a.front ++ call.between) entry ∷ []) (noted-others by a.thread a.front call.between call.others)
       ∙ ap (λ l. noted by a.thread a.front ++ note l entry ∷ []) same
+
+module _ {L : Type 0} (by : L → ℕ) where
+  -- of a thread that is known, what is noted of the whole list is what is noted of its front
+  pub known_notes : (entries : List L) (part : Part L) → IsKnown by entries part → noted by part.thread entries ≡ noted by part.thread part.front
+  known_notes entries part known =
+      let begins = known.begins in
+      let others = rest_by_others by part.thread part.front begins.0 (ap (places by part.thread) (sym begins.1) ∙ sym known.all_own ∙ known.own_seen) in
+      ap (noted by part.thread) begins.1 ∙ noted-others by part.thread part.front begins.0 others
