@@ -1,0 +1,91 @@
+-- The application that is to start.
+use Rattle.std.proofs.Common.{◌≡◌, ℕ, zero, suc, ◌+◌, ◌≤◌, ◌<◌, List, [], ◌∷◌, length, map, get_or, Option, None, Some, refl, sym, ap, ◌∙◌, subst, arith, All, Contains}
+use Rattle.std.specs.Prelude.{slice_get, option_map, unwrap_or}
+use Rattle.std.proofs.lemmas.List.{length-map}
+use Rattle.std.proofs.lemmas.List.Elements.{All-get_or, Contains-get_or}
+use Rattle.std.proofs.lemmas.Option.{slice_get_within}
+use Rattle.ak_base.specs.declared.app_word.AppWord.{AppWord}
+use Rattle.ak_roster.specs.declared.answer.Decision.TheVariants as decision
+use Rattle.ak_roster.specs.declared.entry.LaunchOutcome.{LaunchOutcome}
+use Rattle.ak_roster.specs.declared.entry.LaunchOutcome.TheVariants as launch
+use Rattle.ak_roster.specs.declared.head.AppHead.{AppHead}
+use Rattle.ak_roster.specs.Answers.{decision_of}
+use Rattle.ak_roster.specs.Machine.{launch_of, loopers_at}
+use Rattle.ak_roster.specs.Roster.{state}
+use Rattle.ak_roster.proofs.Surface.{started_facts}
+use Rattle.ak_action.specs.declared.plan.PlanParts.{PlanParts}
+use Rattle.ak_describe.specs.declared.described.AppText.{AppText}
+use Rattle.ak_describe.specs.Whole.{IsWholeApp, head_of, heads_of}
+use Rattle.ak_run.specs.declared.launching.Launch.{Launch}
+use Rattle.ak_run.specs.declared.launching.Launch.TheVariants as answer
+use Rattle.ak_run.specs.declared.new_looper.Shared.{Shared}
+use Rattle.ak_run.specs.declared.new_team.Making.{Making}
+use Rattle.ak_run.specs.Launching.{Book, ComesTo, HasEntered, IsDecided, IsMade, IsRunningTeam}
+use Rattle.ak_run.specs.NewTeam.{IsNewTeam}
+use Rattle.ak_run.specs.Opening.{FitPlaces}
+use Rattle.ak_run.proofs.Entering.{loopers_on}
+use Rattle.ak_run.proofs.Ways.{kept_count}
+
+starts_is : (o : LaunchOutcome) (place team first : ℕ) → decision.Starts place team first ≡ decision_of o → o ≡ launch.Started place team first
+starts_is (launch.Started p t f) place team first told = cc
+starts_is (launch.AlreadyRunning t) place team first told = absurd cc
+starts_is launch.NotFound place team first told = absurd cc
+starts_is launch.Limit place team first told = absurd cc
+
+head_at : (apps : List AppText) (place : ℕ) (head : AppHead) (app : AppText) → slice_get (heads_of apps) place ≡ Some head → app ≡ get_or apps place app → head ≡ head_of app
+head_at [] place head app there is = absurd cc
+head_at (a ∷ apps) zero head app there is = let same : head_of a ≡ head = cc in sym same ∙ ap head_of (sym is)
+head_at (a ∷ apps) (suc place) head app there is = head_at apps place head app there is
+
+-- a team that runs keeps it from starting
+pub running_comes : (apps : List AppText) (shared : Shared) (book book' : Book) (team : ℕ) (l : Launch) → HasEntered 0 book book' → IsRunningTeam book' team l → ComesTo apps shared book book' l
+running_comes apps shared book book' team (answer.Running number first) entered is = (entered, omega (arith, is.1, loopers_on 0 book book' entered))
+running_comes apps shared book book' team (answer.Started t) entered is = absurd is
+running_comes apps shared book book' team answer.NotFound entered is = absurd is
+running_comes apps shared book book' team answer.Limit entered is = absurd is
+running_comes apps shared book book' team answer.NoMemory entered is = absurd is
+
+module _ (apps : List AppText) (book : Book) (word : AppWord) (place team first : ℕ) (heads : book.heads ≡ heads_of apps) (whole : All IsWholeApp apps) (told : decision.Starts place team first ≡ decision_of (launch_of book.heads (state book) word))
+    (app : AppText) (app_is : app ≡ get_or apps place app) where
+  starts : launch_of book.heads (state book) word ≡ launch.Started place team first
+  starts = starts_is (launch_of book.heads (state book) word) place team first told
+
+  within : place < length apps
+  within =
+      let facts = started_facts book.heads (state book) word place team first starts in
+      let low = slice_get_within book.heads place facts.head facts.stands in
+      let many : length book.heads ≡ length apps = ap length heads ∙ length-map apps head_of in
+      omega (arith, low, many)
+
+  app_whole : IsWholeApp app
+  app_whole = subst IsWholeApp (sym app_is) (All-get_or IsWholeApp apps place app within whole)
+
+  count : loopers_at book.heads place ≡ length app.loopers
+  count =
+      let facts = started_facts book.heads (state book) word place team first starts in
+      let head : facts.head ≡ head_of app = head_at apps place facts.head app (ap (λ hs. slice_get hs place) (sym heads) ∙ facts.stands) app_is in
+      ap (λ (o : Option AppHead). unwrap_or (option_map (λ (h : AppHead). h.loopers) o) 0) facts.stands ∙ ap (λ (h : AppHead). h.loopers) head
+
+  pub fits : FitPlaces first app.loopers
+  fits = λ k p there.
+      let facts = started_facts book.heads (state book) word place team first starts in
+      app_whole.places_fit first k p (omega (arith, facts.few_loopers, count)) there
+
+  pub made : (shared : Shared) (m : Making) → IsNewTeam app.loopers team first shared m.team m.kept.items → length app.loopers ≡ length m.team.others.items + 1 → IsMade apps shared m team first
+  made shared m new all = record {
+    plans = app.loopers;
+    described = record { app = app; there = subst (Contains apps) (sym app_is) (Contains-get_or apps place app within); plans_are = refl };
+    new = new;
+    all = all;
+    few = app_whole.few_loopers;
+  }
+
+  pub decided : (shared : Shared) (m : Making) → IsNewTeam app.loopers team first shared m.team m.kept.items → length app.loopers ≡ length m.team.others.items + 1 → IsDecided book word m team first
+  decided shared m new all = record {
+    place = place;
+    starts = starts;
+    many = count ∙ all ∙ sym (kept_count app.loopers team first shared m.team m.kept.items new);
+    apps = apps;
+    shared = shared;
+    made = made shared m new all;
+  }

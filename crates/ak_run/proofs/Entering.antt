@@ -1,0 +1,238 @@
+-- What main enters at the roster, and how many loopers it starts.
+use Rattle.std.proofs.Common.{◌≡◌, ◌≢◌, ◌⊎◌, inl, inr, eq-eqb, ne_eqb, ℕ, zero, suc, ◌+◌, ◌<◌, ◌≤◌, Bool, true, false, cond, not, List, [], ◌∷◌, ◌++◌, length, map, filter, Option, None, Some, refl, sym, ap, ◌∙◌, subst, append-nil, arith, All}
+use Rattle.std.specs.Prelude.{IfSome, IsTrue, IsFalse, slice_get, slice_index_or, unwrap_or, option_map, if◌then◌else◌}
+use Rattle.std.specs.List.{Any, find}
+use Rattle.std.proofs.lemmas.Option.{get_or_from_slice_get, slice_get_within}
+use Rattle.std.proofs.lemmas.List.Elements.{All-append, All-get_or, All-cons, All-filter, All-head, All-nil}
+use mathlib.Core.Logic.{dite}
+use native.Mathlib.Decide.{ℕ_discrete}
+use Rattle.ak_base.proofs.Surface.{find-All}
+use Rattle.ak_base.specs.Thread.{main_thread}
+use Rattle.ak_base.specs.Limits.{looper_limit}
+use Rattle.ak_base.specs.declared.app_word.AppWord.{AppWord}
+use Rattle.ak_turn.specs.declared.clock.Clock.{Clock}
+use Rattle.ak_roster.specs.declared.answer.Decision.{Decision}
+use Rattle.ak_roster.specs.declared.answer.Decision.TheVariants as decision
+use Rattle.ak_roster.specs.declared.entry.EntryWithObjects.{EntryWithObjects}
+use Rattle.ak_roster.specs.declared.entry.LaunchOutcome.{LaunchOutcome}
+use Rattle.ak_roster.specs.declared.entry.LaunchOutcome.TheVariants as launch
+use Rattle.ak_roster.specs.declared.entry.RosterEntry.{RosterEntry}
+use Rattle.ak_roster.specs.declared.entry.RosterEvent.{RosterEvent}
+use Rattle.ak_roster.specs.declared.entry.RosterEvent.TheVariants as event
+use Rattle.ak_roster.specs.declared.head.AppHead.{AppHead}
+use Rattle.ak_roster.specs.declared.team.Running.{Running}
+use Rattle.ak_roster.specs.Answers.{decision_of}
+use Rattle.ak_roster.specs.Heads.{IsHeads, excluder, first_fit, passes, excludes}
+use Rattle.ak_roster.specs.Kept.{count_launched, count_of}
+use Rattle.ak_roster.specs.Machine.{IsHistory, IsLegal, RosterState, after, has_room, launch_at, launch_first, launch_of, loopers_at, runs_team, state_of, team_of, unless_excluded}
+use Rattle.ak_roster.specs.Roster.{Enters, Stays, new_entry, plain_entries, state}
+use Rattle.ak_roster.proofs.Surface.{carried, loopers-after, started_facts, state_of-append}
+use Rattle.ak_looper.specs.declared.kept_door.KeptDoor.{KeptDoor}
+use Rattle.ak_looper.specs.Rosters.{Object}
+use Rattle.ak_run.specs.Counting.{started_in}
+use Rattle.ak_run.specs.Launching.{Book, HasEntered}
+use Rattle.ak_run.proofs.RosterTurn.{plain-append}
+
+-- what holds of each holds at a place
+all_at : {X : Type 0} (P : X → Type 0) (xs : List X) (i : ℕ) (x : X) → All P xs → slice_get xs i ≡ Some x → P x
+all_at P xs i x all is = subst P (get_or_from_slice_get xs i x x is) (All-get_or P xs i x (slice_get_within xs i x is) all)
+
+-- ---- one entry, or none
+module _ (book book' : Book) (clock clock' : Clock) where
+  pub one_entered : (n : ℕ) (what : RosterEvent) (objects : List (Option Object)) (doors : List KeptDoor) → clock.thread.0 ≡ main_thread → Enters what objects doors book book' clock clock' → count_of book.heads what ≡ n → HasEntered n book book'
+  one_entered n what objects doors main enters count =
+      let entry = new_entry clock book.entries what objects in
+      record {
+        heads = ap (λ (r : Book). r.heads) enters.0;
+        added = entry ∷ [];
+        entries = ap (λ (r : Book). r.entries) enters.0;
+        one = omega arith;
+        by_main = All-cons (λ (e : EntryWithObjects Object). e.plain.by.0 ≡ main_thread) entry [] main (All-nil (λ (e : EntryWithObjects Object). e.plain.by.0 ≡ main_thread));
+        starts = plus_none (count_of book.heads what) n count;
+      }
+    where
+      plus_none : (m n : ℕ) → m ≡ n → m + 0 ≡ n
+      plus_none m n same = omega (arith, same)
+
+  pub none_entered : Stays book book' clock clock' → HasEntered 0 book book'
+  none_entered stays = record {
+    heads = ap (λ (r : Book). r.heads) stays.0;
+    added = [];
+    entries = ap (λ (r : Book). r.entries) stays.0 ∙ sym (append-nil book.entries);
+    one = omega arith;
+    by_main = All-nil (λ (e : EntryWithObjects Object). e.plain.by.0 ≡ main_thread);
+    starts = refl;
+  }
+
+  -- that a team is gone
+  pub gone_entered : (team : ℕ) (left : Bool) → clock.thread.0 ≡ main_thread → (IsTrue left → Enters (event.Gone team) [] book.doors book book' clock clock') → (IsFalse left → Stays book book' clock clock') → HasEntered 0 book book'
+  gone_entered team true main enters stays = one_entered 0 (event.Gone team) [] book.doors main (enters refl) refl
+  gone_entered team false main enters stays = none_entered (stays refl)
+
+-- ---- a launch that is refused starts none
+abbrev pub IsEntered : Decision → Type 0
+IsEntered decision.NotFound = Unit {0}
+IsEntered (decision.AlreadyRunning team) = Unit {0}
+IsEntered decision.Limit = Unit {0}
+IsEntered (decision.Starts place team first) = ⊥
+IsEntered decision.NoMemory = ⊥
+
+none_started : (heads : List AppHead) (o : LaunchOutcome) (d : Decision) → d ≡ decision_of o → IsEntered d → count_launched heads o ≡ 0
+none_started heads (launch.Started place team first) d is refused = absurd (subst IsEntered is refused)
+none_started heads (launch.AlreadyRunning team) d is refused = refl
+none_started heads launch.NotFound d is refused = refl
+none_started heads launch.Limit d is refused = refl
+
+pub refusal_entered : (book book' : Book) (clock clock' : Clock) (word : AppWord) (d : Decision) → clock.thread.0 ≡ main_thread → IsEntered d → d ≡ decision_of (launch_of book.heads (state book) word)
+    → Enters (event.Launch word (launch_of book.heads (state book) word)) [] book.doors book book' clock clock' → HasEntered 0 book book'
+refusal_entered book book' clock clock' word d main refused is enters =
+    one_entered book book' clock clock' 0 (event.Launch word (launch_of book.heads (state book) word)) [] book.doors main enters (none_started book.heads (launch_of book.heads (state book) word) d is refused)
+
+-- ---- a team that runs
+-- one that a search found is there
+abbrev Runs : ℕ → List Running → Type 0
+Runs team running = Any (λ (r : Running). r.team ≡ team) running
+
+later : (team : ℕ) (x : Running) (xs : List Running) → Runs team xs → Runs team (x ∷ xs)
+later team x xs any = (suc any.0, any.1, omega (arith, any.2), any.3, any.4)
+
+found_there : (test : Running → Bool) (xs : List Running) (r : Running) → find test xs ≡ Some r → Runs r.team xs
+found_there test [] r is = absurd cc
+found_there test (x ∷ xs) r is = by_case (λ e. found_there test xs r e) (test x) is
+  where
+    by_case : (find test xs ≡ Some r → Runs r.team xs) → (b : Bool) → cond b (Some x) (find test xs) ≡ Some r → Runs r.team (x ∷ xs)
+    by_case behind true e = (0, x, omega arith, refl, cc)
+    by_case behind false e = later r.team x xs (behind e)
+
+module _ (heads : List AppHead) (s : RosterState) (team : ℕ) where
+  abbrev unless : Bool → ℕ → LaunchOutcome
+  unless room place = if room then launch.Started place (s.teams + 1) (length s.loopers) else launch.Limit
+
+  no_room : (room : Bool) (place : ℕ) → unless room place ≡ launch.AlreadyRunning team → ⊥
+  no_room true place e = absurd cc
+  no_room false place e = absurd cc
+
+  kept_by : (head : AppHead) (place : ℕ) (other : Option Running) → other ≡ excluder heads s.running head → unless_excluded other (unless (has_room s.teams (length s.loopers) head) place) ≡ launch.AlreadyRunning team → Runs team s.running
+  kept_by head place None is e = absurd (no_room (has_room s.teams (length s.loopers) head) place e)
+  kept_by head place (Some t) is e =
+      let same : t.team ≡ team = cc in
+      subst (λ n. Runs n s.running) same (found_there (λ (r : Running). passes (excludes head) (slice_get heads r.description)) s.running t (sym is))
+
+  kept_at : (place : ℕ) (head : Option AppHead) → launch_at heads s.running s.teams (length s.loopers) place head ≡ launch.AlreadyRunning team → Runs team s.running
+  kept_at place None e = absurd cc
+  kept_at place (Some head) e = kept_by head place (excluder heads s.running head) refl e
+
+  kept_first : (place : Option ℕ) → launch_first heads s.running s.teams (length s.loopers) place ≡ launch.AlreadyRunning team → Runs team s.running
+  kept_first None e = absurd cc
+  kept_first (Some place) e = kept_at place (slice_get heads place) e
+
+  already : (word : AppWord) (o : LaunchOutcome) → launch_of heads s word ≡ o → decision.AlreadyRunning team ≡ decision_of o → Runs team s.running
+  already word (launch.AlreadyRunning t) is told = let same : t ≡ team = cc in kept_first (first_fit heads word) (is ∙ ap launch.AlreadyRunning same)
+  already word (launch.Started p t f) is told = absurd cc
+  already word launch.NotFound is told = absurd cc
+  already word launch.Limit is told = absurd cc
+
+-- it runs on behind the entry of that answer
+pub runs_on : (book book' : Book) (clock clock' : Clock) (word : AppWord) (team : ℕ) → decision.AlreadyRunning team ≡ decision_of (launch_of book.heads (state book) word)
+    → Enters (event.Launch word (launch_of book.heads (state book) word)) [] book.doors book book' clock clock' → Runs team (state book').running
+runs_on book book' clock clock' word team told enters =
+    let outcome = launch_of book.heads (state book) word in
+    let entry : RosterEntry = record { stamp = (new_entry clock book.entries (event.Launch word outcome) []).plain.stamp; by = clock.thread; event = event.Launch word outcome } in
+    let there : Runs team (state book).running = already book.heads (state book) team word outcome refl told in
+    let is : (state book').running ≡ (state book).running =
+    ap (λ (r : Book). (state r).running) enters.0 ∙ ap (λ l. (state_of book.heads l).running) (plain-append book.entries (new_entry clock book.entries (event.Launch word outcome) [] ∷ []))
+    ∙ ap (λ (t : RosterState). t.running) (state_of-append book.heads (plain_entries book.entries) entry) ∙ nothing_more outcome told in
+    subst (Runs team) (sym is) there
+  where
+    nothing_more : (o : LaunchOutcome) → decision.AlreadyRunning team ≡ decision_of o → (state book).running ++ team_of book.heads o ≡ (state book).running
+    nothing_more (launch.AlreadyRunning t) told = append-nil (state book).running
+    nothing_more (launch.Started p t f) told = absurd cc
+    nothing_more launch.NotFound told = absurd cc
+    nothing_more launch.Limit told = absurd cc
+
+-- ---- the first looper of each team that runs was started
+abbrev IsFound : ℕ → Running → Type 0
+IsFound many r = r.first < many
+
+module _ (heads : List AppHead) (some : All (λ (head : AppHead). 1 ≤ head.loopers) heads) where
+  abbrev AreFound : RosterState → Type 0
+  AreFound s = All (IsFound (length s.loopers)) s.running
+
+  wider : (m n : ℕ) → m ≤ n → (rs : List Running) → All (IsFound m) rs → All (IsFound n) rs
+  wider m n le rs all = λ i d lt. omega (arith, le, all i d lt)
+
+  count_at : (place : ℕ) (head : AppHead) → slice_get heads place ≡ Some head → 1 ≤ loopers_at heads place
+  count_at place head is =
+      let many : loopers_at heads place ≡ head.loopers = ap (λ (o : Option AppHead). unwrap_or (option_map (λ (h : AppHead). h.loopers) o) 0) is in
+      omega (arith, many, all_at (λ (h : AppHead). 1 ≤ h.loopers) heads place head some is)
+
+  more_found : (before : List RosterEntry) (s : RosterState) (e : RosterEntry) → AreFound s → IsLegal heads s e.by.0 e.event → AreFound (after heads s e.by.0 e.event)
+  more_found before s e found legal = by_event e.event legal
+    where
+      grows : (what : RosterEvent) → length s.loopers ≤ length (after heads s e.by.0 what).loopers
+      grows what = omega (arith, loopers-after heads s e.by.0 what)
+
+      none_more : (what : RosterEvent) → (after heads s e.by.0 what).running ≡ s.running ++ [] → AreFound (after heads s e.by.0 what)
+      none_more what is =
+          let many = length (after heads s e.by.0 what).loopers in
+          subst (All (IsFound many)) (sym is) (All-append (IsFound many) s.running [] (wider (length s.loopers) many (grows what) s.running found) (All-nil (IsFound many)))
+
+      by_event : (what : RosterEvent) → IsLegal heads s e.by.0 what → AreFound (after heads s e.by.0 what)
+      by_event (event.Launch word (launch.Started place team first)) is =
+          let facts = started_facts heads s word place team first (sym is) in
+          let what = event.Launch word (launch.Started place team first) in
+          let many = loopers-after heads s e.by.0 what in
+          All-append (IsFound (length (after heads s e.by.0 what).loopers)) s.running (team_of heads (launch.Started place team first)) (wider (length s.loopers) (length (after heads s e.by.0 what).loopers) (grows what) s.running found)
+          (All-cons (IsFound (length (after heads s e.by.0 what).loopers)) (record { team = team; description = place; first = first; loopers = loopers_at heads place }) [] (omega (arith, many, facts.first_is, count_at place facts.head facts.stands)) (All-nil (IsFound (length (after heads s e.by.0 what).loopers))))
+      by_event (event.Launch word (launch.AlreadyRunning team)) is = none_more (event.Launch word (launch.AlreadyRunning team)) refl
+      by_event (event.Launch word launch.NotFound) is = none_more (event.Launch word launch.NotFound) refl
+      by_event (event.Launch word launch.Limit) is = none_more (event.Launch word launch.Limit) refl
+      by_event (event.Find word outcome) is = found
+      by_event (event.Gone team) is = All-filter (λ (r : Running). not (runs_team team r)) (IsFound (length s.loopers)) s.running found
+      by_event (event.Door looper) is = wider (length s.loopers) (length (after heads s e.by.0 (event.Door looper)).loopers) (grows (event.Door looper)) s.running found
+
+  pub firsts_are_started : (entries : List RosterEntry) → IsHistory heads entries → All (IsFound (length (state_of heads entries).loopers)) (state_of heads entries).running
+  firsts_are_started entries history = carried heads (λ before s. AreFound s) more_found [] entries history (All-nil (IsFound 0))
+
+-- ---- as many loopers more as the entry starts
+module _ (heads : List AppHead) (entries : List (EntryWithObjects Object)) where
+  more_loopers : (added : List (EntryWithObjects Object)) → length added ≤ 1 → length (state_of heads (plain_entries (entries ++ added))).loopers ≡ length (state_of heads (plain_entries entries)).loopers + started_in heads (plain_entries added)
+  more_loopers [] few = ap (λ l. length (state_of heads (plain_entries l)).loopers) (append-nil entries) ∙ plus_nothing (length (state_of heads (plain_entries entries)).loopers)
+    where
+      plus_nothing : (n : ℕ) → n ≡ n + 0
+      plus_nothing n = omega arith
+  more_loopers (x ∷ []) few =
+      ap (λ l. length (state_of heads l).loopers) (plain-append entries (x ∷ []))
+      ∙ ap (λ (s : RosterState). length s.loopers) (state_of-append heads (plain_entries entries) x.plain)
+      ∙ loopers-after heads (state_of heads (plain_entries entries)) x.plain.by.0 x.plain.event
+      ∙ ap (λ n. length (state_of heads (plain_entries entries)).loopers + n) (plus_nothing (count_of heads x.plain.event))
+    where
+      plus_nothing : (n : ℕ) → n ≡ n + 0
+      plus_nothing n = omega arith
+  more_loopers (x ∷ y ∷ zs) few = absurd (omega (arith, few))
+
+pub loopers_on : (n : ℕ) (book book' : Book) → HasEntered n book book' → length (state book').loopers ≡ length (state book).loopers + n
+loopers_on n book book' entered =
+    ap (λ h. length (state_of h (plain_entries book'.entries)).loopers) entered.heads ∙ ap (λ l. length (state_of book.heads (plain_entries l)).loopers) entered.entries
+    ∙ more_loopers book.heads book.entries entered.added entered.one ∙ ap (λ m. length (state book).loopers + m) entered.starts
+
+-- the one that a search finds was started; and a team that runs is found
+pub found_started : (heads : List AppHead) (entries : List RosterEntry) (team : ℕ) (r : Running) → IsHeads heads → IsHistory heads entries → Some r ≡ find (runs_team team) (state_of heads entries).running → r.first < length (state_of heads entries).loopers
+found_started heads entries team r is history found =
+    let some : All (λ (head : AppHead). 1 ≤ head.loopers) heads = λ i d lt. (is.loopers i d lt).0 in
+    let P = IsFound (length (state_of heads entries).loopers) in
+    subst (λ o. IfSome o P) (sym found) (find-All (runs_team team) P (state_of heads entries).running (firsts_are_started heads some entries history))
+
+none_not_some : (y : Running) → None ≡ Some y → ⊥
+none_not_some y e = absurd (cc)
+
+pub runs_found : (team : ℕ) (xs : List Running) → Runs team xs → None ≡ find (runs_team team) xs → ⊥
+runs_found team [] any none = absurd (omega (arith, any.2))
+runs_found team (x ∷ xs) any none = by_case (λ there e. runs_found team xs there e) (dite (ℕ_discrete x.team team) (λ e. inl e) (λ e. inr e)) any none
+  where
+    by_case : (Runs team xs → None ≡ find (runs_team team) xs → ⊥) → (x.team ≡ team) ⊎ (x.team ≢ team) → Runs team (x ∷ xs) → None ≡ find (runs_team team) (x ∷ xs) → ⊥
+    by_case behind (inl is) there e =
+        let found : find (runs_team team) (x ∷ xs) ≡ Some x = ap (λ b. cond b (Some x) (find (runs_team team) xs)) (eq-eqb x.team team is) in
+        none_not_some x (e ∙ found)
+    by_case behind (inr is) (zero, d, lt, at, same) e = is (ap (λ (r : Running). r.team) at ∙ same)
+    by_case behind (inr is) (suc i, d, lt, at, same) e = behind (i, d, omega (arith, lt), at, same) (e ∙ ap (λ b. cond b (Some x) (find (runs_team team) xs)) (ne_eqb x.team team is))

@@ -1,0 +1,82 @@
+-- A run goes on, call after call.
+use Rattle.std.proofs.Common.{◌≡◌, ℕ, ◌+◌, List, length, ◌++◌, Some, ap, sym, subst, ◌∙◌, arith, append_assoc}
+use Rattle.ak_turn.specs.Entries.{StartsWith}
+use Rattle.ak_roster.specs.declared.head.AppHead.{AppHead}
+use Rattle.ak_run.specs.declared.run.Run.{Run}
+use Rattle.ak_run.specs.Counting.{started_by_main}
+use Rattle.ak_run.specs.Running.{IsRunning, KeepsRest, Stands}
+use Rattle.ak_run.specs.Starting.{GoesOn, GoesOnWith}
+use Rattle.ak_run.proofs.RosterTurn.{RosterOn}
+use Rattle.ak_run.proofs.Standing.{BookOn, SameLoopers, stands_on, starts_then_starts}
+
+-- what Some holds
+pub some_same : {X : Type 0} (x y : X) → Some x ≡ Some y → x ≡ y
+some_same x y is = cc
+
+-- one call after another
+pub goes_then_goes : (r s t : Run) → GoesOn r s → GoesOn s t → GoesOn r t
+goes_then_goes r s t a b = record {
+  stands = λ next heads k. b.stands next heads (a.stands next heads k);
+  started = λ next heads k. b.started next heads (a.stands next heads k) ∙ a.started next heads k;
+  count = b.count ∙ a.count;
+  on = starts_then_starts r.roster_seat.front s.roster_seat.front t.roster_seat.front a.on b.on;
+  shared = b.shared ∙ a.shared;
+  apps = b.apps ∙ a.apps;
+}
+
+pub with_then_with : (m n : ℕ) (r s t : Run) → GoesOnWith m r s → GoesOnWith n s t → GoesOnWith (m + n) r t
+with_then_with m n r s t a b = record {
+  stands = λ heads k. b.stands heads (a.stands heads k);
+  started = λ heads k. b.started heads (a.stands heads k) ∙ a.started heads k;
+  count = omega (arith, a.count, b.count);
+  on = starts_then_starts r.roster_seat.front s.roster_seat.front t.roster_seat.front a.on b.on;
+  shared = b.shared ∙ a.shared;
+  apps = b.apps ∙ a.apps;
+}
+
+-- a call that starts no looper
+pub goes_by : (r r' : Run) (roster_heads : List AppHead) → KeepsRest r r' → r.roster_seat.opening ≡ Some roster_heads → RosterOn roster_heads 0 r.roster_seat r'.roster_seat → BookOn r r'
+    → ((next : ℕ) (heads : List AppHead) → Stands next heads r → SameLoopers heads r r') → length r'.members.items ≡ length r.members.items → GoesOn r r'
+goes_by r r' roster_heads keeps opening roster book same count =
+    let roster_so : (next : ℕ) (heads : List AppHead) → Stands next heads r → RosterOn heads 0 r.roster_seat r'.roster_seat =
+    λ next heads k. subst (λ h. RosterOn h 0 r.roster_seat r'.roster_seat) (some_same roster_heads heads (sym opening ∙ k.opening)) roster in
+    record {
+      stands = λ next heads k. stands_on next heads 0 r r' keeps (roster_so next heads k) book (same next heads k) k;
+      started = λ next heads k. (roster_so next heads k).started ∙ nothing_more (started_by_main heads r.roster_seat);
+      count = count;
+      on = roster.on;
+      shared = keeps.shared;
+      apps = keeps.apps;
+    }
+  where
+    nothing_more : (n : ℕ) → n + 0 ≡ n
+    nothing_more n = omega arith
+
+-- a call that leaves the roster alone
+pub goes_beside : (r r' : Run) → KeepsRest r r' → ((heads : List AppHead) → (next : ℕ) → Stands next heads r → RosterOn heads 0 r.roster_seat r'.roster_seat) → StartsWith r'.roster_seat.front r.roster_seat.front → BookOn r r'
+    → ((next : ℕ) (heads : List AppHead) → Stands next heads r → SameLoopers heads r r') → length r'.members.items ≡ length r.members.items → GoesOn r r'
+goes_beside r r' keeps roster on book same count = record {
+  stands = λ next heads k. stands_on next heads 0 r r' keeps (roster heads next k) book (same next heads k) k;
+  started = λ next heads k. (roster heads next k).started ∙ nothing_more (started_by_main heads r.roster_seat);
+  count = count;
+  on = on;
+  shared = keeps.shared;
+  apps = keeps.apps;
+}
+  where
+    nothing_more : (n : ℕ) → n + 0 ≡ n
+    nothing_more n = omega arith
+
+-- a run goes on running
+pub still_running : (r r' : Run) → GoesOn r r' → IsRunning r → IsRunning r'
+still_running r r' goes is =
+    let here = length r.members.items in
+    record {
+      heads = is.heads;
+      stands = subst (λ n. Stands n is.heads r') (sym goes.count) (goes.stands here is.heads is.stands);
+      all = goes.started here is.heads is.stands ∙ is.all ∙ sym goes.count;
+    }
+
+-- once all loopers that were launched have started, the run runs
+pub all_run : (n : ℕ) (r s : Run) (heads : List AppHead) → Stands (length r.members.items) heads r → started_by_main heads r.roster_seat ≡ length r.members.items + n → GoesOnWith n r s → IsRunning s
+all_run n r s heads stands started goes = record { heads = heads; stands = goes.stands heads stands; all = goes.started heads stands ∙ started ∙ sym goes.count }

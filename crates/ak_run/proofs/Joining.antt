@@ -1,0 +1,120 @@
+-- A looper whose thread was joined.
+use Rattle.std.proofs.Common.{◌≡◌, List, ◌∷◌, All, Contains, refl, sym, ap, ◌∙◌, subst, arith}
+use Rattle.std.proofs.lemmas.List.Elements.{All-weaker, Contains-append_left, Contains-append_right}
+use Rattle.ak_base.specs.Thread.{looper_thread}
+use Rattle.ak_turn.specs.Entries.{StartsWith}
+use Rattle.ak_turn.specs.Seats.{SeatData, joined_seat, part_of}
+use Rattle.ak_roster.specs.declared.entry.EntryWithObjects.{EntryWithObjects}
+use Rattle.ak_roster.specs.declared.head.AppHead.{AppHead}
+use Rattle.ak_port.specs.PortCalls.{PortSeat}
+use Rattle.ak_port.specs.ReplySeats.{ReplySeat}
+use Rattle.ak_desk.specs.Shared.{DeskSeat}
+use Rattle.ak_looper.specs.declared.job.LooperEnd.{LooperEnd}
+use Rattle.ak_looper.specs.declared.job.LooperJob.{LooperJob}
+use Rattle.ak_looper.specs.Job.{HasLived, IsReady}
+use Rattle.ak_looper.specs.Rosters.{Object, RosterSeat}
+use Rattle.ak_run.specs.declared.gathering.Joined.{Joined}
+use Rattle.ak_run.specs.declared.member.Member.{Member}
+use Rattle.ak_run.specs.declared.new_looper.Shared.{Shared}
+use Rattle.ak_run.specs.Gathering.{GoesOnKnowing, IsJoined, TookIn}
+use Rattle.ak_run.specs.Running.{IsMember}
+
+-- ---- a seat that takes in what another one knew
+module _ {O L : Type 0} where
+  pub took : (seat other both : SeatData O L) → both ≡ joined_seat seat other → TookIn other both
+  took seat other both is = subst (λ (s : SeatData O L). Contains s.joined (part_of other)) (sym is) (Contains-append_right seat.joined (part_of other ∷ other.joined) (part_of other) (0, omega arith, refl))
+
+  pub goes_on_knowing : (seat other both : SeatData O L) → both ≡ joined_seat seat other → GoesOnKnowing seat both
+  goes_on_knowing seat other both is = record {
+    lock = ap (λ (s : SeatData O L). s.lock) is;
+    opening = ap (λ (s : SeatData O L). s.opening) is;
+    thread = ap (λ (s : SeatData O L). s.thread) is;
+    turn = ap (λ (s : SeatData O L). s.turn) is;
+    front = ap (λ (s : SeatData O L). s.front) is;
+    parts = λ part there. subst (λ (s : SeatData O L). Contains s.joined part) (sym is) (Contains-append_left seat.joined (part_of other ∷ other.joined) part there);
+  }
+
+  pub knows_as_before : (seat : SeatData O L) → GoesOnKnowing seat seat
+  knows_as_before seat = record { lock = refl; opening = refl; thread = refl; turn = refl; front = refl; parts = λ part there. there }
+
+  pub knows_further : (a b c : SeatData O L) → GoesOnKnowing a b → GoesOnKnowing b c → GoesOnKnowing a c
+  knows_further a b c one two = record {
+    lock = two.lock ∙ one.lock;
+    opening = two.opening ∙ one.opening;
+    thread = two.thread ∙ one.thread;
+    turn = two.turn ∙ one.turn;
+    front = two.front ∙ one.front;
+    parts = λ part there. two.parts part (one.parts part there);
+  }
+
+-- ---- while others are joined
+pub member_still : (heads : List AppHead) (shared : Shared) (roster roster' : RosterSeat) (m : Member) → GoesOnKnowing roster roster' → IsMember heads shared roster m → IsMember heads shared roster' m
+member_still heads shared roster roster' m on is =
+    record {
+      number = is.number;
+      ready = is.ready;
+      at_port = is.at_port;
+      at_desk = is.at_desk;
+      at_book = is.at_book;
+      at_roster = is.at_roster;
+      heads_are = is.heads_are;
+      seen = subst (λ (front : List (EntryWithObjects Object)). StartsWith front m.job.value.roster_seat.front) (sym on.front) is.seen;
+      by_main = is.by_main;
+      taker = is.taker;
+      taker_is = is.taker_is;
+      port_opening = is.port_opening;
+      desk = is.desk;
+      desk_opening = is.desk_opening;
+      job_desk = is.job_desk;
+      life = is.life;
+    }
+
+pub joined_still : (heads : List AppHead) (roster roster' : RosterSeat) (book book' : ReplySeat) (j : Joined) → GoesOnKnowing roster roster' → GoesOnKnowing book book' → IsJoined heads roster book j → IsJoined heads roster' book' j
+joined_still heads roster roster' book book' j on_roster on_book is =
+    record {
+      number = is.number;
+      ready = is.ready;
+      lived = is.lived;
+      heads_are = is.heads_are;
+      seen = subst (λ (front : List (EntryWithObjects Object)). StartsWith front j.job.value.roster_seat.front) (sym on_roster.front) is.seen;
+      at_roster = on_roster.parts (part_of j.end.value.roster_seat) is.at_roster;
+      at_book = on_book.parts (part_of j.end.value.hands.book_seat) is.at_book;
+      at_port = is.at_port;
+      at_desk = is.at_desk;
+      taker = is.taker;
+      taker_is = is.taker_is;
+      port_opening = is.port_opening;
+      desk = is.desk;
+      desk_opening = is.desk_opening;
+      job_desk = is.job_desk;
+    }
+
+pub all_joined_still : (heads : List AppHead) (roster roster' : RosterSeat) (book book' : ReplySeat) (js : List Joined) → GoesOnKnowing roster roster' → GoesOnKnowing book book'
+    → All (IsJoined heads roster book) js → All (IsJoined heads roster' book') js
+all_joined_still heads roster roster' book book' js on_roster on_book all =
+    All-weaker (IsJoined heads roster book) (IsJoined heads roster' book') (λ j is. joined_still heads roster roster' book book' j on_roster on_book is) js all
+
+-- ---- its thread gave this back, and main's seats took in what the thread's knew
+pub is_joined : (heads : List AppHead) (shared : Shared) (roster roster' : RosterSeat) (book book' : ReplySeat) (m : Member) (end : LooperEnd) (j : Joined)
+    → IsMember heads shared roster m → HasLived m.job.value end → j.number ≡ m.number → j.job.value ≡ m.job.value → j.end.value ≡ end
+    → roster' ≡ joined_seat roster end.roster_seat → book' ≡ joined_seat book end.hands.book_seat
+    → j.door.port_seat ≡ joined_seat m.door.port_seat end.own.port_seat → j.door.desk_seat ≡ joined_seat m.door.desk_seat end.own.desk_seat
+    → IsJoined heads roster' book' j
+is_joined heads shared roster roster' book book' m end j is lived number job gave at_roster at_book at_port at_desk =
+    record {
+      number = ap (λ (job : LooperJob). job.number) job ∙ is.number ∙ sym number;
+      ready = subst IsReady (sym job) is.ready;
+      lived = subst (HasLived j.job.value) (sym gave) (subst (λ (job : LooperJob). HasLived job end) (sym job) lived);
+      heads_are = ap (λ (job : LooperJob). job.roster_seat.opening) job ∙ is.heads_are;
+      seen = subst (λ (job : LooperJob). StartsWith roster'.front job.roster_seat.front) (sym job) (subst (λ (s : RosterSeat). StartsWith s.front m.job.value.roster_seat.front) (sym at_roster) is.seen);
+      at_roster = subst (λ (e : LooperEnd). TookIn e.roster_seat roster') (sym gave) (took roster end.roster_seat roster' at_roster);
+      at_book = subst (λ (e : LooperEnd). TookIn e.hands.book_seat book') (sym gave) (took book end.hands.book_seat book' at_book);
+      at_port = subst (λ (e : LooperEnd). TookIn e.own.port_seat j.door.port_seat) (sym gave) (took m.door.port_seat end.own.port_seat j.door.port_seat at_port);
+      at_desk = subst (λ (e : LooperEnd). TookIn e.own.desk_seat j.door.desk_seat) (sym gave) (took m.door.desk_seat end.own.desk_seat j.door.desk_seat at_desk);
+      taker = is.taker;
+      taker_is = is.taker_is ∙ ap looper_thread (sym number);
+      port_opening = ap (λ (s : PortSeat). s.opening) at_port ∙ is.port_opening;
+      desk = is.desk;
+      desk_opening = ap (λ (s : DeskSeat). s.opening) at_desk ∙ is.desk_opening;
+      job_desk = ap (λ (job : LooperJob). job.own.desk_seat.opening) job ∙ is.job_desk;
+    }

@@ -1,0 +1,59 @@
+-- A run in which nothing was done.
+use Rattle.std.specs.List.{range_with_len}
+use Rattle.std.proofs.Common.{◌≡◌, ℕ, ◌+◌, ◌≤◌, ◌<◌, List, [], ◌∷◌, ◌++◌, length, map, take, refl, sym, ap, ◌∙◌, subst, arith, All, vec_capacity, Some}
+use Rattle.std.specs.Prelude.{get_or}
+use Rattle.std.proofs.lemmas.List.{map_more}
+use Rattle.std.proofs.lemmas.List.Elements.{All-cons, All-nil}
+use Rattle.ak_base.specs.Limits.{looper_limit}
+use Rattle.ak_base.specs.Thread.{looper_thread, main_thread}
+use Rattle.ak_turn.specs.Seats.{KnowsWhole, LockId, first_seat}
+use Rattle.ak_turn.proofs.Surface.{first_knows}
+use Rattle.ak_roster.specs.declared.head.AppHead.{AppHead}
+use Rattle.ak_roster.specs.declared.entry.EntryWithObjects.{EntryWithObjects}
+use Rattle.ak_port.specs.declared.reply_entry.ReplyEntry.{ReplyEntry}
+use Rattle.ak_port.specs.ReplySeats as books
+use Rattle.ak_port.specs.ReplySeats.{ReplySeat}
+use Rattle.ak_describe.specs.declared.described.AppText.{AppText}
+use Rattle.ak_describe.specs.Whole.{IsWholeApp, head_of, heads_of}
+use Rattle.ak_looper.specs.Rosters as rosters
+use Rattle.ak_looper.specs.Rosters.{Object, RosterSeat}
+use Rattle.ak_run.specs.declared.member.Member.{Member}
+use Rattle.ak_run.specs.declared.run.Run.{Run}
+use Rattle.ak_run.specs.Counting.{started_by_main}
+use Rattle.ak_run.specs.Running.{AreBelow, HasRoomToEnd, IsMember, IsOpenedAs, IsRunning, Stands}
+
+-- the heads of one application more
+pub heads_more : (apps : List AppText) (index : ℕ) (app : AppText) (head : AppHead) (heads heads' : List AppHead) → index < length apps → app ≡ get_or apps index app → head ≡ head_of app
+    → heads ≡ heads_of (take index apps) → heads' ≡ heads ++ head ∷ [] → heads' ≡ heads_of (take (index + 1) apps)
+heads_more apps index app head heads heads' within is its_head so_far pushed =
+    pushed ∙ ap (λ (l : List AppHead). l ++ head ∷ []) so_far
+    ∙ ap (λ (h : AppHead). heads_of (take index apps) ++ h ∷ []) (its_head ∙ ap head_of is)
+    ∙ sym (map_more head_of apps index app within)
+
+-- the run itself
+pub begins : (heads : List AppHead) (roster book : LockId) (r : Run) → All IsWholeApp r.apps.items → heads ≡ heads_of r.apps.items → r.roster_seat ≡ first_seat roster heads [] [] main_thread → r.hands.book_seat ≡ first_seat book tt [] [] main_thread
+    → r.members.items ≡ [] → looper_limit ≤ vec_capacity r.members → HasRoomToEnd r → IsRunning r
+begins heads roster book r whole heads_are roster_is book_is none room ready =
+    let few : length r.members.items ≡ 0 = ap length none in
+    record {
+      heads = heads;
+      stands = record {
+        whole = whole;
+        heads_are = heads_are;
+        opening = ap (λ (s : RosterSeat). s.opening) roster_is;
+        roster_known = subst (KnowsWhole rosters.by_number) (sym roster_is) (first_knows rosters.by_number roster heads [] main_thread (All-nil (λ (entry : EntryWithObjects Object). rosters.by_number entry ≡ main_thread)));
+        roster_names = subst (λ (s : RosterSeat). AreBelow (looper_thread (length r.members.items)) s.names) (sym roster_is) (main_below (length r.members.items));
+        book_known = subst (KnowsWhole books.maker_of) (sym book_is) (first_knows books.maker_of book tt [] main_thread (All-nil (λ (entry : ReplyEntry). books.maker_of entry ≡ main_thread)));
+        book_names = subst (λ (s : ReplySeat). AreBelow (looper_thread (length r.members.items)) s.names) (sym book_is) (main_below (length r.members.items));
+        numbers = subst (λ (ms : List Member). map (λ (m : Member). m.number) ms ≡ range_with_len 0 (length ms)) (sym none) refl;
+        each = subst (All (IsMember heads r.shared r.roster_seat)) (sym none) (All-nil (IsMember heads r.shared r.roster_seat));
+        opened = subst (All (IsOpenedAs r.apps.items)) (sym none) (All-nil (IsOpenedAs r.apps.items));
+        few = omega (arith, few);
+        room = room;
+        ready = ready;
+      };
+      all = ap (started_by_main heads) roster_is ∙ sym few;
+    }
+  where
+    main_below : (n : ℕ) → AreBelow (looper_thread n) (Some (main_thread ∷ []))
+    main_below n = All-cons (λ name. name < looper_thread n) main_thread [] (omega arith) (All-nil (λ name. name < looper_thread n))

@@ -1,0 +1,116 @@
+-- Main's turn at the roster: how many loopers its own entries start, and how its seat goes on.
+use Rattle.std.proofs.Common.{◌≡◌, ◌≢◌, ℕ, ◌+◌, ◌≤◌, suc, false, List, [], ◌∷◌, ◌++◌, length, map, cond, refl, sym, ap, ◌∙◌, subst, append_assoc, append-nil, eq-eqb, arith, All}
+use Rattle.std.proofs.lemmas.List.{map-append}
+use Rattle.std.proofs.lemmas.List.Elements.{All-head, All-tail, All-map, filter-append}
+use Rattle.ak_base.specs.Thread.{main_thread}
+use Rattle.ak_turn.specs.Called.{KeepsSeat}
+use Rattle.ak_turn.specs.Entries.{AreByOthers, StartsWith, made_by}
+use Rattle.ak_turn.specs.Noted.{entry_of}
+use Rattle.ak_turn.specs.Seats.{IsGiven, KnowsWhole, at_leisure, at_turn, entered_by, later}
+use Rattle.ak_turn.proofs.Surface.{noted-others, noted_is_made}
+use Rattle.ak_roster.specs.declared.head.AppHead.{AppHead}
+use Rattle.ak_roster.specs.declared.entry.EntryWithObjects.{EntryWithObjects}
+use Rattle.ak_roster.specs.declared.entry.RosterEntry.{RosterEntry}
+use Rattle.ak_roster.specs.Kept.{count_of}
+use Rattle.ak_roster.specs.Roster.{plain_entries}
+use Rattle.ak_looper.specs.Rosters.{Object, RosterSeat, by_number, maker_of}
+use Rattle.ak_run.specs.Counting.{started_by_main, started_in}
+use Rattle.ak_run.specs.Launching.{Book, HasEntered}
+
+abbrev Entries : Type 0
+Entries = List (EntryWithObjects Object)
+
+-- ---- how many loopers entries start
+module _ (heads : List AppHead) where
+  regroup : (a b c : ℕ) → a + (b + c) ≡ (a + b) + c
+  regroup a b c = omega arith
+
+  none_before : (n : ℕ) → n ≡ 0 + n
+  none_before n = omega arith
+
+  started-append : (xs ys : List RosterEntry) → started_in heads (xs ++ ys) ≡ started_in heads xs + started_in heads ys
+  started-append [] ys = none_before (started_in heads ys)
+  started-append (x ∷ xs) ys = ap (λ n. count_of heads x.event + n) (started-append xs ys) ∙ regroup (count_of heads x.event) (started_in heads xs) (started_in heads ys)
+
+-- what others made is none of the thread's, and what it made itself is all its own
+made_on : (thread : ℕ) (front between : List RosterEntry) → AreByOthers maker_of thread between → made_by maker_of thread (front ++ between) ≡ made_by maker_of thread front
+made_on thread front between others =
+    sym (noted_is_made maker_of thread (front ++ between)) ∙ ap (map entry_of) (noted-others maker_of thread front between others) ∙ noted_is_made maker_of thread front
+
+made_own : (thread : ℕ) (xs : List RosterEntry) → All (λ (entry : RosterEntry). entry.by.0 ≡ thread) xs → made_by maker_of thread xs ≡ xs
+made_own thread [] all = refl
+made_own thread (x ∷ xs) all =
+    ap (λ b. cond b (x ∷ made_by maker_of thread xs) (made_by maker_of thread xs)) (eq-eqb x.by.0 thread (All-head (λ (entry : RosterEntry). entry.by.0 ≡ thread) x xs all))
+    ∙ ap (λ l. x ∷ l) (made_own thread xs (All-tail (λ (entry : RosterEntry). entry.by.0 ≡ thread) x xs all))
+
+pub plain-append : (xs ys : Entries) → plain_entries (xs ++ ys) ≡ plain_entries xs ++ plain_entries ys
+plain-append xs ys = map-append (λ (entry : EntryWithObjects Object). entry.plain) xs ys
+
+made_in_all : (thread : ℕ) (front between added : Entries) → AreByOthers by_number thread between → All (λ (entry : EntryWithObjects Object). entry.plain.by.0 ≡ thread) added
+    → made_by maker_of thread (plain_entries ((front ++ between) ++ added)) ≡ made_by maker_of thread (plain_entries front) ++ plain_entries added
+made_in_all thread front between added others mine =
+    let plain = λ (entry : EntryWithObjects Object). entry.plain in
+    ap (made_by maker_of thread) (plain-append (front ++ between) added ∙ ap (λ l. l ++ plain_entries added) (plain-append front between))
+    ∙ filter-append _ (plain_entries front ++ plain_entries between) (plain_entries added)
+    ∙ ap (λ l. l ++ made_by maker_of thread (plain_entries added)) (made_on thread (plain_entries front) (plain_entries between) (All-map (λ (entry : RosterEntry). entry.by.0 ≢ thread) plain between others))
+    ∙ ap (λ l. made_by maker_of thread (plain_entries front) ++ l) (made_own thread (plain_entries added) (All-map (λ (entry : RosterEntry). entry.by.0 ≡ thread) plain added mine))
+
+-- ---- main's seat goes on, by entries that start so many loopers
+pub record RosterOn (heads : List AppHead) (more : ℕ) (seat seat' : RosterSeat) : Type 0 where
+  pub keeps : KeepsSeat seat seat'
+  pub on : StartsWith seat'.front seat.front
+  pub started : started_by_main heads seat' ≡ started_by_main heads seat + more
+  pub known : KnowsWhole by_number seat'
+
+module _ (seat given seat' : RosterSeat) (book book' : Book) (more : ℕ) (idle : seat.turn ≡ false) (thread : seat.thread ≡ main_thread) (seen : IsGiven by_number seat given) (known : KnowsWhole by_number given)
+    (list : book.entries ≡ given.front) (entered : HasEntered more book book') (same : book'.entries ≡ given.front → seat' ≡ at_leisure given)
+    (one : (x : EntryWithObjects Object) → book'.entries ≡ given.front ++ x ∷ [] → seat' ≡ at_leisure (entered_by given x)) (knows : KnowsWhole by_number given → KnowsWhole by_number seat') where
+  keeps_as : (s : RosterSeat) → seat' ≡ at_leisure s → s.lock ≡ given.lock → s.opening ≡ given.opening → s.thread ≡ given.thread → s.joined ≡ given.joined → s.names ≡ given.names → KeepsSeat seat seat'
+  keeps_as s is lock opening thread_is joined names = record {
+    lock = ap (λ (t : RosterSeat). t.lock) is ∙ lock ∙ ap (λ (t : RosterSeat). t.lock) seen.after;
+    opening = ap (λ (t : RosterSeat). t.opening) is ∙ opening ∙ ap (λ (t : RosterSeat). t.opening) seen.after;
+    thread = ap (λ (t : RosterSeat). t.thread) is ∙ thread_is ∙ ap (λ (t : RosterSeat). t.thread) seen.after;
+    joined = ap (λ (t : RosterSeat). t.joined) is ∙ joined ∙ ap (λ (t : RosterSeat). t.joined) seen.after;
+    turn = ap (λ (t : RosterSeat). t.turn) is ∙ sym idle;
+    names = ap (λ (t : RosterSeat). t.names) is ∙ names ∙ ap (λ (t : RosterSeat). t.names) seen.after;
+  }
+
+  after : (added : Entries) → length added ≤ 1 → book'.entries ≡ given.front ++ added → (seat'.front ≡ given.front ++ added) × KeepsSeat seat seat'
+  after [] few is =
+      let left = same (is ∙ append-nil given.front) in
+      (ap (λ (t : RosterSeat). t.front) left ∙ sym (append-nil given.front), keeps_as given left refl refl refl refl refl)
+  after (x ∷ []) few is =
+      let left = one x is in
+      (ap (λ (t : RosterSeat). t.front) left, keeps_as (entered_by given x) left refl refl refl refl refl)
+  after (x ∷ y ∷ zs) few is = absurd (omega (arith, few))
+
+  grown : book'.entries ≡ given.front ++ entered.added
+  grown = entered.entries ∙ ap (λ (l : Entries). l ++ entered.added) list
+
+  before : given.front ≡ seat.front ++ seen.between
+  before = ap (λ (t : RosterSeat). t.front) seen.after
+
+  front_is : seat'.front ≡ (seat.front ++ seen.between) ++ entered.added
+  front_is = (after entered.added entered.one grown).0 ∙ ap (λ (l : Entries). l ++ entered.added) before
+
+  -- the list that the turn left is what it has seen
+  pub sees_all : seat'.front ≡ book'.entries
+  sees_all = (after entered.added entered.one grown).0 ∙ sym grown
+
+  pub goes_on : RosterOn book.heads more seat seat'
+  goes_on = record {
+    keeps = (after entered.added entered.one grown).1;
+    on = (seen.between ++ entered.added, front_is ∙ append_assoc seat.front seen.between entered.added);
+    started =
+        ap (λ (l : Entries). started_in book.heads (made_by maker_of main_thread (plain_entries l))) front_is
+        ∙ ap (started_in book.heads) (made_in_all main_thread seat.front seen.between entered.added (subst (λ (t : ℕ). AreByOthers by_number t seen.between) thread seen.others) entered.by_main)
+        ∙ started-append book.heads (made_by maker_of main_thread (plain_entries seat.front)) (plain_entries entered.added)
+        ∙ ap (λ n. started_in book.heads (made_by maker_of main_thread (plain_entries seat.front)) + n) entered.starts;
+    known = knows known;
+  }
+
+  -- at the turn it has started as many as before
+  pub started_at_turn : started_in book.heads (made_by maker_of main_thread (plain_entries book.entries)) ≡ started_by_main book.heads seat
+  started_at_turn =
+      ap (λ (l : Entries). started_in book.heads (made_by maker_of main_thread (plain_entries l))) (list ∙ before ∙ sym (append-nil (seat.front ++ seen.between)))
+      ∙ ap (started_in book.heads) (made_in_all main_thread seat.front seen.between [] (subst (λ (t : ℕ). AreByOthers by_number t seen.between) thread seen.others) (λ i d lt. absurd (omega (arith, lt))) ∙ append-nil (made_by maker_of main_thread (plain_entries seat.front)))

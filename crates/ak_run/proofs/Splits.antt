@@ -1,0 +1,287 @@
+-- A looper starts: its thread's seats are split from main's.
+use Rattle.std.proofs.Common.{◌≡◌, ◌≢◌, ℕ, zero, suc, ◌+◌, ◌≤◌, ◌<◌, List, [], ◌∷◌, ◌++◌, length, map, Option, None, Some, refl, sym, ap, ◌∙◌, subst, append-nil, arith, All, Contains, vec_capacity}
+use Rattle.std.specs.Prelude.{slice_get}
+use Rattle.std.specs.Arc.{arc_value}
+use Rattle.std.specs.List.{range_with_len}
+use Rattle.std.proofs.lemmas.List.{length-append, map-append}
+use Rattle.std.proofs.lemmas.List.Elements.{All-map, All-push, All-weaker, Contains-append_left}
+use Rattle.ak_base.specs.Limits.{looper_limit}
+use Rattle.ak_base.specs.Thread.{looper_thread, main_thread}
+use Rattle.ak_turn.specs.Entries.{AreByOthers, StartsWith}
+use Rattle.ak_turn.specs.Noted.{noted}
+use Rattle.ak_turn.specs.Seats.{KnowsWhole, SeatData, new_seat, titled_seat}
+use Rattle.ak_turn.specs.Steps.{IsNewName, names_with}
+use Rattle.ak_turn.proofs.Surface.{noted-others}
+use Rattle.ak_roster.specs.declared.head.AppHead.{AppHead}
+use Rattle.ak_roster.specs.declared.entry.EntryWithObjects.{EntryWithObjects}
+use Rattle.ak_roster.specs.declared.entry.RosterEntry.{RosterEntry}
+use Rattle.ak_roster.specs.Roster.{plain_entries}
+use Rattle.ak_port.specs.ReplySeats as books
+use Rattle.ak_port.specs.ReplySeats.{ReplySeat}
+use Rattle.ak_action.specs.declared.plan.PlanParts.{PlanParts}
+use Rattle.ak_action.specs.declared.state.DeskState.{DeskState}
+use Rattle.ak_action.specs.Opening.{Opens}
+use Rattle.ak_describe.specs.Whole.{IsWholeApp, heads_of, looper_names}
+use Rattle.ak_looper.specs.declared.door.Door.{Door}
+use Rattle.ak_looper.specs.declared.job.LooperJob.{LooperJob}
+use Rattle.ak_looper.specs.Job.{IsReady}
+use Rattle.ak_looper.specs.Rosters as rosters
+use Rattle.ak_looper.specs.Rosters.{Object, RosterSeat, maker_of}
+use Rattle.ak_run.specs.declared.launching.Team.{Team}
+use Rattle.ak_run.specs.declared.member.Member.{Member}
+use Rattle.ak_run.specs.declared.new_looper.NewLooper.{NewLooper}
+use Rattle.ak_run.specs.declared.new_looper.Shared.{Shared}
+use Rattle.ak_run.specs.declared.run.Run.{Run}
+use Rattle.ak_run.specs.Counting.{started_by_main}
+use Rattle.ak_run.specs.Jobs.{CanStart, HasWays, IsJobOf, facts_in}
+use Rattle.ak_run.specs.Members.{IsLifeOf, StillLeads}
+use Rattle.ak_run.specs.NewLooper.{IsNewLooper}
+use Rattle.ak_run.specs.Opening.{names_in}
+use Rattle.ak_run.specs.Running.{AreBelow, IsMember, IsOpenedAs, KeepsRest, Stands}
+use Rattle.ak_run.specs.Starting.{GoesOn, GoesOnWith, HasSplit, MayStart}
+use Rattle.ak_run.proofs.GoingOn.{some_same}
+use Rattle.ak_run.proofs.Heads.{by_others, nothing_by_new}
+use Rattle.ak_run.proofs.Standing.{member_sees, starts_then_starts}
+
+-- ---- names
+pub new_name : (number : ℕ) (names : Option (List ℕ)) → AreBelow (looper_thread number) names → IsNewName names (looper_thread number)
+new_name number None below = absurd below
+new_name number (Some ns) below = λ i d lt same. omega (arith, below i d lt, same)
+
+names_on : (number : ℕ) (names : Option (List ℕ)) → AreBelow (looper_thread number) names → AreBelow (looper_thread (number + 1)) (names_with names (looper_thread number))
+names_on number None below = absurd below
+names_on number (Some ns) below =
+    All-push (λ name. name < looper_thread (number + 1)) ns (looper_thread number) (All-weaker (λ name. name < looper_thread number) (λ name. name < looper_thread (number + 1)) (λ name lt. omega (arith, lt)) ns below) (omega arith)
+
+-- ---- numbers in order
+range_next : (a n : ℕ) → range_with_len a (suc n) ≡ range_with_len a n ++ (a + n) ∷ []
+range_next a zero = ap (λ m. m ∷ []) (plus_nothing a)
+  where
+    plus_nothing : (m : ℕ) → m ≡ m + 0
+    plus_nothing m = omega arith
+range_next a (suc n) = ap (λ l. a ∷ l) (range_next (a + 1) n ∙ ap (λ m. range_with_len (a + 1) n ++ m ∷ []) (shift a n))
+  where
+    shift : (b m : ℕ) → (b + 1) + m ≡ b + suc m
+    shift b m = omega arith
+
+range_more : (n : ℕ) → range_with_len 0 (n + 1) ≡ range_with_len 0 n ++ n ∷ []
+range_more n = ap (range_with_len 0) (one_more n) ∙ range_next 0 n ∙ ap (λ m. range_with_len 0 n ++ m ∷ []) (from_nothing n)
+  where
+    from_nothing : (m : ℕ) → 0 + m ≡ m
+    from_nothing m = omega arith
+
+    one_more : (m : ℕ) → m + 1 ≡ suc m
+    one_more m = omega arith
+
+-- ---- what the new seats know
+roster_nothing : (seat : RosterSeat) (thread : ℕ) → KnowsWhole rosters.by_number seat → IsNewName seat.names thread → noted maker_of thread (plain_entries seat.front) ≡ []
+roster_nothing seat thread known new =
+    let others : AreByOthers rosters.by_number thread seat.front = by_others rosters.by_number seat.names thread seat.front known.names new in
+    noted-others maker_of thread [] (plain_entries seat.front) (All-map (λ (entry : RosterEntry). entry.by.0 ≢ thread) (λ (entry : EntryWithObjects Object). entry.plain) seat.front others)
+
+module _ (heads : List AppHead) (plans : List PlanParts) (k : ℕ) (t : Team) (n : NewLooper) (ways : List (ℕ × Door)) (r : Run) (m : MayStart heads plans k t n ways r) where
+  abbrev count : ℕ
+  count = length r.members.items
+
+  number_is : n.number ≡ count
+  number_is = m.new.number ∙ m.next
+
+  abbrev thread : ℕ
+  thread = looper_thread n.number
+
+  pub roster_new : IsNewName r.roster_seat.names thread
+  roster_new = subst (λ x. IsNewName r.roster_seat.names (looper_thread x)) (sym number_is) (new_name count r.roster_seat.names m.stands.roster_names)
+
+  pub book_new : IsNewName r.hands.book_seat.names thread
+  book_new = subst (λ x. IsNewName r.hands.book_seat.names (looper_thread x)) (sym number_is) (new_name count r.hands.book_seat.names m.stands.book_names)
+
+  abbrev book_seat : ReplySeat
+  book_seat = new_seat thread None r.hands.book_seat
+
+  abbrev roster_seat : RosterSeat
+  roster_seat = new_seat thread None r.roster_seat
+
+  itself : IsNewLooper plans t.number t.first n.shared k n
+  itself = record {
+    number = m.new.number;
+    within = m.new.within;
+    plan = m.new.plan;
+    described = m.new.described;
+    shared_is = record { book = refl; roster = refl };
+    by_main = m.new.by_main;
+    port_is = m.new.port_is;
+    desk_is = m.new.desk_is;
+    new = m.new.new;
+    taker = m.new.taker;
+    taker_is = m.new.taker_is;
+    takes = m.new.takes;
+    queue = m.new.queue;
+    desk = m.new.desk;
+    opening_is = m.new.opening_is;
+    opens = m.new.opens;
+    port_opening = m.new.port_opening;
+    desk_opening = m.new.desk_opening;
+  }
+
+  ready_seats : CanStart heads plans k t n ways book_seat roster_seat
+  ready_seats = record {
+    new = itself;
+    count = m.loopers;
+    within = m.within;
+    at_book = record { idle = refl; thread_is = refl };
+    book_of = r.hands.of ∙ r.book ∙ sym m.new.shared_is.book;
+    book_nothing = nothing_by_new books.maker_of r.hands.book_seat thread m.stands.book_known book_new;
+    at_roster = record { idle = refl; thread_is = refl };
+    roster_of = r.roster_of ∙ sym m.new.shared_is.roster;
+    roster_nothing = roster_nothing r.roster_seat thread m.stands.roster_known roster_new;
+    heads_are = m.stands.opening;
+    launched = m.launched;
+    ways_are = λ desk. let w = m.ways_are desk in record { numbers = w.numbers; new = w.new; lead = w.lead };
+  }
+
+  pub can_start : (book : ReplySeat) (roster : RosterSeat) → book ≡ book_seat → roster ≡ roster_seat → CanStart heads plans k t n ways book roster
+  can_start book roster book_is roster_is = subst (λ b. CanStart heads plans k t n ways b roster) (sym book_is) (subst (CanStart heads plans k t n ways book_seat) (sym roster_is) ready_seats)
+
+  -- main's seats were split, and nothing else changed
+  module _ (s : Run) (split : HasSplit thread r s) where
+    front_same : s.roster_seat.front ≡ r.roster_seat.front
+    front_same = ap (λ (x : RosterSeat). x.front) split.roster_seat
+
+    on : StartsWith s.roster_seat.front r.roster_seat.front
+    on = ([], front_same ∙ sym (append-nil r.roster_seat.front))
+
+    pub stands_split : Stands (count + 1) heads s
+    stands_split = record {
+      whole = subst (λ v. All IsWholeApp v.items) (sym split.rest.apps) m.stands.whole;
+      heads_are = m.stands.heads_are ∙ ap (λ v. heads_of v.items) (sym split.rest.apps);
+      opening = ap (λ (x : RosterSeat). x.opening) split.roster_seat ∙ m.stands.opening;
+      roster_known = split.roster_known m.stands.roster_known;
+      roster_names = subst (AreBelow (looper_thread (count + 1))) (sym (ap (λ (x : RosterSeat). x.names) split.roster_seat)) (subst (λ x. AreBelow (looper_thread (count + 1)) (names_with r.roster_seat.names (looper_thread x))) (sym number_is) (names_on count r.roster_seat.names m.stands.roster_names));
+      book_known = split.book_known m.stands.book_known;
+      book_names = subst (AreBelow (looper_thread (count + 1))) (sym (ap (λ (x : ReplySeat). x.names) split.book_seat)) (subst (λ x. AreBelow (looper_thread (count + 1)) (names_with r.hands.book_seat.names (looper_thread x))) (sym number_is) (names_on count r.hands.book_seat.names m.stands.book_names));
+      numbers = subst (λ v. map (λ (x : Member). x.number) v.items ≡ range_with_len 0 (length v.items)) (sym split.members) m.stands.numbers;
+      each = subst (λ v. All (IsMember heads s.shared s.roster_seat) v.items) (sym split.members) (subst (λ h. All (IsMember heads h s.roster_seat) r.members.items) (sym split.rest.shared)
+          (All-weaker (IsMember heads r.shared r.roster_seat) (IsMember heads r.shared s.roster_seat) (member_sees heads r.shared r.roster_seat s.roster_seat on) r.members.items m.stands.each));
+      opened = subst (λ v. All (IsOpenedAs s.apps.items) v.items) (sym split.members) (subst (λ v. All (IsOpenedAs v.items) r.members.items) (sym split.rest.apps) m.stands.opened);
+      few = subst (λ v. length v.items ≤ looper_limit) (sym split.members) m.stands.few;
+      room = subst (λ v. looper_limit ≤ vec_capacity v) (sym split.members) m.stands.room;
+      ready = record {
+        joined = ap (λ v. v.items) split.rest.joined ∙ m.stands.ready.joined;
+        ports = ap (λ v. v.items) split.rest.ports ∙ m.stands.ready.ports;
+        desks = ap (λ v. v.items) split.rest.desks ∙ m.stands.ready.desks;
+        for_joined = subst (λ v. looper_limit ≤ vec_capacity v) (sym split.rest.joined) m.stands.ready.for_joined;
+        for_ports = subst (λ v. looper_limit ≤ vec_capacity v) (sym split.rest.ports) m.stands.ready.for_ports;
+        for_desks = subst (λ v. looper_limit ≤ vec_capacity v) (sym split.rest.desks) m.stands.ready.for_desks;
+      };
+    }
+
+    -- there is room for it, however the run went on
+    pub room_there : (u : Run) → GoesOn s u → length u.members.items < vec_capacity u.members
+    room_there u goes =
+        let stood = goes.stands (count + 1) heads stands_split in
+        let same : length u.members.items ≡ count = goes.count ∙ ap (λ w. length w.items) split.members in
+        omega (arith, same, stood.room, m.new.within, m.next)
+
+    -- then the run went on, and the looper was put behind the others
+    module _ (u : Run) (goes : GoesOn s u) (v : Run) (kept : KeepsRest u v) (v_hands : v.hands ≡ u.hands) (v_roster : v.roster_seat ≡ u.roster_seat)
+        (x : Member) (v_items : v.members.items ≡ u.members.items ++ x ∷ []) (v_room : vec_capacity v.members ≡ vec_capacity u.members)
+        (door : Door) (job : LooperJob) (book : ReplySeat) (roster : RosterSeat) (book_so : book ≡ book_seat) (roster_so : roster ≡ roster_seat)
+        (job_is : IsJobOf t n book roster job) (ready : IsReady job) (leads : StillLeads n.door door) (x_number : x.number ≡ n.number) (x_door : x.door ≡ door) (x_job : x.job.value ≡ job) (life : IsLifeOf job x.life) where
+      stood : Stands (count + 1) heads u
+      stood = goes.stands (count + 1) heads stands_split
+
+      own_is : x.job.value.own ≡ n.own
+      own_is = ap (λ (j : LooperJob). j.own) x_job ∙ job_is.own
+
+      new_member : IsMember heads u.shared u.roster_seat x
+      new_member = record {
+        number = ap (λ (j : LooperJob). j.number) x_job ∙ job_is.number ∙ sym x_number;
+        ready = subst IsReady (sym x_job) ready;
+        at_port = ap (λ (d : Door). d.port_seat.lock) own_is ∙ n.own.port_of ∙ m.new.port_is ∙ sym n.door.port_of ∙ sym leads.port_kept.lock ∙ ap (λ (d : Door). d.port_seat.lock) (sym x_door);
+        at_desk = ap (λ (d : Door). d.desk_seat.lock) own_is ∙ n.own.desk_of ∙ m.new.desk_is ∙ sym n.door.desk_of ∙ ap (λ s. s.lock) (sym leads.desk_seat) ∙ ap (λ (d : Door). d.desk_seat.lock) (sym x_door);
+        at_book = ap (λ (j : LooperJob). j.hands.book_seat.lock) x_job ∙ ap (λ (b : ReplySeat). b.lock) (job_is.book_seat ∙ book_so) ∙ r.hands.of ∙ r.book ∙ ap (λ (h : Shared). arc_value h.book) (sym split.rest.shared ∙ sym goes.shared);
+        at_roster = ap (λ (j : LooperJob). j.roster_seat.lock) x_job ∙ ap (λ (b : RosterSeat). b.lock) (job_is.roster_seat ∙ roster_so) ∙ r.roster_of ∙ ap (λ (h : Shared). arc_value h.roster) (sym split.rest.shared ∙ sym goes.shared);
+        heads_are = ap (λ (j : LooperJob). j.roster_seat.opening) x_job ∙ ap (λ (b : RosterSeat). b.opening) (job_is.roster_seat ∙ roster_so) ∙ m.stands.opening;
+        seen = subst (StartsWith u.roster_seat.front) (sym (ap (λ (j : LooperJob). j.roster_seat.front) x_job ∙ ap (λ (b : RosterSeat). b.front) (job_is.roster_seat ∙ roster_so)))
+            (starts_then_starts r.roster_seat.front s.roster_seat.front u.roster_seat.front on goes.on);
+        by_main = ap (λ (d : Door). d.port_seat.thread) x_door ∙ leads.port_kept.thread ∙ m.new.by_main;
+        taker = m.new.taker;
+        taker_is = m.new.taker_is ∙ ap looper_thread (sym m.new.number ∙ sym x_number);
+        port_opening = ap (λ (d : Door). d.port_seat.opening) x_door ∙ leads.port_kept.opening ∙ m.new.port_opening;
+        desk = m.new.desk;
+        desk_opening = ap (λ (d : Door). d.desk_seat.opening) x_door ∙ ap (λ s. s.opening) leads.desk_seat ∙ m.new.desk_opening;
+        job_desk = ap (λ (d : Door). d.desk_seat.opening) own_is ∙ m.new.opening_is;
+        life = subst (λ (j : LooperJob). IsLifeOf j x.life) (sym x_job) life;
+      }
+
+      new_opened : IsOpenedAs u.apps.items x
+      unfolding new_member
+      new_opened =
+          let d = m.described in
+          let apps_same = goes.apps ∙ split.rest.apps in
+          record {
+            desk = m.new.desk;
+            desk_is = new_member.job_desk;
+            opens = record {
+              app = d.app;
+              there = subst (λ w. Contains w.items d.app) (sym apps_same) d.there;
+              place = k;
+              number_is = x_number ∙ m.new.number ∙ ap (λ f. f + k) (sym first_is);
+              plan = m.new.plan;
+              plan_is = subst (λ ps. slice_get ps k ≡ Some m.new.plan) d.plans_are m.new.described;
+              opens = subst (λ number. Opens m.new.plan number x.job.value.team x.job.value.first (looper_names d.app) m.new.desk) (sym m.new.number ∙ sym x_number)
+                  (subst (λ team. Opens m.new.plan (t.first + k) team x.job.value.first (looper_names d.app) m.new.desk) (sym team_is)
+                  (subst (λ f. Opens m.new.plan (t.first + k) t.number f (looper_names d.app) m.new.desk) (sym first_is)
+                  (subst (λ ps. Opens m.new.plan (t.first + k) t.number t.first (names_in ps) m.new.desk) d.plans_are m.new.opens)));
+            };
+          }
+        where
+          first_is : x.job.value.first ≡ t.first
+          first_is = ap (λ (j : LooperJob). j.first) x_job ∙ job_is.first
+
+          team_is : x.job.value.team ≡ t.number
+          team_is = ap (λ (j : LooperJob). j.team) x_job ∙ job_is.team
+
+      count_u : length u.members.items ≡ count
+      count_u = goes.count ∙ ap (λ w. length w.items) split.members
+
+      count_v : length v.members.items ≡ count + 1
+      count_v = ap length v_items ∙ length-append u.members.items (x ∷ []) ∙ ap (λ c. c + 1) count_u
+
+      stands_now : Stands (length v.members.items) heads v
+      stands_now = record {
+        whole = subst (λ w. All IsWholeApp w.items) (sym kept.apps) stood.whole;
+        heads_are = stood.heads_are ∙ ap (λ w. heads_of w.items) (sym kept.apps);
+        opening = ap (λ (y : RosterSeat). y.opening) v_roster ∙ stood.opening;
+        roster_known = subst (KnowsWhole rosters.by_number) (sym v_roster) stood.roster_known;
+        roster_names = subst (λ c. AreBelow (looper_thread c) v.roster_seat.names) (sym count_v) (subst (λ (y : RosterSeat). AreBelow (looper_thread (count + 1)) y.names) (sym v_roster) stood.roster_names);
+        book_known = subst (λ h. KnowsWhole books.maker_of h.book_seat) (sym v_hands) stood.book_known;
+        book_names = subst (λ c. AreBelow (looper_thread c) v.hands.book_seat.names) (sym count_v) (subst (λ h. AreBelow (looper_thread (count + 1)) h.book_seat.names) (sym v_hands) stood.book_names);
+        numbers = ap (map (λ (y : Member). y.number)) v_items ∙ map-append (λ (y : Member). y.number) u.members.items (x ∷ []) ∙ numbers_on u.members.items x (length v.members.items) stood.numbers (x_number ∙ number_is ∙ sym count_u) (count_v ∙ ap (λ c. c + 1) (sym count_u));
+        each = subst (All (IsMember heads v.shared v.roster_seat)) (sym v_items) (subst (λ h. All (IsMember heads h v.roster_seat) (u.members.items ++ x ∷ [])) (sym kept.shared)
+            (subst (λ y. All (IsMember heads u.shared y) (u.members.items ++ x ∷ [])) (sym v_roster) (All-push (IsMember heads u.shared u.roster_seat) u.members.items x stood.each new_member)));
+        opened = subst (All (IsOpenedAs v.apps.items)) (sym v_items) (subst (λ w. All (IsOpenedAs w.items) (u.members.items ++ x ∷ [])) (sym kept.apps) (All-push (IsOpenedAs u.apps.items) u.members.items x stood.opened new_opened));
+        few = omega (arith, count_v, m.new.within, m.next);
+        room = subst (λ c. looper_limit ≤ c) (sym v_room) stood.room;
+        ready = record {
+          joined = ap (λ w. w.items) kept.joined ∙ stood.ready.joined;
+          ports = ap (λ w. w.items) kept.ports ∙ stood.ready.ports;
+          desks = ap (λ w. w.items) kept.desks ∙ stood.ready.desks;
+          for_joined = subst (λ w. looper_limit ≤ vec_capacity w) (sym kept.joined) stood.ready.for_joined;
+          for_ports = subst (λ w. looper_limit ≤ vec_capacity w) (sym kept.ports) stood.ready.for_ports;
+          for_desks = subst (λ w. looper_limit ≤ vec_capacity w) (sym kept.desks) stood.ready.for_desks;
+        };
+      }
+        where
+          numbers_on : (xs : List Member) (y : Member) (total : ℕ) → map (λ (z : Member). z.number) xs ≡ range_with_len 0 (length xs) → y.number ≡ length xs → total ≡ length xs + 1 → map (λ (z : Member). z.number) xs ++ y.number ∷ [] ≡ range_with_len 0 total
+          numbers_on xs y total are number all = ap (λ l. l ++ y.number ∷ []) are ∙ ap (λ c. range_with_len 0 (length xs) ++ c ∷ []) number ∙ sym (range_more (length xs)) ∙ ap (range_with_len 0) (sym all)
+
+      pub goes_with : GoesOnWith 1 r v
+      goes_with = record {
+        stands = λ other k. subst (λ h. Stands (length v.members.items) h v) (some_same heads other (sym m.stands.opening ∙ k.opening)) stands_now;
+        started = λ other k. ap (started_by_main other) v_roster ∙ goes.started (count + 1) other (subst (λ h. Stands (count + 1) h s) (some_same heads other (sym m.stands.opening ∙ k.opening)) stands_split) ∙ ap (started_by_main other) split.roster_seat;
+        count = count_v;
+        on = subst (λ (y : RosterSeat). StartsWith y.front r.roster_seat.front) (sym v_roster) (starts_then_starts r.roster_seat.front s.roster_seat.front u.roster_seat.front on goes.on);
+        apps = kept.apps ∙ goes.apps ∙ split.rest.apps;
+        shared = kept.shared ∙ goes.shared ∙ split.rest.shared;
+      }

@@ -1,0 +1,57 @@
+-- One more is joined.
+use Rattle.std.proofs.Common.{◌≡◌, List, [], ◌∷◌, ◌++◌, length, length-append, map, All, ap, ◌∙◌, subst, sym, arith, append_assoc}
+use Rattle.std.proofs.lemmas.Grind.{common_steps}
+use Rattle.std.proofs.lemmas.List.{map-append}
+use Rattle.std.proofs.lemmas.List.Elements.{All-head, All-push, All-tail}
+use Rattle.ak_run.specs.declared.gathering.Joined.{Joined}
+use Rattle.ak_run.specs.declared.member.Member.{Member}
+use Rattle.ak_run.specs.Gathering.{IsJoined}
+use Rattle.ak_run.specs.Running.{IsMember}
+use Rattle.ak_run.proofs.Joining.{all_joined_still, knows_further, member_still}
+use Rattle.ak_run.proofs.gathering.join_all.Goals as goal
+
+pub join_one-requires-clause-member : goal.join_one-requires-clause-member
+join_one-requires-clause-member g c =
+    let so_far = c.loop-member in
+    let told = c.requires.members in
+    let next : so_far.member-iterator.rest.items ≡ c.in-Some.member ∷ c.next.new.self.rest.items = grind (arith, common_steps) in
+    let first = subst (All (IsMember told.0 told.1 c.args.roster_seat.now)) next (so_far.invariant.rest told.0 told.1 told.2) in (
+      told.0,
+      told.1,
+      member_still told.0 told.1 c.args.roster_seat.now so_far.roster_seat c.in-Some.member so_far.invariant.roster (All-head (IsMember told.0 told.1 c.args.roster_seat.now) c.in-Some.member c.next.new.self.rest.items first),
+      told.3,
+      told.4,
+    )
+
+pub loop-member-preserved : goal.loop-member-preserved
+loop-member-preserved g c =
+    let was = c.loop-member.invariant in
+    let r = c.args.roster_seat.now in
+    let between = c.loop-member.roster_seat in
+    let r' = c.join_one.new.roster_seat in
+    let book = c.loop-member.book_seat in
+    let book' = c.join_one.new.book_seat in
+    let js = c.loop-member.joined.items in
+    let j = c.join_one.result in
+    let m = c.in-Some.member in
+    let rest = c.next.new.self.rest.items in
+    let one = c.join_one.ensures in
+    let pushed : c.push_reserved.new.self.items ≡ js ++ j ∷ [] = c.push_reserved.ensures.items in
+    let next : c.loop-member.member-iterator.rest.items ≡ m ∷ rest = grind (arith, common_steps) in
+    record {
+      roster = knows_further r between r' was.roster one.roster;
+      book = knows_further c.args.book_seat.now book book' was.book one.book;
+      rest = λ heads shared all. All-tail (IsMember heads shared r) m rest (subst (All (IsMember heads shared r)) next (was.rest heads shared all));
+      joined = λ heads shared all.
+          let member = member_still heads shared r between m was.roster (All-head (IsMember heads shared r) m rest (subst (All (IsMember heads shared r)) next (was.rest heads shared all))) in
+          subst (All (IsJoined heads r' book')) (sym pushed)
+          (All-push (IsJoined heads r' book') js j (all_joined_still heads between r' book book' js one.roster one.book (was.joined heads shared all)) (one.joined heads shared member));
+      numbers =
+          ap (λ (l : List Joined). map (λ (j : Joined). j.number) l ++ map (λ (m : Member). m.number) rest) pushed
+          ∙ ap (λ (l : List _). l ++ map (λ (m : Member). m.number) rest) (map-append (λ (j : Joined). j.number) js (j ∷ []))
+          ∙ append_assoc (map (λ (j : Joined). j.number) js) (j.number ∷ []) (map (λ (m : Member). m.number) rest)
+          ∙ ap (λ (n : _). map (λ (j : Joined). j.number) js ++ n ∷ map (λ (m : Member). m.number) rest) one.number
+          ∙ sym (ap (λ (l : List Member). map (λ (j : Joined). j.number) js ++ map (λ (m : Member). m.number) l) next)
+          ∙ was.numbers;
+      room = omega (arith, ap (λ (l : List Joined). length l) pushed, length-append js (j ∷ []), ap (λ (l : List Member). length l) next, was.room, c.push_reserved.ensures.capacity);
+    }

@@ -1,0 +1,35 @@
+-- The first one is the own looper's, which is greeted; the others follow.
+use Rattle.std.proofs.Common.{◌≡◌, ℕ, ◌+◌, List, length, refl, sym, ap, subst, arith}
+use Rattle.ak_run.specs.declared.new_looper.NewLooper.{NewLooper}
+use Rattle.ak_run.specs.declared.opening.Opened.{Opened}
+use Rattle.ak_run.specs.Opening.{AreOpened}
+use Rattle.ak_run.proofs.Makings.{first_opened}
+use Rattle.ak_run.proofs.NewLoopers.{still_opened}
+use Rattle.ak_run.proofs.new_team.make_team.Goals as goal
+
+pub begin_team-requires : goal.begin_team-requires
+begin_team-requires g c =
+    let plans = c.args.plans.now in
+    let team = c.args.team in
+    let first = c.args.first in
+    let own = c.remove-own.result in
+    let parts = first_opened plans team first c.in_ok-others.others.items own c.remove-own.new.self.items (omega (arith, c.in_ok-others.ensures.count, c.requires.some)) c.in_ok-others.ensures.opened c.remove-own.ensures.value c.remove-own.ensures.items in
+    record { opened = (plans, team, first, still_opened plans team first 0 own parts.0 _ refl refl c.in_ok-greet.ensures.door) }
+
+pub loop-other-init : goal.loop-other-init
+loop-other-init g c =
+    let plans = c.args.plans.now in
+    let team = c.args.team in
+    let first = c.args.first in
+    let own = c.remove-own.result in
+    let left = c.remove-own.new.self.items in
+    let rest = c.into_iter-other-iterator.result.rest.items in
+    let parts = first_opened plans team first c.in_ok-others.others.items own left (omega (arith, c.in_ok-others.ensures.count, c.requires.some)) c.in_ok-others.ensures.opened c.remove-own.ensures.value c.remove-own.ensures.items in
+    let begun = c.in_ok-making.ensures.begun plans team first (still_opened plans team first 0 own parts.0 _ refl refl c.in_ok-greet.ensures.door) in
+    let none : 1 ≡ length c.in_ok-making.making.team.others.items + 1 = omega (arith, ap (λ (ns : List NewLooper). length ns) begun.1) in
+    let same : left ≡ rest = sym c.into_iter-other-iterator.ensures.into_iter_gives.0 in
+    record {
+      team = begun.0;
+      rest = subst (λ (k : ℕ). AreOpened plans team first k rest) none (subst (λ (os : List Opened). AreOpened plans team first 1 os) same parts.1);
+      count = omega (arith, none, ap (λ (os : List Opened). length os) same, parts.2, c.in_ok-others.ensures.count);
+    }

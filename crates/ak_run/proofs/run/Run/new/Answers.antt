@@ -1,0 +1,30 @@
+-- Its seats are the first at their locks, and nothing was done.
+use Rattle.std.proofs.Common.{List, ap, ◌∙◌}
+use Rattle.std.specs.Arc.{arc_value}
+use Rattle.ak_base.specs.Thread.{main_thread}
+use Rattle.ak_turn.specs.Entries.{places}
+use Rattle.ak_turn.specs.Seats.{first_seat}
+use Rattle.ak_port.specs.declared.reply_entry.ReplyEntry.{ReplyEntry}
+use Rattle.ak_port.specs.ReplySeats as books
+use Rattle.ak_describe.specs.Whole.{heads_of}
+use Rattle.ak_looper.specs.Rosters as rosters
+use Rattle.ak_run.specs.Launching.{Book}
+use Rattle.ak_run.proofs.NewRun.{begins}
+use Rattle.ak_run.proofs.run.Run.new.Goals as goal
+
+pub returns-clause-running : goal.returns-clause-running
+returns-clause-running g =
+    let at_roster = arc_value g.in_ok-roster-2.roster in
+    let at_book = arc_value g.in_ok-book.book in
+    begins g.in_ok-heads.heads.items at_roster at_book _ g.requires.whole (g.in_ok-heads.ensures ∙ ap heads_of g.deref.ensures.value)
+    (g.in_ok-roster-2.ensures ∙ ap (λ (b : Book). first_seat at_roster b.heads b.entries (places rosters.by_number main_thread b.entries) main_thread) g.in_ok-roster.ensures)
+    (g.in_ok-book.ensures ∙ ap (λ (b : List ReplyEntry). first_seat at_book tt b (places books.maker_of main_thread b) main_thread) g.in_ok-new.ensures)
+    g.in_ok-with_capacity.ensures.items g.in_ok-with_capacity.ensures.capacity
+    (record {
+      joined = g.in_ok-with_capacity-2.ensures.items;
+      ports = g.in_ok-with_capacity-3.ensures.items;
+      desks = g.in_ok-with_capacity-4.ensures.items;
+      for_joined = g.in_ok-with_capacity-2.ensures.capacity;
+      for_ports = g.in_ok-with_capacity-3.ensures.capacity;
+      for_desks = g.in_ok-with_capacity-4.ensures.capacity;
+    })

@@ -1,0 +1,21 @@
+-- Main shuts the port of that looper, or changes nothing.
+use Rattle.std.proofs.Common.{refl, sym, ◌∙◌}
+use Rattle.ak_run.proofs.Calls.{goes_same, keeps_itself, main_has, one_goes}
+use Rattle.ak_run.proofs.Standing.{same_book}
+use Rattle.ak_run.proofs.run.Run.shut_one.Goals as goal
+
+pub returns-then-index-team : goal.returns-then-index-team
+returns-then-index-team g c =
+    let r = c.args.self.now in
+    let m = c.index_mut.result.now in
+    one_goes r _ c.args.place m _ c.requires.there (sym c.index_mut.ensures.value) (record { port = c.close.ensures.seat; desk = keeps_itself m.door.desk_seat })
+    refl refl (record { apps = refl; shared = refl; joined = refl; ports = refl; desks = refl }) refl (same_book r _ refl)
+
+pub returns-else-index-team : goal.returns-else-index-team
+returns-else-index-team g c = goes_same c.args.self.now _ (record { apps = refl; shared = refl; joined = refl; ports = refl; desks = refl }) refl refl refl
+
+pub close-requires-clause-thread : goal.close-requires-clause-thread
+close-requires-clause-thread g c =
+    let r = c.args.self.now in
+    let standing = c.requires.stands in
+    main_has standing.next standing.heads r c.args.place c.index_mut.result.now c.requires.there (sym c.index_mut.ensures.value) standing.stands ∙ sym r.main

@@ -1,0 +1,63 @@
+-- One looper starts: its seats are split from main's, it gets its life, and it is put behind the others.
+use Rattle.std.proofs.Common.{ℕ, ◌≡◌, ◌+◌, ◌<◌, length, None, refl, sym, ap, subst, ◌∙◌, vec_capacity}
+use Rattle.ak_base.specs.Thread.{looper_thread}
+use Rattle.ak_turn.specs.Seats.{new_seat}
+use Rattle.ak_turn.specs.Steps.{IsNewName}
+use Rattle.ak_looper.specs.declared.door.Door.{Door}
+use Rattle.ak_run.specs.Members.{StillLeads}
+use Rattle.ak_run.specs.Running.{IsStanding}
+use Rattle.ak_run.specs.Starting.{HasSplit}
+use Rattle.ak_run.proofs.Splits.{book_new, can_start, goes_with, room_there, roster_new, stands_split}
+use Rattle.ak_run.proofs.run.Run.start_one.Goals as goal
+
+pub split_seats-book_seat-requires-clause-book_new : goal.split_seats-book_seat-requires-clause-book_new
+split_seats-book_seat-requires-clause-book_new g c =
+    let s = c.requires.start in
+    subst (IsNewName c.args.self.now.hands.book_seat.names) (sym c.looper.ensures) (book_new s.0 s.1 s.2 c.args.team c.args.new c.args.ways.items c.args.self.now s.3)
+
+pub split_seats-book_seat-requires-clause-roster_new : goal.split_seats-book_seat-requires-clause-roster_new
+split_seats-book_seat-requires-clause-roster_new g c =
+    let s = c.requires.start in
+    subst (IsNewName c.args.self.now.roster_seat.names) (sym c.looper.ensures) (roster_new s.0 s.1 s.2 c.args.team c.args.new c.args.ways.items c.args.self.now s.3)
+
+pub into_job-door-requires : goal.into_job-door-requires
+into_job-door-requires g c =
+    let s = c.requires.start in
+    let r = c.args.self.now in
+    let seats = c.split_seats-book_seat in
+    let book = seats.ensures.book ∙ ap (λ (t : ℕ). new_seat t None r.hands.book_seat) c.looper.ensures in
+    let roster = seats.ensures.roster ∙ ap (λ (t : ℕ). new_seat t None r.roster_seat) c.looper.ensures in
+    record { start = (s.0, s.1, s.2, can_start s.0 s.1 s.2 c.args.team c.args.new c.args.ways.items r s.3 seats.result.0 seats.result.1 book roster) }
+
+pub life_of-life-requires-clause-stands : goal.life_of-life-requires-clause-stands
+life_of-life-requires-clause-stands g c κs within =
+    let s = c.requires.start in
+    let r = c.args.self.now in
+    let now = c.split_seats-book_seat.new.self in
+    let split = subst (λ (t : ℕ). HasSplit t r now) c.looper.ensures c.split_seats-book_seat.ensures.split in
+    let standing : IsStanding now = record { next = length r.members.items + 1; heads = s.0; stands = stands_split s.0 s.1 s.2 c.args.team c.args.new c.args.ways.items r s.3 now split } in
+    standing
+
+pub push_reserved-requires : goal.push_reserved-requires
+push_reserved-requires g c =
+    let s = c.requires.start in
+    let r = c.args.self.now in
+    let now = c.split_seats-book_seat.new.self in
+    let split = subst (λ (t : ℕ). HasSplit t r now) c.looper.ensures c.split_seats-book_seat.ensures.split in
+    let later = c.life_of-life.new.self in
+    subst (λ (n : ℕ). n < vec_capacity later.members) (sym later.members.ok.0) (room_there s.0 s.1 s.2 c.args.team c.args.new c.args.ways.items r s.3 now split later c.life_of-life.ensures.run)
+
+pub returns : goal.returns
+returns g c =
+    let s = c.requires.start in
+    let r = c.args.self.now in
+    let seats = c.split_seats-book_seat in
+    let now = seats.new.self in
+    let split = subst (λ (t : ℕ). HasSplit t r now) c.looper.ensures seats.ensures.split in
+    let book = seats.ensures.book ∙ ap (λ (t : ℕ). new_seat t None r.hands.book_seat) c.looper.ensures in
+    let roster = seats.ensures.roster ∙ ap (λ (t : ℕ). new_seat t None r.roster_seat) c.looper.ensures in
+    let leads = subst (λ (d : Door). StillLeads d c.life_of-life.new.door) c.into_job-door.ensures.door c.life_of-life.ensures.door in
+    record {
+      started = goes_with s.0 s.1 s.2 c.args.team c.args.new c.args.ways.items r s.3 now split c.life_of-life.new.self c.life_of-life.ensures.run _ (record { apps = refl; shared = refl; joined = refl; ports = refl; desks = refl }) refl refl
+          _ c.push_reserved.ensures.items c.push_reserved.ensures.capacity c.life_of-life.new.door c.into_job-door.result.1 seats.result.0 seats.result.1 book roster c.into_job-door.ensures.job c.into_job-door.ensures.ready leads refl refl c.of-snapshot.ensures c.life_of-life.ensures.life;
+    }

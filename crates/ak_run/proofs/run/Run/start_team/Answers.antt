@@ -1,0 +1,48 @@
+-- The own looper starts, and then the others, one after another.
+use Rattle.std.proofs.Common.{◌≡◌, ℕ, List, [], ◌∷◌, length, sym, ap, subst, arith}
+use Rattle.std.proofs.lemmas.Grind.{common_steps}
+use Rattle.ak_looper.specs.declared.door.Door.{Door}
+use Rattle.ak_run.specs.declared.new_looper.NewLooper.{NewLooper}
+use Rattle.ak_run.specs.Starting.{IsStarting, MayStart}
+use Rattle.ak_run.proofs.TeamStarts.{all_started, next_may_start, next_started, others_follow, own_may_start}
+use Rattle.ak_run.proofs.run.Run.start_team.Goals as goal
+
+pub start_one-all-requires-clause-start : goal.start_one-all-requires-clause-start
+start_one-all-requires-clause-start g c κs within =
+    let s = c.requires.start in
+    (s.0, s.1, 0, own_may_start s.0 s.1 s.2 c.args.team c.args.new c.args.self.now s.3)
+
+pub loop-other-init : goal.loop-other-init
+loop-other-init g c =
+    let s = c.requires.start in
+    let now = c.start_one-all.new.self in
+    let same = c.into_iter-other-iterator.ensures.into_iter_gives.0 in
+    record {
+      starting = subst (IsStarting c.args.team c.args.self.now now) (sym same) (others_follow s.0 s.1 s.2 c.args.team c.args.new c.args.self.now now s.3 c.start_one-all.ensures.started);
+      gates = omega (arith, ap (λ (l : List NewLooper). length l) same, c.next_gate-gate.ensures, c.requires.gates, s.3.loopers, s.3.all);
+    }
+
+pub start_one-all-requires-in-loop-other-clause-start : goal.start_one-all-requires-in-loop-other-clause-start
+start_one-all-requires-in-loop-other-clause-start g c κs within =
+    let was = c.loop-other in
+    let x = c.in-Some.other in
+    let rest = c.next.new.self.rest.items in
+    let next : was.other-iterator.rest.items ≡ x ∷ rest = grind (arith, common_steps) in
+    let is = subst (IsStarting c.args.team c.args.self.now was.self) next was.invariant.starting in
+    let may = next_may_start c.args.team c.args.self.now was.self x rest is in
+    (is.heads, is.plans, is.so_far, subst (λ (ws : List (ℕ × Door)). MayStart is.heads is.plans is.so_far c.args.team x ws was.self) (sym c.new.ensures.items) may)
+
+pub loop-other-preserved : goal.loop-other-preserved
+loop-other-preserved g c =
+    let was = c.loop-other in
+    let x = c.in-Some.other in
+    let rest = c.next.new.self.rest.items in
+    let next : was.other-iterator.rest.items ≡ x ∷ rest = grind (arith, common_steps) in
+    let is = subst (IsStarting c.args.team c.args.self.now was.self) next was.invariant.starting in
+    record { starting = next_started c.args.team c.args.self.now was.self c.start_one-all-in-loop-other.new.self x rest is c.start_one-all-in-loop-other.ensures.started; gates = omega (arith, c.next_gate-gate-in-loop-other.ensures, was.invariant.gates, ap (λ (l : List NewLooper). length l) next) }
+
+pub returns : goal.returns
+returns g c =
+    let was = c.loop-other in
+    let none : was.other-iterator.rest.items ≡ [] = grind (arith, common_steps) in
+    record { started = all_started c.args.team c.args.self.now was.self (subst (IsStarting c.args.team c.args.self.now was.self) none was.invariant.starting) }

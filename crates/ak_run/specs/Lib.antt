@@ -1,0 +1,13 @@
+pub mod Counting
+pub mod Doors
+pub mod Ending
+pub mod Gathering
+pub mod Jobs
+pub mod Launching
+pub mod Members
+pub mod NewLooper
+pub mod NewTeam
+pub mod Opening
+pub mod Running
+pub mod Sending
+pub mod Starting

@@ -1,0 +1,166 @@
+//! A launch, in one turn at the roster.
+ghost use Rattle.std.specs.Prelude.{◌≡◌, ◌<◌, ◌^◌, List, length, All, Any, find, option_map};
+ghost use Rattle.ak_base.specs.Thread.{main_thread};
+ghost use Rattle.ak_roster.specs.Answers.{IsWord};
+ghost use Rattle.ak_roster.specs.Machine.{runs_team};
+ghost use Rattle.ak_roster.specs.Roster.{IsAtRest, last_stamp, state};
+ghost use Rattle.ak_describe.specs.declared.described.AppText.{AppText};
+ghost use Rattle.ak_describe.specs.Whole.{IsWholeApp, heads_of};
+ghost use Rattle.ak_run.specs.Launching.{ByMain, ComesTo, IsDecided, IsMade, IsRunningTeam};
+ghost use Rattle.ak_run.specs.declared.new_looper.Shared.{Shared};
+
+use crate::new_looper::Shared;
+use crate::new_team::{Making, NewTeam, make_team};
+use ak_base::{AppWord, NoMemory};
+use ak_describe::AppText;
+use ak_looper::KeptDoor;
+use ak_message::Message;
+use ak_messenger::Hands;
+use ak_roster::{Decision, Launched, RosterBook, Running};
+use std::alloc::Global;
+use std::sync::Wait;
+
+/// A team that was launched: its number, that of its first looper, how many loopers it has, and the time of its launch.
+#[derive(Clone, Copy, Debug, PartialEq, Eq)]
+pub(crate) struct Team {
+    pub(crate) number: u32,
+    pub(crate) first: u32,
+    pub(crate) loopers: u32,
+    pub(crate) time: u64,
+}
+
+/// The same, with what its loopers are started with.
+#[derive(Drop)]
+pub(crate) struct StartedTeam {
+    pub(crate) team: Team,
+    pub(crate) new: NewTeam,
+}
+
+/// What a launch came to.
+#[derive(Drop)]
+pub(crate) enum Launch {
+    Started(StartedTeam),
+    /// With the number of the first looper of the team that runs.
+    Running { team: u32, first: u32 },
+    NotFound,
+    Limit,
+    NoMemory,
+}
+
+/// Launches the first application that the word fits, in the turn that main has at the roster. Where it starts, its ports and desks are made
+/// before the entry, and what its own looper is greeted with stands in its port.
+pub(crate) fn launch_at_turn<R: Wait>(
+    alloc: Global,
+    rt: &R,
+    book: &mut RosterBook<KeptDoor>,
+    hands: &mut Hands,
+    shared: &Shared,
+    apps: &[AppText],
+    word: &AppWord,
+    arguments: Option<&Message>,
+) -> Launch
+    requires rest { IsAtRest book.old }
+    requires stamp { last_stamp book.old.entries < 2 ^ 63 }
+    requires time { hands.old.clock.time < 2 ^ 63 }
+    requires main { hands.old.clock.thread.0 ≡ main_thread }
+    requires heads { book.old.heads ≡ heads_of apps.now }
+    requires whole { All IsWholeApp apps.now }
+    requires word { IsWord word.now }
+    ensures launch { ComesTo apps.now shared.now book.old book.new result }
+    ensures by_main { ByMain book.old }
+    ensures rest { IsAtRest book.new }
+    ensures book { hands.new.book ≡ hands.old.book }
+    ensures book_seat { hands.new.book_seat ≡ hands.old.book_seat }
+    ensures clock { hands.new.clock.thread ≡ hands.old.clock.thread }
+{
+    count_by_main(book);
+    match book.decide(word, &mut hands.clock) {
+        Decision::Starts {
+            description,
+            team,
+            first,
+        } => {
+            let app = &apps[description as usize];
+            let plans = app.loopers.as_slice();
+            let making = make_team(alloc, rt, hands, shared, plans, team, first, arguments);
+            match making {
+                Ok(making) => enter(rt, book, hands, word, making, team, first),
+                Err(NoMemory) => Launch::NoMemory,
+            }
+        }
+        Decision::AlreadyRunning { team } => running(book, team),
+        Decision::NotFound => Launch::NotFound,
+        Decision::Limit => Launch::Limit,
+        Decision::NoMemory => Launch::NoMemory,
+    }
+}
+
+// Each looper that was started was started by main: each door that is kept tells so.
+fn count_by_main(book: &RosterBook<KeptDoor>)
+    requires rest { IsAtRest book.now }
+    ensures { ByMain book.now }
+{
+    // Reading the descriptions shows that the list is a roster's.
+    let _ = book.heads();
+}
+
+// The team of that number, where it runs.
+fn running_team(running: &[Running], team: u32) -> Option<&Running>
+    ensures { option_map (λ running. running.now) result ≡ find (runs_team team) running.now }
+{
+    running.iter().find(|running| running.team == team)
+}
+
+// The team that keeps the application from starting.
+fn running(book: &RosterBook<KeptDoor>, team: u32) -> Launch
+    requires runs { Any (λ running. running.team ≡ team) (state book.now).running }
+    ensures { IsRunningTeam book.now team result }
+{
+    match running_team(book.app_list(), team) {
+        Some(running) => Launch::Running {
+            team,
+            first: running.first,
+        },
+        None => unreachable!(),
+    }
+}
+
+// Enters the launch that was decided on.
+fn enter<R: Wait>(
+    rt: &R,
+    book: &mut RosterBook<KeptDoor>,
+    hands: &mut Hands,
+    word: &AppWord,
+    making: Making,
+    team: u32,
+    first: u32,
+) -> Launch
+    requires rest { IsAtRest book.old }
+    requires stamp { last_stamp book.old.entries < 2 ^ 63 }
+    requires main { hands.old.clock.thread.0 ≡ main_thread }
+    requires word { IsWord word.now }
+    requires decided { IsDecided book.old word.now making team first }
+    ensures launch { (apps : List AppText) (shared : Shared) → IsMade apps shared making team first → ComesTo apps shared book.old book.new result }
+    ensures rest { IsAtRest book.new }
+    ensures book { hands.new.book ≡ hands.old.book }
+    ensures book_seat { hands.new.book_seat ≡ hands.old.book_seat }
+    ensures clock { hands.new.clock.thread ≡ hands.old.clock.thread }
+{
+    // Reading the descriptions shows that the list is a roster's.
+    let _ = book.heads();
+    let Making { team: new, kept } = making;
+    let loopers = kept.len() as u32;
+    hands.clock.ready(rt);
+    match book.launch(word, &mut hands.clock, kept) {
+        Launched::Started { .. } => Launch::Started(StartedTeam {
+            team: Team {
+                number: team,
+                first,
+                loopers,
+                time: hands.clock.time,
+            },
+            new,
+        }),
+        Launched::NoMemory(_) => Launch::NoMemory,
+    }
+}

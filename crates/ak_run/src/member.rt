@@ -1,0 +1,46 @@
+//! A looper of the run, as main has it.
+ghost use Rattle.ak_looper.specs.Job.{HasLived};
+ghost use Rattle.ak_run.specs.Members.{IsLifeOf};
+
+use ak_looper::{Door, LooperEnd, LooperJob};
+use std::snapshot::Snapshot;
+use std::thread::{Promise, PromisedHandle, Threads};
+
+/// What a looper's thread gives back is what came of that job.
+#[derive(Drop)]
+pub(crate) struct Lives(pub(crate) Snapshot<LooperJob>);
+
+impl Promise<LooperEnd> for Lives {
+    ghost use Rattle.ak_looper.specs.Job.{HasLived};
+
+    ghost kept_by = { λ p end. HasLived p.0.value end };
+}
+
+/// The life of a looper: in a thread of its own, or done already, where none could be started.
+#[derive(Drop)]
+pub(crate) enum Life {
+    Running(PromisedHandle<LooperEnd, Lives>),
+    Over(LooperEnd),
+}
+
+impl Life {
+    /// What it came to. Waits for its thread.
+    pub(crate) fn end<R: Threads>(self, rt: &R) -> LooperEnd
+        ensures { (job : LooperJob) → IsLifeOf job self → HasLived job result }
+    {
+        match self {
+            Life::Running(handle) => handle.join(rt),
+            Life::Over(end) => end,
+        }
+    }
+}
+
+/// A looper that was started: its team, main's door to it, what it was started with, and its life.
+#[derive(Drop)]
+pub(crate) struct Member {
+    pub(crate) number: u32,
+    pub(crate) team: u32,
+    pub(crate) door: Door,
+    pub(crate) job: Snapshot<LooperJob>,
+    pub(crate) life: Life,
+}

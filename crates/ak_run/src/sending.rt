@@ -1,0 +1,162 @@
+//! What main does at the loopers that were started.
+ghost use Rattle.std.specs.Prelude.{◌≡◌, ◌<◌, ◌≤◌, ◌↔◌, None, length, IfSome, IsErrOf};
+ghost use Rattle.ak_message.specs.Fields.{specifier_count};
+ghost use Rattle.ak_flatten.specs.Limits.{flat_limit};
+ghost use Rattle.ak_flatten.specs.Spelling.{spelling};
+ghost use Rattle.ak_port.specs.PortCalls.{HasAnswered};
+ghost use Rattle.ak_messenger.specs.Sends.{item_in, post_event};
+ghost use Rattle.ak_desk.specs.Desk.{edit_entry};
+ghost use Rattle.ak_run.specs.Doors.{KeepsSeats};
+ghost use Rattle.ak_run.specs.Running.{IsRunning};
+ghost use Rattle.ak_run.specs.Sending.{AnswersAtDesk, AnswersAtPort, AsksAt, looper_count};
+
+use crate::run::Run;
+use ak_desk::{Edit, EditAnswer, edit_shared};
+use ak_flatten::Duty;
+use ak_looper::Door;
+use ak_message::Message;
+use ak_messenger::{Envelope, Hands, Reply, SendFault, ask, post, post_at_turn};
+use std::alloc::Global;
+use std::sync::Wait;
+
+impl Run {
+    /// How many loopers were started.
+    pub fn loopers(&self) -> u32
+        requires running { IsRunning self.now }
+        ensures { result ≡ looper_count self.now }
+    {
+        self.members.len() as u32
+    }
+
+    /// Posts to that looper, and waits for room. A reply is posted back to a looper that was started. What it answers is what the
+    /// port's entry tells.
+    pub fn post<R: Wait>(
+        &mut self,
+        rt: &R,
+        looper: u32,
+        envelope: Envelope,
+        message: &Message,
+    ) -> Result<u64, SendFault>
+        requires running { IsRunning self.old }
+        requires there { looper < looper_count self.old }
+        requires popped { envelope.popped ≤ specifier_count message.now.fields }
+        requires back { IfSome envelope.back (λ back. back.looper < looper_count self.old) }
+        ensures answered { AnswersAtPort looper (post_event envelope message.now result) self.old self.new }
+        ensures too_long { IsErrOf result SendFault.TooLong ↔ (flat_limit < length (spelling message.now)) }
+        ensures not_blocked { IsErrOf result SendFault.WouldBlock → ⊥ }
+        ensures running { IsRunning self.new }
+        ensures count { looper_count self.new ≡ looper_count self.old }
+    {
+        let alloc = *self.members.allocator();
+        let door = &mut self.members[looper as usize].door;
+        post(
+            alloc,
+            &mut self.hands,
+            rt,
+            &door.port,
+            &mut door.port_seat,
+            envelope,
+            message,
+        )
+    }
+
+    /// Posts to that looper without waiting for room.
+    pub fn post_at_once<R: Wait>(
+        &mut self,
+        rt: &R,
+        looper: u32,
+        envelope: Envelope,
+        message: &Message,
+    ) -> Result<u64, SendFault>
+        requires running { IsRunning self.old }
+        requires there { looper < looper_count self.old }
+        requires popped { envelope.popped ≤ specifier_count message.now.fields }
+        requires back { IfSome envelope.back (λ back. back.looper < looper_count self.old) }
+        ensures answered { AnswersAtPort looper (post_event envelope message.now result) self.old self.new }
+        ensures too_long { IsErrOf result SendFault.TooLong ↔ (flat_limit < length (spelling message.now)) }
+        ensures running { IsRunning self.new }
+        ensures count { looper_count self.new ≡ looper_count self.old }
+    {
+        let alloc = *self.members.allocator();
+        let door = &mut self.members[looper as usize].door;
+        post_in_turn(alloc, rt, &mut self.hands, door, envelope, message)
+    }
+
+    /// Asks that looper, and waits for room and for the reply.
+    pub fn ask<R: Wait>(
+        &mut self,
+        rt: &R,
+        looper: u32,
+        envelope: Envelope,
+        message: &Message,
+    ) -> Result<Reply, SendFault>
+        requires running { IsRunning self.old }
+        requires there { looper < looper_count self.old }
+        requires popped { envelope.popped ≤ specifier_count message.now.fields }
+        requires back { envelope.back ≡ None }
+        ensures answered { AsksAt looper (item_in envelope Duty.None message.now) result self.old self.new }
+        ensures too_long { IsErrOf result SendFault.TooLong ↔ (flat_limit < length (spelling message.now)) }
+        ensures running { IsRunning self.new }
+        ensures count { looper_count self.new ≡ looper_count self.old }
+    {
+        let alloc = *self.members.allocator();
+        let door = &mut self.members[looper as usize].door;
+        ask(
+            alloc,
+            &mut self.hands,
+            rt,
+            &door.port,
+            &mut door.port_seat,
+            envelope,
+            message,
+        )
+    }
+
+    /// Edits the handlers of that looper.
+    pub fn edit<R: Wait>(&mut self, rt: &R, looper: u32, edit: Edit) -> EditAnswer
+        requires running { IsRunning self.old }
+        requires there { looper < looper_count self.old }
+        ensures answered { AnswersAtDesk looper (edit_entry edit result) self.old self.new }
+        ensures running { IsRunning self.new }
+        ensures count { looper_count self.new ≡ looper_count self.old }
+    {
+        let door = &mut self.members[looper as usize].door;
+        edit_shared(
+            &door.desk,
+            rt,
+            &mut door.desk_seat,
+            &mut self.hands.clock,
+            edit,
+        )
+    }
+}
+
+// Posts in one turn at the port to which the door leads, with or without room.
+fn post_in_turn<R: Wait>(
+    alloc: Global,
+    rt: &R,
+    hands: &mut Hands,
+    door: &mut Door,
+    envelope: Envelope,
+    message: &Message,
+) -> Result<u64, SendFault>
+    requires thread { door.old.port_seat.thread ≡ hands.old.clock.thread.0 }
+    requires popped { envelope.popped ≤ specifier_count message.now.fields }
+    ensures answered { HasAnswered (post_event envelope message.now result) hands.old.clock hands.new.clock door.old.port_seat door.new.port_seat }
+    ensures too_long { IsErrOf result SendFault.TooLong ↔ (flat_limit < length (spelling message.now)) }
+    ensures door { KeepsSeats door.old door.new }
+    ensures book { hands.new.book ≡ hands.old.book }
+    ensures book_seat { hands.new.book_seat ≡ hands.old.book_seat }
+    ensures clock { hands.new.clock.thread ≡ hands.old.clock.thread }
+{
+    let turn = door.port.lock(rt, &mut door.port_seat);
+    hands.clock.ready(rt);
+    post_at_turn(
+        alloc,
+        &mut hands.clock,
+        turn,
+        &mut door.port_seat,
+        envelope,
+        message,
+    )
+}

@@ -1,0 +1,146 @@
+//! Starting the loopers of a team.
+ghost use Rattle.std.specs.Prelude.{◌≡◌, ◌+◌, ◌≤◌, ℕ, List, None, length, IfOk};
+ghost use Rattle.ak_base.specs.Limits.{app_looper_limit};
+ghost use Rattle.ak_base.specs.Thread.{main_thread};
+ghost use Rattle.ak_turn.specs.Seats.{new_seat};
+ghost use Rattle.ak_turn.specs.Steps.{IsNewName};
+ghost use Rattle.ak_action.specs.declared.plan.PlanParts.{PlanParts};
+ghost use Rattle.ak_roster.specs.declared.head.AppHead.{AppHead};
+ghost use Rattle.ak_looper.specs.declared.kept_door.KeptDoor.{KeptDoor};
+ghost use Rattle.ak_looper.specs.Job.{IsReady};
+ghost use Rattle.ak_run.specs.Members.{IsLifeOf, StillLeads};
+ghost use Rattle.ak_run.specs.Running.{IsStanding};
+ghost use Rattle.ak_run.specs.Starting.{GoesOn, GoesOnWith, HasSplit, MayStart, MayStartTeam};
+
+use crate::launching::Team;
+use crate::member::{Life, Member};
+use crate::new_looper::NewLooper;
+use crate::new_team::NewTeam;
+use crate::run::Run;
+use ak_base::{APP_LOOPER_LIMIT, NoMemory, ThreadId};
+use ak_looper::{Door, KeptDoor, LooperJob};
+use ak_outside::{Gate, Spawner};
+use ak_port::ReplyBook;
+use ak_roster::RosterBook;
+use ak_turn::{Seat, new_seats_know};
+use std::alloc::Global;
+use std::snapshot::Snapshot;
+use std::sync::Wait;
+use std::thread::Threads;
+
+/// A gate for each looper that an application may have.
+pub(crate) fn clones<G: Gate>(alloc: Global, gate: &G) -> Result<Vec<G>, NoMemory>
+    ensures { IfOk result (λ gates. length gates.items ≡ app_looper_limit) }
+{
+    let mut gates = Vec::with_capacity(alloc, APP_LOOPER_LIMIT as usize)?;
+    for _ in 0..APP_LOOPER_LIMIT {
+        gates.push(gate.clone()?)?;
+    }
+    Ok(gates)
+}
+
+fn next_gate<G: Gate>(gates: &mut Vec<G>) -> G
+    requires { 1 ≤ length gates.old.items }
+    ensures { length gates.old.items ≡ length gates.new.items + 1 }
+{
+    match gates.pop() {
+        Some(gate) => gate,
+        None => unreachable!(),
+    }
+}
+
+impl Run {
+    /// Starts each looper of the team, in order. False where a thread could not be started.
+    pub(crate) fn start_team<
+        W: Spawner,
+        G: Gate + 'static,
+        R: Threads + Wait + Copy + Send + 'static,
+    >(&mut self, rt: &R, spawner: &mut W, gates: Vec<G>, team: Team, new: NewTeam) -> bool
+        requires start { (heads : List AppHead) × (plans : List PlanParts) × (kept : List KeptDoor) × MayStartTeam heads plans kept team new self.old }
+        requires gates { team.loopers ≤ length gates.items }
+        ensures started { GoesOnWith team.loopers self.old self.new }
+    {
+        let alloc = *self.members.allocator();
+        let NewTeam { own, others, ways } = new;
+        let mut gates = gates;
+        let gate = next_gate(&mut gates);
+        let mut all = self.start_one(rt, spawner, gate, team, own, ways, true);
+        for other in others {
+            let gate = next_gate(&mut gates);
+            all = self.start_one(rt, spawner, gate, team, other, Vec::new(alloc), all);
+        }
+        all
+    }
+
+    // Seats of that thread at what all share.
+    fn split_seats(&mut self, thread: ThreadId) -> (Seat<ReplyBook>, Seat<RosterBook<KeptDoor>>)
+        requires book_new { IsNewName self.old.hands.book_seat.names thread.0 }
+        requires roster_new { IsNewName self.old.roster_seat.names thread.0 }
+        ensures book { result.0 ≡ new_seat thread.0 None self.old.hands.book_seat }
+        ensures roster { result.1 ≡ new_seat thread.0 None self.old.roster_seat }
+        ensures split { HasSplit thread.0 self.old self.new }
+    {
+        new_seats_know::<ReplyBook>();
+        new_seats_know::<RosterBook<KeptDoor>>();
+        let book_seat = self.shared.book.split(&mut self.hands.book_seat, thread);
+        let roster_seat = self.shared.roster.split(&mut self.roster_seat, thread);
+        (book_seat, roster_seat)
+    }
+
+    // The life of the looper of that job, to which the door leads: in a thread of its own, if one is to be started and could be.
+    // With it stands whether it was.
+    fn life_of<W: Spawner, G: Gate + 'static, R: Threads + Wait + Copy + Send + 'static>(
+        &mut self,
+        rt: &R,
+        spawner: &mut W,
+        gate: G,
+        job: LooperJob,
+        team: u32,
+        door: &mut Door,
+        start: bool,
+    ) -> (Life, bool)
+        requires stands { IsStanding self.old }
+        requires ready { IsReady job }
+        requires main { door.old.port_seat.thread ≡ main_thread }
+        ensures life { IsLifeOf job result.0 }
+        ensures run { GoesOn self.old self.new }
+        ensures door { StillLeads door.old door.new }
+    {
+        if !start {
+            return (Life::Over(self.live_here(rt, gate, job, door)), false);
+        }
+        match self.start_looper(rt, spawner, gate, job, team, door) {
+            Ok(handle) => (Life::Running(handle), true),
+            Err(end) => (Life::Over(end), false),
+        }
+    }
+
+    // Starts one looper, unless another one of its team could not be started.
+    fn start_one<W: Spawner, G: Gate + 'static, R: Threads + Wait + Copy + Send + 'static>(
+        &mut self,
+        rt: &R,
+        spawner: &mut W,
+        gate: G,
+        team: Team,
+        new: NewLooper,
+        ways: Vec<(u32, Door)>,
+        start: bool,
+    ) -> bool
+        requires start { (heads : List AppHead) × (plans : List PlanParts) × (k : ℕ) × MayStart heads plans k team new ways.items self.old }
+        ensures started { GoesOnWith 1 self.old self.new }
+    {
+        let number = new.number;
+        let (book_seat, roster_seat) = self.split_seats(ThreadId::looper(number));
+        let (mut door, job) = new.into_job(team, ways, book_seat, roster_seat);
+        let snapshot = Snapshot::of(&job);
+        let (life, started) = self.life_of(rt, spawner, gate, job, team.number, &mut door, start);
+        self.members.push_reserved(Member {
+            number,
+            team: team.number,
+            door,
+            job: snapshot,
+            life,
+        });
+        started
+    }
+}
