@@ -1,0 +1,5 @@
+pub mod Answers
+pub mod Headline
+pub mod Main
+pub mod Run
+pub mod Tally

@@ -1,0 +1,80 @@
+-- A run that ended: its lists, and the diaries of all threads that made them.
+use Rattle.std.specs.Prelude.{◌≡◌, ◌<◌, ◌==◌, ◌⊎◌, ℕ, List, [], ◌∷◌, length, All, Any, Some, option_map, slice_get, unwrap_or}
+use Rattle.std.specs.List.{list_any}
+use Rattle.ak_base.specs.Thread.{looper_thread, main_thread}
+use Rattle.ak_base.specs.declared.app_word.AppWord.{AppWord}
+use Rattle.ak_turn.specs.Entries.{StartsWith}
+use Rattle.ak_turn.specs.Noted.{noted}
+use Rattle.ak_roster.specs.declared.head.AppHead.{AppHead}
+use Rattle.ak_roster.specs.declared.entry.RosterEntry.{RosterEntry}
+use Rattle.ak_roster.specs.declared.entry.RosterEvent.TheVariants as roster_event
+use Rattle.ak_roster.specs.declared.entry.LaunchOutcome.TheVariants as launch
+use Rattle.ak_roster.specs.Machine.{loopers_at, state_of}
+use Rattle.ak_port.specs.declared.port_entry.PortEntry.{PortEntry}
+use Rattle.ak_port.specs.declared.reply_entry.ReplyEntry.{ReplyEntry}
+use Rattle.ak_port.specs.PortCalls as ports
+use Rattle.ak_port.specs.PortCalls.{PortData}
+use Rattle.ak_port.specs.ReplySeats as books
+use Rattle.ak_desk.specs.Desk.{DeskData}
+use Rattle.ak_desk.specs.Entry.{EntryData}
+use Rattle.ak_diary.specs.declared.histories.Histories.{Histories}
+use Rattle.ak_diary.specs.Histories.{AreHistories}
+use Rattle.ak_diary.specs.Laws.{HasDiary}
+use Rattle.ak_diary.specs.Looper.{LooperFacts, thread_of}
+use Rattle.ak_diary.specs.Step.{Step, book_entries, book_sights, port_entries, ran_short, roster_entries}
+use Rattle.ak_headline.specs.Main.{IsMainDiary}
+
+-- ---- the lists of a run
+-- those of the port and of the desk of the looper with that number; empty where there is none
+abbrev pub port_list : Histories → ℕ → List PortEntry
+port_list h looper = unwrap_or (option_map (λ (port : PortData). port.entries) (slice_get h.ports.items looper)) []
+
+abbrev pub desk_list : Histories → ℕ → List EntryData
+desk_list h looper = unwrap_or (option_map (λ (desk : DeskData). desk.entries) (slice_get h.desks.items looper)) []
+
+abbrev pub roster_maker : RosterEntry → ℕ
+roster_maker entry = entry.by.0
+
+-- ---- what a thread did
+-- its steps have all that it made at the roster, at the reply book and at each port; what it saw of the book without an entry is a
+-- beginning of the book's list
+pub record HasDone (h : Histories) (thread : ℕ) (steps : List Step) : Type 0 where
+  pub at_roster : noted roster_maker thread h.roster.items ≡ roster_entries steps
+  pub at_book : noted books.maker_of thread h.book ≡ book_entries steps
+  pub at_ports : (looper : ℕ) → noted ports.by_number thread (port_list h looper) ≡ port_entries looper steps
+  pub book_seen : All (StartsWith h.book) (book_sights steps)
+
+-- the launch that started the looper's team
+abbrev pub StartedTeam : LooperFacts → RosterEntry → Type 0
+StartedTeam l entry =
+    (word : AppWord) × (place : ℕ) × (entry.event ≡ roster_event.Launch word (launch.Started place l.team l.first)) × (loopers_at l.heads place ≡ l.loopers)
+
+-- The looper of that number: its team was started, and the diary of its thread has all that the thread did; it is among those that found
+-- no memory exactly where a step says so
+pub record HasLooper (heads : List AppHead) (short : List ℕ) (h : Histories) (looper : ℕ) : Type 0 where
+  pub facts : LooperFacts
+  pub number_is : facts.number ≡ looper
+  pub heads_are : facts.heads ≡ heads
+  pub opened : option_map (λ (desk : DeskData). desk.opening) (slice_get h.desks.items looper) ≡ Some facts.desk
+  pub started : Any (StartedTeam facts) h.roster.items
+  pub steps : List Step
+  pub diary : HasDiary facts steps (port_list h looper) (desk_list h looper)
+  pub done : HasDone h (thread_of facts) steps
+  pub short_is : ran_short steps ≡ list_any (λ number. number == looper) short
+
+-- ---- the run
+-- a thread of the run: main, or that of a looper
+abbrev pub IsOfRun : Histories → ℕ → Type 0
+IsOfRun h thread = (thread ≡ main_thread) ⊎ ((looper : ℕ) × (looper < length h.ports.items) × (thread ≡ looper_thread looper))
+
+-- Each list is one that its object's machine allows; there are a port and a desk for each looper that was started, and no others. Each
+-- looper has its diary, and so has main; no other thread made an entry at the reply book or at a port
+pub record IsRun (heads : List AppHead) (short : List ℕ) (h : Histories) : Type 0 where
+  pub histories : AreHistories heads h
+  pub all : length h.ports.items ≡ length (state_of heads h.roster.items).loopers
+  pub loopers : (looper : ℕ) → looper < length h.ports.items → HasLooper heads short h looper
+  pub main : List Step
+  pub main_diary : IsMainDiary main
+  pub main_done : HasDone h main_thread main
+  pub book_makers : All (λ (entry : ReplyEntry). IsOfRun h entry.by.0) h.book
+  pub port_makers : (looper : ℕ) → All (λ (entry : PortEntry). IsOfRun h entry.by.0) (port_list h looper)

@@ -1,0 +1,26 @@
+//! The laws of runs that ended.
+
+ghost use Rattle.ak_headline.specs.Headline as headline;
+
+/// The messages that each looper dispatched, followed by those that it left, are exactly what its port accepted, in
+/// order and each once.
+pub fn runs_are_accounted()
+    ensures { headline.RunsAreAccounted }
+{
+    ak_diary::accepted_is_dispatched_then_left();
+}
+
+/// Each message was dispatched as the rules say for the handlers of its looper at that moment.
+pub fn runs_go_by_rule()
+    ensures { headline.RunsGoByRule }
+{
+    ak_diary::each_is_dispatched_by_rule();
+}
+
+/// Each accepted waiting send got one reply, the one that the rules make for it.
+pub fn each_waiting_send_got_one_reply()
+    ensures { headline.RunsAnswer }
+{
+    ak_diary::accepted_is_dispatched_then_left();
+    ak_diary::each_is_dispatched_by_rule();
+}
