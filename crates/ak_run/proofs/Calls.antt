@@ -9,6 +9,8 @@ use Rattle.ak_turn.specs.Called.{KeepsSeat}
 use Rattle.ak_turn.specs.Seats.{IsGiven, SeatData, at_leisure}
 use Rattle.ak_turn.specs.declared.clock.Clock.{Clock}
 use Rattle.ak_roster.specs.declared.head.AppHead.{AppHead}
+use Rattle.ak_port.specs.declared.port_entry.PortEntry.{PortEntry}
+use Rattle.ak_port.specs.ReplySeats.{ReplySeat}
 use Rattle.ak_desk.specs.declared.entry.DeskEvent.{DeskEvent}
 use Rattle.ak_desk.specs.Shared as desks
 use Rattle.ak_desk.specs.Shared.{DeskSeat}
@@ -16,10 +18,13 @@ use Rattle.ak_looper.specs.declared.door.Door.{Door}
 use Rattle.ak_run.specs.declared.member.Member.{Member}
 use Rattle.ak_run.specs.declared.run.Run.{Run}
 use Rattle.ak_run.specs.Doors.{KeepsDoor, KeepsSeats}
+use Rattle.ak_run.specs.Recording.{AddsAtPort}
 use Rattle.ak_run.specs.Running.{IsMember, IsStanding, KeepsRest, Stands}
 use Rattle.ak_run.specs.Sending.{desk_seat_of, port_seat_of}
 use Rattle.ak_run.specs.Starting.{GoesOn}
+use Rattle.ak_run.proofs.Acting.{ActsAtBoth, port_acts}
 use Rattle.ak_run.proofs.GoingOn.{goes_beside}
+use Rattle.ak_run.proofs.Recorded.{beside_same, call_acts}
 use Rattle.ak_run.proofs.Standing.{BookOn, nothing_entered, one_called, same_book, same_loopers}
 
 -- ---- seats
@@ -78,12 +83,18 @@ main_has next heads r place m within there stands =
 
 -- a call through it
 pub one_goes : (r r' : Run) (place : ℕ) (m : Member) (door : Door) → place < length r.members.items → get_or r.members.items place m ≡ m → KeepsSeats m.door door
-    → r'.members.items ≡ set r.members.items place (record m { door = door }) → vec_capacity r'.members ≡ vec_capacity r.members → KeepsRest r r' → r'.roster_seat ≡ r.roster_seat → BookOn r r' → GoesOn r r'
-one_goes r r' place m door within there keeps is capacity rest roster book =
+    → r'.members.items ≡ set r.members.items place (record m { door = door }) → vec_capacity r'.members ≡ vec_capacity r.members → KeepsRest r r' → r'.roster_seat ≡ r.roster_seat → BookOn r r'
+    → ActsAtBoth place r.hands.book_seat.front r'.hands.book_seat.front m.door.port_seat.front door.port_seat.front → GoesOn r r'
+one_goes r r' place m door within there keeps is capacity rest roster book acts =
     goes_beside r r' rest (λ heads next stands. nothing_entered heads r.roster_seat r'.roster_seat roster stands.roster_known)
     ([], ap (λ s. s.front) roster ∙ sym (append-nil r.roster_seat.front)) book
     (λ next heads stands. one_called next heads r r' place m door within there keeps is capacity stands)
     (ap length is ∙ length-set r.members.items place (record m { door = door }))
+    (call_acts r r' place m door within there is roster acts)
+
+-- which was at its port alone, by what it made there
+pub port_alone : (place : ℕ) (book book' : ReplySeat) (a b : List PortEntry) → book' ≡ book → AddsAtPort a b → ActsAtBoth place book.front book'.front a b
+port_alone place book book' a b same adds = subst (λ (s : ReplySeat). ActsAtBoth place book.front s.front a b) (sym same) (port_acts place book.front a b adds)
 
 -- no call at all: nothing of it changed
 pub goes_same : (r r' : Run) → KeepsRest r r' → r'.members ≡ r.members → r'.roster_seat ≡ r.roster_seat → r'.hands.book_seat ≡ r.hands.book_seat → GoesOn r r'
@@ -91,6 +102,7 @@ goes_same r r' rest members roster book =
     goes_beside r r' rest (λ heads next stands. nothing_entered heads r.roster_seat r'.roster_seat roster stands.roster_known)
     ([], ap (λ s. s.front) roster ∙ sym (append-nil r.roster_seat.front)) (same_book r r' book)
     (λ next heads stands. same_loopers next heads r r' members stands) (ap (λ v. length v.items) members)
+    (beside_same r r' members (ap (λ s. s.front) roster) (ap (λ s. s.front) book))
 
 -- it stands further
 pub stands_further : (r r' : Run) → GoesOn r r' → IsStanding r → IsStanding r'

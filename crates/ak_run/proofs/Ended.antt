@@ -41,8 +41,9 @@ use Rattle.ak_run.specs.declared.run.Run.{Run}
 use Rattle.ak_run.specs.Counting.{started_by_main, started_in}
 use Rattle.ak_run.specs.Ending.{EachLooper, HasEnded, HasLooper, IsAccounted, IsByRule, StartedTeam}
 use Rattle.ak_run.specs.Gathering.{AreBooksOf, GoesOnKnowing, IsDeskOf, IsJoined, IsPortOf, IsRosterOf, KnowsAll}
-use Rattle.ak_run.specs.Running.{IsRunning, Stands}
+use Rattle.ak_run.specs.Running.{IsRunning}
 use Rattle.ak_run.specs.Starting.{GoesOn}
+use Rattle.ak_run.proofs.GoingOn.{still_running}
 use Rattle.ak_run.proofs.Books.{all_desks, all_ports, as_many_desks, as_many_ports, each_from, each_weaker}
 use Rattle.ak_run.proofs.Counting.{all_by_main}
 use Rattle.ak_run.proofs.Knowing.{known_told, part_known, plain_still, plain_told}
@@ -224,13 +225,7 @@ by_rule law heads h ended =
 
 -- a run that went on, and started nothing
 pub runs_on : (r r' : Run) → GoesOn r r' → IsRunning r → IsRunning r'
-runs_on r r' goes runs =
-    let n = length r.members.items in
-    record {
-      heads = runs.heads;
-      stands = subst (λ (next : ℕ). Stands next runs.heads r') (sym goes.count) (goes.stands n runs.heads runs.stands);
-      all = goes.started n runs.heads runs.stands ∙ runs.all ∙ sym goes.count;
-    }
+runs_on r r' goes runs = still_running r r' goes runs
 
 pub same_heads_of : (r r' : Run) → GoesOn r r' → heads_of r'.apps.items ≡ heads_of r.apps.items
 same_heads_of r r' goes = ap (λ (apps : _). heads_of apps.items) goes.apps

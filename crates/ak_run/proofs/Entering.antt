@@ -27,6 +27,7 @@ use Rattle.ak_roster.specs.Kept.{count_launched, count_of}
 use Rattle.ak_roster.specs.Machine.{IsHistory, IsLegal, RosterState, after, has_room, launch_at, launch_first, launch_of, loopers_at, runs_team, state_of, team_of, unless_excluded}
 use Rattle.ak_roster.specs.Roster.{Enters, Stays, new_entry, plain_entries, state}
 use Rattle.ak_roster.proofs.Surface.{carried, loopers-after, started_facts, state_of-append}
+use Rattle.ak_headline.specs.Main.{MayEnterRoster}
 use Rattle.ak_looper.specs.declared.kept_door.KeptDoor.{KeptDoor}
 use Rattle.ak_looper.specs.Rosters.{Object}
 use Rattle.ak_run.specs.Counting.{started_in}
@@ -39,8 +40,8 @@ all_at P xs i x all is = subst P (get_or_from_slice_get xs i x x is) (All-get_or
 
 -- ---- one entry, or none
 module _ (book book' : Book) (clock clock' : Clock) where
-  pub one_entered : (n : ℕ) (what : RosterEvent) (objects : List (Option Object)) (doors : List KeptDoor) → clock.thread.0 ≡ main_thread → Enters what objects doors book book' clock clock' → count_of book.heads what ≡ n → HasEntered n book book'
-  one_entered n what objects doors main enters count =
+  pub one_entered : (n : ℕ) (what : RosterEvent) (objects : List (Option Object)) (doors : List KeptDoor) → MayEnterRoster what → clock.thread.0 ≡ main_thread → Enters what objects doors book book' clock clock' → count_of book.heads what ≡ n → HasEntered n book book'
+  one_entered n what objects doors may main enters count =
       let entry = new_entry clock book.entries what objects in
       record {
         heads = ap (λ (r : Book). r.heads) enters.0;
@@ -48,6 +49,7 @@ module _ (book book' : Book) (clock clock' : Clock) where
         entries = ap (λ (r : Book). r.entries) enters.0;
         one = omega arith;
         by_main = All-cons (λ (e : EntryWithObjects Object). e.plain.by.0 ≡ main_thread) entry [] main (All-nil (λ (e : EntryWithObjects Object). e.plain.by.0 ≡ main_thread));
+        may = All-cons (λ (e : EntryWithObjects Object). MayEnterRoster e.plain.event) entry [] may (All-nil (λ (e : EntryWithObjects Object). MayEnterRoster e.plain.event));
         starts = plus_none (count_of book.heads what) n count;
       }
     where
@@ -61,12 +63,13 @@ module _ (book book' : Book) (clock clock' : Clock) where
     entries = ap (λ (r : Book). r.entries) stays.0 ∙ sym (append-nil book.entries);
     one = omega arith;
     by_main = All-nil (λ (e : EntryWithObjects Object). e.plain.by.0 ≡ main_thread);
+    may = All-nil (λ (e : EntryWithObjects Object). MayEnterRoster e.plain.event);
     starts = refl;
   }
 
   -- that a team is gone
   pub gone_entered : (team : ℕ) (left : Bool) → clock.thread.0 ≡ main_thread → (IsTrue left → Enters (event.Gone team) [] book.doors book book' clock clock') → (IsFalse left → Stays book book' clock clock') → HasEntered 0 book book'
-  gone_entered team true main enters stays = one_entered 0 (event.Gone team) [] book.doors main (enters refl) refl
+  gone_entered team true main enters stays = one_entered 0 (event.Gone team) [] book.doors tt main (enters refl) refl
   gone_entered team false main enters stays = none_entered (stays refl)
 
 -- ---- a launch that is refused starts none
@@ -86,7 +89,7 @@ none_started heads launch.Limit d is refused = refl
 pub refusal_entered : (book book' : Book) (clock clock' : Clock) (word : AppWord) (d : Decision) → clock.thread.0 ≡ main_thread → IsEntered d → d ≡ decision_of (launch_of book.heads (state book) word)
     → Enters (event.Launch word (launch_of book.heads (state book) word)) [] book.doors book book' clock clock' → HasEntered 0 book book'
 refusal_entered book book' clock clock' word d main refused is enters =
-    one_entered book book' clock clock' 0 (event.Launch word (launch_of book.heads (state book) word)) [] book.doors main enters (none_started book.heads (launch_of book.heads (state book) word) d is refused)
+    one_entered book book' clock clock' 0 (event.Launch word (launch_of book.heads (state book) word)) [] book.doors tt main enters (none_started book.heads (launch_of book.heads (state book) word) d is refused)
 
 -- ---- a team that runs
 -- one that a search found is there

@@ -1,11 +1,14 @@
 -- A run goes on, call after call.
-use Rattle.std.proofs.Common.{◌≡◌, ℕ, ◌+◌, List, length, ◌++◌, Some, ap, sym, subst, ◌∙◌, arith, append_assoc}
+use Rattle.std.proofs.Common.{◌≡◌, ℕ, ◌+◌, List, length, ◌++◌, Some, ap, sym, subst, [], ◌∙◌, arith, append_assoc}
 use Rattle.ak_turn.specs.Entries.{StartsWith}
 use Rattle.ak_roster.specs.declared.head.AppHead.{AppHead}
+use Rattle.ak_port.specs.declared.port_entry.PortEntry.{PortEntry}
 use Rattle.ak_run.specs.declared.run.Run.{Run}
 use Rattle.ak_run.specs.Counting.{started_by_main}
+use Rattle.ak_run.specs.Recording.{HasRecord, Records, RecordsBeside, fronts_of, fronts_with}
 use Rattle.ak_run.specs.Running.{IsRunning, KeepsRest, Stands}
 use Rattle.ak_run.specs.Starting.{GoesOn, GoesOnWith}
+use Rattle.ak_run.proofs.Recorded.{beside_then, record_on}
 use Rattle.ak_run.proofs.RosterTurn.{RosterOn}
 use Rattle.ak_run.proofs.Standing.{BookOn, SameLoopers, stands_on, starts_then_starts}
 
@@ -22,6 +25,7 @@ goes_then_goes r s t a b = record {
   on = starts_then_starts r.roster_seat.front s.roster_seat.front t.roster_seat.front a.on b.on;
   shared = b.shared ∙ a.shared;
   apps = b.apps ∙ a.apps;
+  recorded = beside_then r s t a.recorded b.recorded;
 }
 
 pub with_then_with : (m n : ℕ) (r s t : Run) → GoesOnWith m r s → GoesOnWith n s t → GoesOnWith (m + n) r t
@@ -36,8 +40,8 @@ with_then_with m n r s t a b = record {
 
 -- a call that starts no looper
 pub goes_by : (r r' : Run) (roster_heads : List AppHead) → KeepsRest r r' → r.roster_seat.opening ≡ Some roster_heads → RosterOn roster_heads 0 r.roster_seat r'.roster_seat → BookOn r r'
-    → ((next : ℕ) (heads : List AppHead) → Stands next heads r → SameLoopers heads r r') → length r'.members.items ≡ length r.members.items → GoesOn r r'
-goes_by r r' roster_heads keeps opening roster book same count =
+    → ((next : ℕ) (heads : List AppHead) → Stands next heads r → SameLoopers heads r r') → length r'.members.items ≡ length r.members.items → RecordsBeside r r' → GoesOn r r'
+goes_by r r' roster_heads keeps opening roster book same count recorded =
     let roster_so : (next : ℕ) (heads : List AppHead) → Stands next heads r → RosterOn heads 0 r.roster_seat r'.roster_seat =
     λ next heads k. subst (λ h. RosterOn h 0 r.roster_seat r'.roster_seat) (some_same roster_heads heads (sym opening ∙ k.opening)) roster in
     record {
@@ -47,6 +51,7 @@ goes_by r r' roster_heads keeps opening roster book same count =
       on = roster.on;
       shared = keeps.shared;
       apps = keeps.apps;
+      recorded = recorded;
     }
   where
     nothing_more : (n : ℕ) → n + 0 ≡ n
@@ -54,14 +59,15 @@ goes_by r r' roster_heads keeps opening roster book same count =
 
 -- a call that leaves the roster alone
 pub goes_beside : (r r' : Run) → KeepsRest r r' → ((heads : List AppHead) → (next : ℕ) → Stands next heads r → RosterOn heads 0 r.roster_seat r'.roster_seat) → StartsWith r'.roster_seat.front r.roster_seat.front → BookOn r r'
-    → ((next : ℕ) (heads : List AppHead) → Stands next heads r → SameLoopers heads r r') → length r'.members.items ≡ length r.members.items → GoesOn r r'
-goes_beside r r' keeps roster on book same count = record {
+    → ((next : ℕ) (heads : List AppHead) → Stands next heads r → SameLoopers heads r r') → length r'.members.items ≡ length r.members.items → RecordsBeside r r' → GoesOn r r'
+goes_beside r r' keeps roster on book same count recorded = record {
   stands = λ next heads k. stands_on next heads 0 r r' keeps (roster heads next k) book (same next heads k) k;
   started = λ next heads k. (roster heads next k).started ∙ nothing_more (started_by_main heads r.roster_seat);
   count = count;
   on = on;
   shared = keeps.shared;
   apps = keeps.apps;
+  recorded = recorded;
 }
   where
     nothing_more : (n : ℕ) → n + 0 ≡ n
@@ -75,8 +81,15 @@ still_running r r' goes is =
       heads = is.heads;
       stands = subst (λ n. Stands n is.heads r') (sym goes.count) (goes.stands here is.heads is.stands);
       all = goes.started here is.heads is.stands ∙ is.all ∙ sym goes.count;
+      recorded = record_on (fronts_of r) (fronts_of r') (goes.recorded []) is.recorded;
     }
 
 -- once all loopers that were launched have started, the run runs
-pub all_run : (n : ℕ) (r s : Run) (heads : List AppHead) → Stands (length r.members.items) heads r → started_by_main heads r.roster_seat ≡ length r.members.items + n → GoesOnWith n r s → IsRunning s
-all_run n r s heads stands started goes = record { heads = heads; stands = goes.stands heads stands; all = goes.started heads stands ∙ started ∙ sym goes.count }
+pub all_run : (n : ℕ) (r s : Run) (heads : List AppHead) (new : List (List PortEntry)) → Stands (length r.members.items) heads r → started_by_main heads r.roster_seat ≡ length r.members.items + n → HasRecord (fronts_with r new) → GoesOnWith n r s
+    → Records (fronts_with r new) (fronts_of s) → IsRunning s
+all_run n r s heads new stands started has goes more = record {
+  heads = heads;
+  stands = goes.stands heads stands;
+  all = goes.started heads stands ∙ started ∙ sym goes.count;
+  recorded = record_on (fronts_with r new) (fronts_of s) more has;
+}

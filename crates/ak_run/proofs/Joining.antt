@@ -87,6 +87,7 @@ joined_still heads roster roster' book book' j on_roster on_book is =
       desk = is.desk;
       desk_opening = is.desk_opening;
       job_desk = is.job_desk;
+      by_main = is.by_main;
     }
 
 pub all_joined_still : (heads : List AppHead) (roster roster' : RosterSeat) (book book' : ReplySeat) (js : List Joined) → GoesOnKnowing roster roster' → GoesOnKnowing book book'
@@ -117,4 +118,5 @@ is_joined heads shared roster roster' book book' m end j is lived number job gav
       desk = is.desk;
       desk_opening = ap (λ (s : DeskSeat). s.opening) at_desk ∙ is.desk_opening;
       job_desk = ap (λ (job : LooperJob). job.own.desk_seat.opening) job ∙ is.job_desk;
+      by_main = ap (λ (s : PortSeat). s.thread) at_port ∙ is.by_main;
     }

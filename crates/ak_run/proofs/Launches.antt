@@ -10,7 +10,7 @@ use Rattle.ak_roster.specs.declared.head.AppHead.{AppHead}
 use Rattle.ak_roster.specs.Roster.{objects_of, state}
 use Rattle.ak_action.specs.declared.state.DeskState.{DeskState}
 use Rattle.ak_describe.specs.declared.described.AppText.{AppText}
-use Rattle.ak_looper.specs.Rosters.{Object, RosterSeat, by_number}
+use Rattle.ak_looper.specs.Rosters.{Object, RosterSeat, by_number, plain_of}
 use Rattle.ak_looper.specs.Stands.{StartsTeam}
 use Rattle.ak_run.specs.declared.launching.Launch.{Launch}
 use Rattle.ak_run.specs.declared.launching.Launch.TheVariants as launch
@@ -21,9 +21,11 @@ use Rattle.ak_run.specs.Counting.{started_by_main}
 use Rattle.ak_run.specs.Jobs.{HasWays, IsStartedIn, facts_in}
 use Rattle.ak_run.specs.Launching.{Book, ByMain, ComesTo, HasEntered, HasStarted}
 use Rattle.ak_run.specs.NewTeam.{IsNewTeam, IsOneOf}
+use Rattle.ak_run.specs.Recording.{HasRecord, Records, RecordsBeside, fronts, fronts_of, fronts_with, member_front, team_fronts}
 use Rattle.ak_run.specs.Running.{IsRunning, KeepsRest, Stands}
 use Rattle.ak_run.specs.Starting.{HasEnteredLaunch, MayStartTeam}
 use Rattle.ak_run.proofs.GoingOn.{some_same}
+use Rattle.ak_run.proofs.Recorded.{ports_made, record_on, team_made, turn_acts}
 use Rattle.ak_run.proofs.RosterTurn.{RosterOn, goes_on, sees_all, started_at_turn}
 use Rattle.ak_run.proofs.Standing.{BookOn, same_loopers, stands_on}
 use Rattle.ak_run.proofs.Ways.{object, own_ways}
@@ -45,7 +47,7 @@ is_next n seat book book' entered list thread = by_added entered.added entered.o
     by_added (x ∷ []) few mine is = inr (x, is, All-head (λ (entry : EntryWithObjects Object). entry.plain.by.0 ≡ main_thread) x [] mine ∙ sym thread)
     by_added (x ∷ y ∷ zs) few mine is = absurd (omega (arith, few))
 
-module _ (r r' : Run) (is : IsRunning r) (keeps : KeepsRest r r') (members : r'.members ≡ r.members) (book_on : BookOn r r') (given : RosterSeat) (book book' : Book) (opening : r.roster_seat.opening ≡ Some book.heads)
+module _ (r r' : Run) (is : IsRunning r) (keeps : KeepsRest r r') (members : r'.members ≡ r.members) (book_on : BookOn r r') (replies : r'.hands.book_seat.front ≡ r.hands.book_seat.front) (given : RosterSeat) (book book' : Book) (opening : r.roster_seat.opening ≡ Some book.heads)
     (seen : IsGiven by_number r.roster_seat given) (known : KnowsWhole by_number given) (list : book.entries ≡ given.front) (same : book'.entries ≡ given.front → r'.roster_seat ≡ at_leisure given)
     (one : (x : EntryWithObjects Object) → book'.entries ≡ given.front ++ x ∷ [] → r'.roster_seat ≡ at_leisure (entered_by given x)) (knows : KnowsWhole by_number given → KnowsWhole by_number r'.roster_seat) (by_main : ByMain book) where
   heads_same : book.heads ≡ is.heads
@@ -74,9 +76,21 @@ module _ (r r' : Run) (is : IsRunning r) (keeps : KeepsRest r r') (members : r'.
     started : started_by_main is.heads r'.roster_seat ≡ length r'.members.items + n
     started = on.started ∙ ap (λ m. m + n) (is.all ∙ sym count')
 
+    -- main's turn is one act of its own at most
+    turn_beside : RecordsBeside r r'
+    turn_beside = λ new.
+        let ports = map member_front r.members.items ++ new in
+        subst (Records (fronts_with r new)) (sym (ap (λ l. fronts (plain_of r'.roster_seat) l (map member_front r'.members.items ++ new)) replies ∙ ap (λ v. fronts (plain_of r'.roster_seat) r.hands.book_seat.front (map member_front v.items ++ new)) members))
+        (turn_acts r.roster_seat given r'.roster_seat book book' n r.roster_idle thread seen known list entered same one knows r.hands.book_seat.front ports)
+
   -- no looper was started
   runs_on : HasEntered 0 book book' → IsRunning r'
-  runs_on entered = record { heads = is.heads; stands = now 0 entered; all = started 0 entered ∙ nothing_more (length r'.members.items) }
+  runs_on entered = record {
+    heads = is.heads;
+    stands = now 0 entered;
+    all = started 0 entered ∙ nothing_more (length r'.members.items);
+    recorded = record_on (fronts_of r) (fronts_of r') (turn_beside 0 entered []) is.recorded;
+  }
     where
       nothing_more : (m : ℕ) → m + 0 ≡ m
       nothing_more m = omega arith
@@ -105,7 +119,16 @@ module _ (r r' : Run) (is : IsRunning r) (keeps : KeepsRest r r') (members : r'.
         },
         omega (arith, h.count, h.few),
         started n entered,
+        record_on (fronts_with r (team_fronts t.new)) (fronts_with r' (team_fronts t.new)) (turn_beside n entered (team_fronts t.new)) made,
       )
+    where
+      -- its ports were made before
+      made : HasRecord (fronts_with r (team_fronts t.new))
+      made =
+          let ports = map member_front r.members.items in
+          let before : HasRecord (fronts (plain_of r.roster_seat) r.hands.book_seat.front ports) = subst (λ l. HasRecord (fronts (plain_of r.roster_seat) r.hands.book_seat.front l)) (append-nil ports) is.recorded in
+          record_on (fronts (plain_of r.roster_seat) r.hands.book_seat.front ports) (fronts_with r (team_fronts t.new))
+          (ports_made (plain_of r.roster_seat) r.hands.book_seat.front ports (team_fronts t.new) (team_made h.plans t.team.number t.team.first r.shared t.new h.kept h.new)) before
 
   pub has_entered : (l : Launch) → ComesTo r.apps.items r.shared book book' l → HasEnteredLaunch r r' l
   has_entered (launch.Started t) comes = team_starts t comes

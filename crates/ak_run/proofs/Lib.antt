@@ -1,3 +1,5 @@
+pub mod Acting
+pub mod Acts
 pub mod Books
 pub mod Calls
 pub mod Counting
@@ -11,11 +13,13 @@ pub mod Jobs
 pub mod Joining
 pub mod Knowing
 pub mod Launches
+pub mod MainDone
 pub mod Makings
 pub mod NewDoors
 pub mod NewLoopers
 pub mod NewRun
 pub mod Places
+pub mod Recorded
 pub mod RosterTurn
 pub mod Splits
 pub mod Standing

@@ -12,6 +12,7 @@ use Rattle.ak_looper.specs.declared.door.Door.{Door}
 use Rattle.ak_looper.specs.Doors.{IsNewDoor}
 use Rattle.ak_looper.proofs.Surface.{new_door}
 use Rattle.ak_run.specs.Doors.{HasGivenUpNames, HasNames, HasParted, IsNewAt, IsPartOf, KeepsDoor, KnowsBoth}
+use Rattle.ak_run.proofs.Acting.{adds_then}
 use Rattle.ak_run.proofs.Heads.{made_nothing}
 
 -- ---- names
@@ -48,6 +49,7 @@ pub record LeadsAsBefore (door door' : Door) : Type 0 where
   pub desk : arc_value door'.desk ≡ arc_value door.desk
   pub thread : door'.port_seat.thread ≡ door.port_seat.thread
   pub port_opening : door'.port_seat.opening ≡ door.port_seat.opening
+  pub port_front : door'.port_seat.front ≡ door.port_seat.front
   pub desk_opening : door'.desk_seat.opening ≡ door.desk_seat.opening
 
 pub leads_parted : (thread : ℕ) (door door' : Door) → HasParted thread door door' → LeadsAsBefore door door'
@@ -56,6 +58,7 @@ leads_parted thread door door' parted = record {
   desk = ap arc_value parted.desk;
   thread = ap (λ (s : ports.PortSeat). s.thread) parted.port_seat;
   port_opening = ap (λ (s : ports.PortSeat). s.opening) parted.port_seat;
+  port_front = ap (λ (s : ports.PortSeat). s.front) parted.port_seat;
   desk_opening = ap (λ (s : desks.DeskSeat). s.opening) parted.desk_seat;
 }
 
@@ -65,6 +68,7 @@ leads_without_names door door' gave = record {
   desk = ap arc_value gave.desk;
   thread = ap (λ (s : ports.PortSeat). s.thread) gave.port_seat;
   port_opening = ap (λ (s : ports.PortSeat). s.opening) gave.port_seat;
+  port_front = ap (λ (s : ports.PortSeat). s.front) gave.port_seat;
   desk_opening = ap (λ (s : desks.DeskSeat). s.opening) gave.desk_seat;
 }
 
@@ -74,6 +78,7 @@ leads_on a b c one other = record {
   desk = other.desk ∙ one.desk;
   thread = other.thread ∙ one.thread;
   port_opening = other.port_opening ∙ one.port_opening;
+  port_front = other.port_front ∙ one.port_front;
   desk_opening = other.desk_opening ∙ one.desk_opening;
 }
 
@@ -93,4 +98,5 @@ keeps_then_keeps a b c one other = record {
   desk_seat = other.desk_seat ∙ one.desk_seat;
   known = λ known. other.known (one.known known);
   taking = λ thread room can. other.taking thread room (one.taking thread room can);
+  adds = λ main. adds_then a.port_seat.front b.port_seat.front c.port_seat.front (one.adds main) (other.adds (one.port_seat.thread ∙ main));
 }

@@ -20,6 +20,7 @@ use Rattle.ak_looper.specs.Rosters.{Object, RosterSeat}
 use Rattle.ak_run.specs.declared.member.Member.{Member}
 use Rattle.ak_run.specs.declared.run.Run.{Run}
 use Rattle.ak_run.specs.Counting.{started_by_main}
+use Rattle.ak_run.proofs.Recorded.{nothing_yet}
 use Rattle.ak_run.specs.Running.{AreBelow, HasRoomToEnd, IsMember, IsOpenedAs, IsRunning, Stands}
 
 -- the heads of one application more
@@ -53,6 +54,7 @@ begins heads roster book r whole heads_are roster_is book_is none room ready =
         ready = ready;
       };
       all = ap (started_by_main heads) roster_is ∙ sym few;
+      recorded = nothing_yet r (ap (λ (s : RosterSeat). s.front) roster_is) (ap (λ (s : ReplySeat). s.front) book_is) none;
     }
   where
     main_below : (n : ℕ) → AreBelow (looper_thread n) (Some (main_thread ∷ []))

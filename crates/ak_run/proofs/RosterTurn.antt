@@ -90,7 +90,7 @@ module _ (seat given seat' : RosterSeat) (book book' : Book) (more : ℕ) (idle 
   before : given.front ≡ seat.front ++ seen.between
   before = ap (λ (t : RosterSeat). t.front) seen.after
 
-  front_is : seat'.front ≡ (seat.front ++ seen.between) ++ entered.added
+  pub front_is : seat'.front ≡ (seat.front ++ seen.between) ++ entered.added
   front_is = (after entered.added entered.one grown).0 ∙ ap (λ (l : Entries). l ++ entered.added) before
 
   -- the list that the turn left is what it has seen

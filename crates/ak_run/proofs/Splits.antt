@@ -121,6 +121,7 @@ module _ (heads : List AppHead) (plans : List PlanParts) (k : ℕ) (t : Team) (n
     opens = m.new.opens;
     port_opening = m.new.port_opening;
     desk_opening = m.new.desk_opening;
+    made = m.new.made;
   }
 
   ready_seats : CanStart heads plans k t n ways book_seat roster_seat

@@ -112,7 +112,7 @@ module _ (book book' : Book) (clock clock' : Clock) (main : clock.thread.0 ≡ m
       first = first_is ∙ first_next;
       within = omega (arith, first_is, loopers_there, few_loopers);
       launched = launched_there;
-      entered = one_entered book book' clock clock' t.team.loopers (event.Launch word (launch_of book.heads (state book) word)) (map object m.kept.items) (book.doors ++ m.kept.items) main enters
+      entered = one_entered book book' clock clock' t.team.loopers (event.Launch word (launch_of book.heads (state book) word)) (map object m.kept.items) (book.doors ++ m.kept.items) tt main enters
           (ap (λ o. count_of book.heads (event.Launch word o)) decided.starts ∙ loopers_there);
       objects = objects_there;
       before = before_count;

@@ -1,6 +1,6 @@
 -- What main knows of the loopers whose threads it joined.
 use Rattle.std.specs.Prelude.{◌≡◌, ℕ, List, [], ◌∷◌, ◌++◌, All, Contains, Some}
-use Rattle.ak_base.specs.Thread.{looper_thread}
+use Rattle.ak_base.specs.Thread.{looper_thread, main_thread}
 use Rattle.ak_base.specs.declared.thread.ThreadId.{ThreadId}
 use Rattle.ak_turn.specs.declared.view.Part.{Part}
 use Rattle.ak_turn.specs.Entries.{AreByOthers, StartsWith}
@@ -10,6 +10,7 @@ use Rattle.ak_roster.specs.declared.entry.EntryWithObjects.{EntryWithObjects}
 use Rattle.ak_roster.specs.declared.head.AppHead.{AppHead}
 use Rattle.ak_roster.specs.Machine.{IsHistory}
 use Rattle.ak_roster.specs.Roster.{AreKept, RosterData, plain_entries, state}
+use Rattle.ak_port.specs.declared.port_entry.PortEntry.{PortEntry}
 use Rattle.ak_port.specs.PortCalls as ports
 use Rattle.ak_port.specs.PortCalls.{PortData, PortSeat}
 use Rattle.ak_port.specs.ReplySeats.{ReplySeat}
@@ -22,6 +23,7 @@ use Rattle.ak_looper.specs.declared.kept_door.KeptDoor.{KeptDoor}
 use Rattle.ak_looper.specs.Rosters as rosters
 use Rattle.ak_looper.specs.Rosters.{Object, RosterSeat}
 use Rattle.ak_run.specs.declared.gathering.Joined.{Joined}
+use Rattle.ak_run.specs.Recording.{EndsByOthers}
 
 module _ {O L : Type 0} where
   -- the seat knows what that other one knew of its own thread
@@ -54,6 +56,11 @@ pub record IsJoined (heads : List AppHead) (roster : RosterSeat) (book : ReplySe
   pub desk : DeskState
   pub desk_opening : j.door.desk_seat.opening ≡ Some desk
   pub job_desk : j.job.value.own.desk_seat.opening ≡ Some desk
+  pub by_main : j.door.port_seat.thread ≡ main_thread
+
+-- what main's seat at its port has seen
+abbrev pub joined_front : Joined → List PortEntry
+joined_front j = j.door.port_seat.front
 
 -- ---- a book that was kept: what the seat knew of threads that were joined is what the whole list has by them
 module _ {O L : Type 0} (by : L → ℕ) where
@@ -64,6 +71,7 @@ pub record IsPortOf (seat : PortSeat) (port : PortData) : Type 0 where
   pub legal : ports.IsPortBook port
   pub opening : seat.opening ≡ Some port.taker
   pub known : KnowsAll ports.by_number seat port.entries
+  pub ends : seat.thread ≡ main_thread → EndsByOthers ports.by_number seat.front port.entries
 
 pub record IsDeskOf (seat : DeskSeat) (desk : DeskData) : Type 0 where
   pub legal : desks.LeadsOn desk.opening desk.entries

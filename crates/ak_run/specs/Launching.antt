@@ -13,6 +13,7 @@ use Rattle.ak_roster.specs.Roster.{RosterData, objects_of, plain_entries, state}
 use Rattle.ak_action.specs.declared.plan.PlanParts.{PlanParts}
 use Rattle.ak_action.specs.declared.state.DeskState.{DeskState}
 use Rattle.ak_describe.specs.declared.described.AppText.{AppText}
+use Rattle.ak_headline.specs.Main.{MayEnterRoster}
 use Rattle.ak_looper.specs.declared.kept_door.KeptDoor.{KeptDoor}
 use Rattle.ak_looper.specs.Doors.{door_object}
 use Rattle.ak_looper.specs.Rosters.{Object, maker_of}
@@ -36,6 +37,7 @@ pub record HasEntered (started : ℕ) (book book' : Book) : Type 0 where
   pub entries : book'.entries ≡ book.entries ++ added
   pub one : length added ≤ 1
   pub by_main : All (λ (entry : EntryWithObjects Object). entry.plain.by.0 ≡ main_thread) added
+  pub may : All (λ (entry : EntryWithObjects Object). MayEnterRoster entry.plain.event) added
   pub starts : started_in book.heads (plain_entries added) ≡ started
 
 -- as many loopers were started as main's own entries tell

@@ -8,6 +8,7 @@ pub mod Members
 pub mod NewLooper
 pub mod NewTeam
 pub mod Opening
+pub mod Recording
 pub mod Running
 pub mod Sending
 pub mod Starting

@@ -17,6 +17,7 @@ use Rattle.ak_run.specs.declared.new_looper.Other.{Other}
 use Rattle.ak_run.specs.declared.new_looper.Own.{Own}
 use Rattle.ak_run.specs.declared.new_looper.Shared.{Shared}
 use Rattle.ak_run.specs.Opening.{names_in}
+use Rattle.ak_run.specs.Recording.{AddsAtPort}
 
 -- the same reply book and the same roster
 pub record AreSame (shared other : Shared) : Type 0 where
@@ -44,6 +45,8 @@ pub record IsNewLooper (plans : List PlanParts) (team first : ℕ) (shared : Sha
   -- main's seat at the port is of that port's taker too
   pub port_opening : n.door.port_seat.opening ≡ Some taker
   pub desk_opening : n.door.desk_seat.opening ≡ Some desk
+  -- and what main made there is what it may make
+  pub made : AddsAtPort [] n.door.port_seat.front
 
 -- the keeper's door leads to it, and tells those threads
 pub record IsKept (threads : List ℕ) (n : NewLooper) (kept : KeptDoor) : Type 0 where

@@ -19,6 +19,7 @@ use Rattle.ak_run.specs.declared.new_looper.Shared.{Shared}
 use Rattle.ak_run.specs.declared.run.Run.{Run}
 use Rattle.ak_run.specs.Counting.{started_by_main}
 use Rattle.ak_run.specs.Members.{IsLifeOf, OpensAs}
+use Rattle.ak_run.specs.Recording.{HasRecord, fronts_of}
 
 -- ---- a looper that was started
 -- main's door leads to the port and the desk that the thread was started with; its seats at what all share are at those locks, and at the
@@ -92,8 +93,9 @@ pub record KeepsRest (r r' : Run) : Type 0 where
   pub ports : r'.ports ≡ r.ports
   pub desks : r'.desks ≡ r.desks
 
--- each looper that main started has its thread
+-- each looper that main started has its thread; and main has its diary
 pub record IsRunning (r : Run) : Type 0 where
   pub heads : List AppHead
   pub stands : Stands (length r.members.items) heads r
   pub all : started_by_main heads r.roster_seat ≡ length r.members.items
+  pub recorded : HasRecord (fronts_of r)

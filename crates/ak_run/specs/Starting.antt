@@ -22,6 +22,7 @@ use Rattle.ak_run.specs.Counting.{started_by_main}
 use Rattle.ak_run.specs.Jobs.{HasWays, IsStartedIn, facts_in}
 use Rattle.ak_run.specs.NewLooper.{IsNewLooper}
 use Rattle.ak_run.specs.NewTeam.{AreOthers, IsNewTeam, IsOneOf}
+use Rattle.ak_run.specs.Recording.{HasRecord, RecordsBeside, fronts_with, team_fronts}
 use Rattle.ak_run.specs.Running.{IsRunning, KeepsRest, Stands}
 
 -- the run goes on with the loopers that it has; main launched nothing
@@ -32,6 +33,7 @@ pub record GoesOn (r r' : Run) : Type 0 where
   pub on : StartsWith r'.roster_seat.front r.roster_seat.front
   pub shared : r'.shared ≡ r.shared
   pub apps : r'.apps ≡ r.apps
+  pub recorded : RecordsBeside r r'
 
 -- the same, with so many loopers more that have their threads
 pub record GoesOnWith (more : ℕ) (r r' : Run) : Type 0 where
@@ -79,6 +81,7 @@ abbrev pub HasEnteredLaunch : Run → Run → Launch → Type 0
 HasEnteredLaunch r r' (launch.Started s) =
     (heads : List AppHead) × (plans : List PlanParts) × (kept : List KeptDoor) × MayStartTeam heads plans kept s.team s.new r'
     × (s.team.loopers ≤ app_looper_limit) × (started_by_main heads r'.roster_seat ≡ length r'.members.items + s.team.loopers)
+    × HasRecord (fronts_with r' (team_fronts s.new))
 HasEnteredLaunch r r' (launch.Running team first) = IsRunning r' × (first < length r'.members.items)
 HasEnteredLaunch r r' launch.NotFound = IsRunning r'
 HasEnteredLaunch r r' launch.Limit = IsRunning r'

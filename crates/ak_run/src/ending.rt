@@ -11,16 +11,18 @@ use std::thread::Threads;
 impl Run {
     ghost use Rattle.ak_describe.specs.Whole.{heads_of};
     ghost use Rattle.ak_run.specs.Ending.{EachLooper, HasEnded, IsAccounted, IsByRule};
+    ghost use Rattle.ak_run.specs.Recording.{HasMainDiary};
     ghost use Rattle.ak_run.specs.Running.{IsRunning};
 
     /// Ends what runs, joins all threads and keeps the histories. For each looper that was started there are a port and a desk. The
     /// messages that it dispatched, followed by those that it left, are exactly those that its port accepted, in order and each once;
-    /// and each was dispatched as the rules say for the handlers at that moment.
+    /// and each was dispatched as the rules say for the handlers at that moment. What main did is one diary that the rules allow.
     pub fn end<R: Threads + Wait>(mut self, rt: &R) -> Histories
         requires running { IsRunning self }
         ensures ended { HasEnded (heads_of self.apps.items) result }
         ensures accepted { EachLooper result IsAccounted }
         ensures dispatched { EachLooper result IsByRule }
+        ensures main { HasMainDiary result }
     {
         accepted_is_dispatched_then_left();
         each_is_dispatched_by_rule();
@@ -32,6 +34,7 @@ impl Run {
     fn gathered<R: Threads + Wait>(self, rt: &R) -> Histories
         requires running { IsRunning self }
         ensures ended { HasEnded (heads_of self.apps.items) result }
+        ensures main { HasMainDiary result }
     {
         let Run {
             apps: _,

@@ -1,12 +1,14 @@
 //! The end of a run: threads are joined, what their seats know is taken in, and the history of each object is kept.
 ghost use Rattle.std.specs.Prelude.{◌≡◌, ◌≤◌, [], List, All, length, map, false, vec_capacity};
 ghost use Rattle.std.specs.Arc.{arc_value};
+ghost use Rattle.ak_base.specs.Thread.{main_thread};
 ghost use Rattle.ak_turn.specs.Seats.{joined_seat};
 ghost use Rattle.ak_port.specs.Reply.{IsLegal};
 ghost use Rattle.ak_port.specs.ReplySeats as books;
 ghost use Rattle.ak_roster.specs.declared.head.AppHead.{AppHead};
 ghost use Rattle.ak_run.specs.declared.new_looper.Shared.{Shared};
-ghost use Rattle.ak_run.specs.Gathering.{AreBooksOf, GoesOnKnowing, IsDeskOf, IsJoined, IsPortOf, IsRosterOf, KnowsAll};
+ghost use Rattle.ak_run.specs.Gathering.{AreBooksOf, GoesOnKnowing, IsDeskOf, IsJoined, IsPortOf, IsRosterOf, KnowsAll, joined_front};
+ghost use Rattle.ak_run.specs.Recording.{EndsByOthers, member_front};
 ghost use Rattle.ak_run.specs.Running.{IsMember};
 
 use crate::member::Member;
@@ -58,6 +60,7 @@ pub(crate) fn join_one<R: Threads>(
     requires member { (heads : List AppHead) × (shared : Shared) × IsMember heads shared roster_seat.old member × (arc_value shared.roster ≡ roster.now) × (arc_value shared.book ≡ book.now) }
     ensures joined { (heads : List AppHead) (shared : Shared) → IsMember heads shared roster_seat.old member → IsJoined heads roster_seat.new book_seat.new result }
     ensures number { result.number ≡ member.number }
+    ensures front { joined_front result ≡ member_front member }
     ensures roster { GoesOnKnowing roster_seat.old roster_seat.new }
     ensures book { GoesOnKnowing book_seat.old book_seat.new }
 {
@@ -120,6 +123,7 @@ pub(crate) fn join_all<R: Threads>(
     requires room { length members.items ≤ vec_capacity joined.old }
     ensures joined { (heads : List AppHead) (shared : Shared) → All (IsMember heads shared roster_seat.old) members.items → All (IsJoined heads roster_seat.new book_seat.new) joined.new.items }
     ensures numbers { map (λ (j : Joined). j.number) joined.new.items ≡ map (λ (m : Member). m.number) members.items }
+    ensures fronts { map joined_front joined.new.items ≡ map member_front members.items }
     ensures roster { GoesOnKnowing roster_seat.old roster_seat.new }
     ensures book { GoesOnKnowing book_seat.old book_seat.new }
 {
@@ -164,6 +168,7 @@ pub(crate) fn keep_book<R: Wait>(
     requires idle { seat.turn ≡ false }
     ensures legal { IsLegal result }
     ensures known { KnowsAll books.maker_of seat result }
+    ensures ends { seat.thread ≡ main_thread → EndsByOthers books.maker_of seat.front result }
 {
     let turn = book.lock(rt, &mut seat);
     let kept = turn.keep();

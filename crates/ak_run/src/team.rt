@@ -9,6 +9,7 @@ ghost use Rattle.ak_roster.specs.declared.head.AppHead.{AppHead};
 ghost use Rattle.ak_looper.specs.declared.kept_door.KeptDoor.{KeptDoor};
 ghost use Rattle.ak_looper.specs.Job.{IsReady};
 ghost use Rattle.ak_run.specs.Members.{IsLifeOf, StillLeads};
+ghost use Rattle.ak_run.specs.Recording.{Records, RecordsStart, fronts_of, fronts_with, team_fronts};
 ghost use Rattle.ak_run.specs.Running.{IsStanding};
 ghost use Rattle.ak_run.specs.Starting.{GoesOn, GoesOnWith, HasSplit, MayStart, MayStartTeam};
 
@@ -59,6 +60,7 @@ impl Run {
         requires start { (heads : List AppHead) × (plans : List PlanParts) × (kept : List KeptDoor) × MayStartTeam heads plans kept team new self.old }
         requires gates { team.loopers ≤ length gates.items }
         ensures started { GoesOnWith team.loopers self.old self.new }
+        ensures recorded { Records (fronts_with self.old (team_fronts new)) (fronts_of self.new) }
     {
         let alloc = *self.members.allocator();
         let NewTeam { own, others, ways } = new;
@@ -128,6 +130,7 @@ impl Run {
     ) -> bool
         requires start { (heads : List AppHead) × (plans : List PlanParts) × (k : ℕ) × MayStart heads plans k team new ways.items self.old }
         ensures started { GoesOnWith 1 self.old self.new }
+        ensures recorded { RecordsStart new.door.port_seat.front self.old self.new }
     {
         let number = new.number;
         let (book_seat, roster_seat) = self.split_seats(ThreadId::looper(number));

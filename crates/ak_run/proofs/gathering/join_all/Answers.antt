@@ -5,7 +5,8 @@ use Rattle.std.proofs.lemmas.List.{map-append}
 use Rattle.std.proofs.lemmas.List.Elements.{All-head, All-push, All-tail}
 use Rattle.ak_run.specs.declared.gathering.Joined.{Joined}
 use Rattle.ak_run.specs.declared.member.Member.{Member}
-use Rattle.ak_run.specs.Gathering.{IsJoined}
+use Rattle.ak_run.specs.Gathering.{IsJoined, joined_front}
+use Rattle.ak_run.specs.Recording.{member_front}
 use Rattle.ak_run.specs.Running.{IsMember}
 use Rattle.ak_run.proofs.Joining.{all_joined_still, knows_further, member_still}
 use Rattle.ak_run.proofs.gathering.join_all.Goals as goal
@@ -53,5 +54,12 @@ loop-member-preserved g c =
           ∙ ap (λ (n : _). map (λ (j : Joined). j.number) js ++ n ∷ map (λ (m : Member). m.number) rest) one.number
           ∙ sym (ap (λ (l : List Member). map (λ (j : Joined). j.number) js ++ map (λ (m : Member). m.number) l) next)
           ∙ was.numbers;
+      fronts =
+          ap (λ (l : List Joined). map joined_front l ++ map member_front rest) pushed
+          ∙ ap (λ (l : List _). l ++ map member_front rest) (map-append joined_front js (j ∷ []))
+          ∙ append_assoc (map joined_front js) (joined_front j ∷ []) (map member_front rest)
+          ∙ ap (λ (front : _). map joined_front js ++ front ∷ map member_front rest) one.front
+          ∙ sym (ap (λ (l : List Member). map joined_front js ++ map member_front l) next)
+          ∙ was.fronts;
       room = omega (arith, ap (λ (l : List Joined). length l) pushed, length-append js (j ∷ []), ap (λ (l : List Member). length l) next, was.room, c.push_reserved.ensures.capacity);
     }

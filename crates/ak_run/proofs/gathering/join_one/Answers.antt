@@ -1,5 +1,6 @@
 -- The end is that of its job, and its seats are at the locks that main's are at.
-use Rattle.std.proofs.Common.{◌∙◌, refl}
+use Rattle.std.proofs.Common.{◌∙◌, ap, refl}
+use Rattle.ak_port.specs.PortCalls.{PortSeat}
 use Rattle.ak_run.specs.declared.gathering.Joined.{Joined}
 use Rattle.ak_run.proofs.Joining.{goes_on_knowing, is_joined}
 use Rattle.ak_run.proofs.gathering.join_one.Goals as goal
@@ -36,3 +37,6 @@ returns-clause-roster g c = goes_on_knowing c.args.roster_seat.now c.end-end.res
 
 pub returns-clause-book : goal.returns-clause-book
 returns-clause-book g c = goes_on_knowing c.args.book_seat.now c.end-end.result.hands.book_seat c.join-2.new.seat c.join-2.ensures
+
+pub returns-clause-front : goal.returns-clause-front
+returns-clause-front g c = ap (λ (s : PortSeat). s.front) c.take_in.ensures.port

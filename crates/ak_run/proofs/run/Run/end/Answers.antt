@@ -17,4 +17,5 @@ returns g c =
       ended = subst (λ (heads : List AppHead). HasEnded heads h) (same_heads_of c.args.self c.leave_all.new.self c.leave_all.ensures) ended;
       accepted = accounted c.accepted_is_dispatched_then_left.ensures (heads_of c.leave_all.new.self.apps.items) h ended;
       dispatched = by_rule c.each_is_dispatched_by_rule.ensures (heads_of c.leave_all.new.self.apps.items) h ended;
+      main = c.gathered.ensures.main;
     }

@@ -41,7 +41,7 @@ returns g c =
     let l = c.launch_at_turn-launch in
     let comes = subst (λ (apps : List AppText). ComesTo apps r.shared c.book.result.now l.new.book l.result) c.deref-2.ensures.value l.ensures.launch in
     record {
-      launch = has_entered r _ c.requires.running (record { apps = refl; shared = refl; joined = refl; ports = refl; desks = refl }) refl (same_book r _ l.ensures.book_seat) c.lock-turn.new.seat c.book.result.now l.new.book
+      launch = has_entered r _ c.requires.running (record { apps = refl; shared = refl; joined = refl; ports = refl; desks = refl }) refl (same_book r _ l.ensures.book_seat) (ap (λ s. s.front) l.ensures.book_seat) c.lock-turn.new.seat c.book.result.now l.new.book
           (c.lock-turn.ensures.opening ∙ ap (λ (b : Book). Some b.heads) (sym value)) c.lock-turn.ensures.seen c.lock-turn.ensures.known (ap (λ (b : Book). b.entries) value ∙ c.lock-turn.ensures.list)
           c.finish.ensures.same c.finish.ensures.entered c.finish.ensures.known l.ensures.by_main l.result comes;
     }

@@ -1,8 +1,10 @@
 -- Main's turn, in which it enters nothing or that the team is gone.
-use Rattle.std.proofs.Common.{refl, ap, sym, ◌∙◌, Some}
+use Rattle.std.proofs.Common.{refl, ap, sym, map, ◌++◌, ◌∙◌, Some}
 use Rattle.ak_run.specs.Launching.{Book}
+use Rattle.ak_run.specs.Recording.{member_front}
 use Rattle.ak_run.proofs.Entering.{gone_entered}
 use Rattle.ak_run.proofs.GoingOn.{goes_by}
+use Rattle.ak_run.proofs.Recorded.{turn_acts}
 use Rattle.ak_run.proofs.RosterTurn.{goes_on}
 use Rattle.ak_run.proofs.Standing.{same_book, same_loopers}
 use Rattle.ak_run.proofs.run.Run.leave.Goals as goal
@@ -16,3 +18,5 @@ returns g c =
     goes_by r _ book.heads (record { apps = refl; shared = refl; joined = refl; ports = refl; desks = refl }) (c.lock-turn.ensures.opening ∙ ap (λ (b : Book). Some b.heads) (sym value))
     (goes_on r.roster_seat c.lock-turn.new.seat c.finish.new.seat book c.gone-left.new.self 0 r.roster_idle (r.roster_thread ∙ r.main) c.lock-turn.ensures.seen c.lock-turn.ensures.known (ap (λ (b : Book). b.entries) value ∙ c.lock-turn.ensures.list) entered c.finish.ensures.same c.finish.ensures.entered c.finish.ensures.known)
     (same_book r _ refl) (λ next heads k. same_loopers next heads r _ refl k) refl
+    (λ new. turn_acts r.roster_seat c.lock-turn.new.seat c.finish.new.seat book c.gone-left.new.self 0 r.roster_idle (r.roster_thread ∙ r.main) c.lock-turn.ensures.seen c.lock-turn.ensures.known (ap (λ (b : Book). b.entries) value ∙ c.lock-turn.ensures.list) entered c.finish.ensures.same c.finish.ensures.entered c.finish.ensures.known
+    r.hands.book_seat.front (map member_front r.members.items ++ new))

@@ -1,7 +1,9 @@
 -- Main posts to that looper in one turn, and the run goes on.
 use Rattle.std.proofs.Common.{refl, sym, ◌∙◌}
 use Rattle.std.proofs.lemmas.List.{length-set}
-use Rattle.ak_run.proofs.Calls.{main_has, one_goes, port_after, port_before}
+use Rattle.ak_messenger.specs.Sends.{post_event}
+use Rattle.ak_run.proofs.Acting.{adds_by, may_post}
+use Rattle.ak_run.proofs.Calls.{main_has, one_goes, port_after, port_alone, port_before}
 use Rattle.ak_run.proofs.GoingOn.{still_running}
 use Rattle.ak_run.proofs.Standing.{same_book}
 use Rattle.ak_run.proofs.run.Run.post_at_once.Goals as goal
@@ -28,7 +30,9 @@ pub returns-clause-running : goal.returns-clause-running
 returns-clause-running g c =
     let r = c.args.self.now in
     let m = c.index_mut.result.now in
-    still_running r _ (one_goes r _ c.args.looper m _ c.requires.there (sym c.index_mut.ensures.value) c.post_in_turn.ensures.door refl refl (record { apps = refl; shared = refl; joined = refl; ports = refl; desks = refl }) refl (same_book r _ c.post_in_turn.ensures.book_seat)) c.requires.running
+    still_running r _ (one_goes r _ c.args.looper m _ c.requires.there (sym c.index_mut.ensures.value) c.post_in_turn.ensures.door refl refl (record { apps = refl; shared = refl; joined = refl; ports = refl; desks = refl }) refl (same_book r _ c.post_in_turn.ensures.book_seat)
+    (port_alone c.args.looper r.hands.book_seat _ _ _ c.post_in_turn.ensures.book_seat (adds_by (post_event c.args.envelope c.args.message.now c.post_in_turn.result) _ _ _ _ (main_has _ c.requires.running.heads r c.args.looper m c.requires.there (sym c.index_mut.ensures.value) c.requires.running.stands)
+    (may_post c.args.envelope c.args.message.now c.post_in_turn.result) c.post_in_turn.ensures.answered))) c.requires.running
 
 pub returns-clause-count : goal.returns-clause-count
 returns-clause-count g c = length-set c.args.self.now.members.items c.args.looper _

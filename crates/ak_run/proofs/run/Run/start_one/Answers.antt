@@ -7,6 +7,7 @@ use Rattle.ak_looper.specs.declared.door.Door.{Door}
 use Rattle.ak_run.specs.Members.{StillLeads}
 use Rattle.ak_run.specs.Running.{IsStanding}
 use Rattle.ak_run.specs.Starting.{HasSplit}
+use Rattle.ak_run.proofs.Recorded.{start_acts}
 use Rattle.ak_run.proofs.Splits.{book_new, can_start, goes_with, room_there, roster_new, stands_split}
 use Rattle.ak_run.proofs.run.Run.start_one.Goals as goal
 
@@ -60,4 +61,6 @@ returns g c =
     record {
       started = goes_with s.0 s.1 s.2 c.args.team c.args.new c.args.ways.items r s.3 now split c.life_of-life.new.self c.life_of-life.ensures.run _ (record { apps = refl; shared = refl; joined = refl; ports = refl; desks = refl }) refl refl
           _ c.push_reserved.ensures.items c.push_reserved.ensures.capacity c.life_of-life.new.door c.into_job-door.result.1 seats.result.0 seats.result.1 book roster c.into_job-door.ensures.job c.into_job-door.ensures.ready leads refl refl c.of-snapshot.ensures c.life_of-life.ensures.life;
+      recorded = start_acts r now c.life_of-life.new.self _ c.life_of-life.new.door c.args.new.door.port_seat.front _ split.members (ap (λ s. s.front) split.roster_seat) (ap (λ s. s.front) split.book_seat) c.life_of-life.ensures.run.recorded
+          (leads.adds s.3.new.by_main) refl c.push_reserved.ensures.items refl refl;
     }

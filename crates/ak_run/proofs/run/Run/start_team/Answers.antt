@@ -1,9 +1,11 @@
 -- The own looper starts, and then the others, one after another.
-use Rattle.std.proofs.Common.{◌≡◌, ℕ, List, [], ◌∷◌, length, sym, ap, subst, arith}
+use Rattle.std.proofs.Common.{◌≡◌, ℕ, List, [], ◌∷◌, length, map, sym, ap, subst, arith}
 use Rattle.std.proofs.lemmas.Grind.{common_steps}
 use Rattle.ak_looper.specs.declared.door.Door.{Door}
 use Rattle.ak_run.specs.declared.new_looper.NewLooper.{NewLooper}
+use Rattle.ak_run.specs.Recording.{Records, fronts_with, new_front, team_fronts}
 use Rattle.ak_run.specs.Starting.{IsStarting, MayStart}
+use Rattle.ak_run.proofs.Acts.{records_then}
 use Rattle.ak_run.proofs.TeamStarts.{all_started, next_may_start, next_started, others_follow, own_may_start}
 use Rattle.ak_run.proofs.run.Run.start_team.Goals as goal
 
@@ -19,6 +21,7 @@ loop-other-init g c =
     let same = c.into_iter-other-iterator.ensures.into_iter_gives.0 in
     record {
       starting = subst (IsStarting c.args.team c.args.self.now now) (sym same) (others_follow s.0 s.1 s.2 c.args.team c.args.new c.args.self.now now s.3 c.start_one-all.ensures.started);
+      recorded = subst (λ (ns : List NewLooper). Records (fronts_with c.args.self.now (team_fronts c.args.new)) (fronts_with now (map new_front ns))) (sym same) (c.start_one-all.ensures.recorded.beside (map new_front c.args.new.others.items));
       gates = omega (arith, ap (λ (l : List NewLooper). length l) same, c.next_gate-gate.ensures, c.requires.gates, s.3.loopers, s.3.all);
     }
 
@@ -39,10 +42,16 @@ loop-other-preserved g c =
     let rest = c.next.new.self.rest.items in
     let next : was.other-iterator.rest.items ≡ x ∷ rest = grind (arith, common_steps) in
     let is = subst (IsStarting c.args.team c.args.self.now was.self) next was.invariant.starting in
-    record { starting = next_started c.args.team c.args.self.now was.self c.start_one-all-in-loop-other.new.self x rest is c.start_one-all-in-loop-other.ensures.started; gates = omega (arith, c.next_gate-gate-in-loop-other.ensures, was.invariant.gates, ap (λ (l : List NewLooper). length l) next) }
+    let now = c.start_one-all-in-loop-other.new.self in
+    let begun = fronts_with c.args.self.now (team_fronts c.args.new) in
+    let so_far = subst (λ (ns : List NewLooper). Records begun (fronts_with was.self (map new_front ns))) next was.invariant.recorded in
+    record { starting = next_started c.args.team c.args.self.now was.self now x rest is c.start_one-all-in-loop-other.ensures.started; recorded = records_then begun (fronts_with was.self (new_front x ∷ map new_front rest)) (fronts_with now (map new_front rest)) so_far (c.start_one-all-in-loop-other.ensures.recorded.beside (map new_front rest)); gates = omega (arith, c.next_gate-gate-in-loop-other.ensures, was.invariant.gates, ap (λ (l : List NewLooper). length l) next) }
 
 pub returns : goal.returns
 returns g c =
     let was = c.loop-other in
     let none : was.other-iterator.rest.items ≡ [] = grind (arith, common_steps) in
-    record { started = all_started c.args.team c.args.self.now was.self (subst (IsStarting c.args.team c.args.self.now was.self) none was.invariant.starting) }
+    record {
+      started = all_started c.args.team c.args.self.now was.self (subst (IsStarting c.args.team c.args.self.now was.self) none was.invariant.starting);
+      recorded = subst (λ (ns : List NewLooper). Records (fronts_with c.args.self.now (team_fronts c.args.new)) (fronts_with was.self (map new_front ns))) none was.invariant.recorded;
+    }

@@ -1,0 +1,316 @@
+-- What main does at one port, at the book for an ask, and at the roster, by what its calls say of its seats.
+use Rattle.std.proofs.Common.{◌≡◌, ◌≢◌, ◌⊎◌, ℕ, ◌≤◌, List, [], ◌∷◌, ◌++◌, length, All, Any, Option, None, Some, Result, Ok, Err, true, refl, sym, ap, ◌∙◌, subst, append_assoc, append-nil, inl, inr, ⊎_elim, arith}
+use Rattle.std.specs.Prelude.{IfSome}
+use Rattle.std.proofs.lemmas.List.{map-append}
+use Rattle.std.proofs.lemmas.List.Elements.{All-append, All-cons, All-head, All-map, All-nil, Contains-push_cases}
+use Rattle.ak_base.specs.Thread.{main_thread}
+use Rattle.ak_message.specs.declared.address.Address.{Address}
+use Rattle.ak_message.specs.Message.{MessageData}
+use Rattle.ak_flatten.specs.declared.item.Duty.TheVariants as duty
+use Rattle.ak_flatten.specs.Item.{ItemData}
+use Rattle.ak_turn.specs.declared.clock.Clock.{Clock}
+use Rattle.ak_turn.specs.Entries.{AreByOthers, StartsWith}
+use Rattle.ak_turn.specs.Noted.{Noted, note, noted}
+use Rattle.ak_turn.specs.Seats.{SeatData, HasCalled, HasSeen}
+use Rattle.ak_turn.proofs.Surface.{called_notes_one, noted-others, noted-own, seen_notes_nothing}
+use Rattle.ak_roster.specs.declared.entry.EntryWithObjects.{EntryWithObjects}
+use Rattle.ak_roster.specs.declared.entry.RosterEntry.{RosterEntry}
+use Rattle.ak_roster.specs.Roster.{plain_entries}
+use Rattle.ak_port.specs.declared.port_entry.CloseAnswer.{CloseAnswer}
+use Rattle.ak_port.specs.declared.port_entry.CloseAnswer.TheVariants as closed
+use Rattle.ak_port.specs.declared.port_entry.PortEntry.{PortEntry}
+use Rattle.ak_port.specs.declared.port_entry.PortEvent.{PortEvent}
+use Rattle.ak_port.specs.declared.port_entry.PortEvent.TheVariants as event
+use Rattle.ak_port.specs.declared.reply_entry.ReplyEntry.{ReplyEntry}
+use Rattle.ak_port.specs.declared.reply_entry.ReplyEvent.{ReplyEvent}
+use Rattle.ak_port.specs.declared.reply_entry.ReplyEvent.TheVariants as slot_event
+use Rattle.ak_port.specs.PortCalls as at_ports
+use Rattle.ak_port.specs.PortCalls.{PortSeat, close_entry}
+use Rattle.ak_port.specs.Reply.{FillsWith}
+use Rattle.ak_port.specs.ReplySeats as at_books
+use Rattle.ak_port.specs.ReplySeats.{HasEnteredBook, ReplySeat}
+use Rattle.ak_messenger.specs.Asks.{AskTells, HasAsked, HasClosed, HasConversed, HasGivenUp, HasLackedMemory}
+use Rattle.ak_messenger.specs.Asks as asking
+use Rattle.ak_messenger.specs.Sends.{back_duty, post_event}
+use Rattle.ak_messenger.specs.declared.asking.Reply.{Reply}
+use Rattle.ak_messenger.specs.declared.envelope.Envelope.{Envelope}
+use Rattle.ak_messenger.specs.declared.fault.SendFault.{SendFault}
+use Rattle.ak_messenger.specs.declared.fault.SendFault.TheVariants as fault
+use Rattle.ak_diary.specs.Step.{Step, at_book, at_port, at_roster, saw_book}
+use Rattle.ak_diary.specs.Wants.{Cancels, Converses, IsRefusedBy, Withdraws}
+use Rattle.ak_headline.specs.Main.{IsMainDiary, MayEnterPort, MayEnterRoster, MayRefuse, asks, asks_in_vain, begun, enters_roster, owes_no_slot}
+use Rattle.ak_looper.specs.Rosters.{Object, by_number, maker_of}
+use Rattle.ak_run.specs.Recording.{AddsAtPort, Records, fronts, list_at}
+use Rattle.ak_run.proofs.Acts.{GoesAtBoth, May, adds_there, both_then, nothing_done, one_act, steps_there, there_diary}
+
+-- ---- main's seat goes on
+module _ {O L : Type 0} (by : L → ℕ) (a b : SeatData O L) (main : a.thread ≡ main_thread) where
+  seen_none : HasSeen by a b → noted by main_thread b.front ≡ noted by main_thread a.front
+  seen_none seen = ap (λ t. noted by t b.front) (sym (ap (λ s. s.thread) seen.after ∙ main)) ∙ seen_notes_nothing by a b seen ∙ ap (λ t. noted by t a.front) main
+
+  called_one : (entry : L) (before : List L) → HasCalled by entry a b → b.front ≡ before ++ entry ∷ [] → noted by main_thread b.front ≡ noted by main_thread a.front ++ note before entry ∷ []
+  called_one entry before call front =
+      ap (λ t. noted by t b.front) (sym (ap (λ s. s.thread) call.after ∙ main)) ∙ called_notes_one by entry before a b call front ∙ ap (λ t. noted by t a.front ++ note before entry ∷ []) main
+
+  seen_on : HasSeen by a b → StartsWith b.front a.front
+  seen_on seen = (seen.between, ap (λ s. s.front) seen.after)
+
+  called_on : (entry : L) → HasCalled by entry a b → StartsWith b.front a.front
+  called_on entry call = (call.between ++ entry ∷ [], ap (λ s. s.front) call.after ∙ append_assoc a.front call.between (entry ∷ []))
+
+-- ---- at one port
+pub adds_nothing : (a b : List PortEntry) → b ≡ a → AddsAtPort a b
+adds_nothing a b same = record { added = []; may = All-nil May; noted_is = ap (noted at_ports.by_number main_thread) same ∙ sym (append-nil (noted at_ports.by_number main_thread a)) }
+
+pub adds_then : (a b c : List PortEntry) → AddsAtPort a b → AddsAtPort b c → AddsAtPort a c
+adds_then a b c one two = record {
+  added = one.added ++ two.added;
+  may = All-append May one.added two.added one.may two.may;
+  noted_is = two.noted_is ∙ ap (λ l. l ++ two.added) one.noted_is ∙ append_assoc (noted at_ports.by_number main_thread a) one.added two.added;
+}
+
+pub adds_by : (e : Option PortEvent) (k l : Clock) (a b : PortSeat) → a.thread ≡ main_thread → IfSome e MayEnterPort → at_ports.HasAnswered e k l a b → AddsAtPort a.front b.front
+adds_by None k l a b main may looked = record {
+  added = [];
+  may = All-nil May;
+  noted_is = seen_none at_ports.by_number a b main looked.seen ∙ sym (append-nil (noted at_ports.by_number main_thread a.front));
+}
+adds_by (Some e) k l a b main may entered =
+    let n : Noted PortEntry = note entered.before (at_ports.entry_now k entered.before e) in
+    record {
+      added = n ∷ [];
+      may = All-cons May n [] may (All-nil May);
+      noted_is = called_one at_ports.by_number a b main (at_ports.entry_now k entered.before e) entered.before entered.called entered.front;
+    }
+
+-- the making of a port
+pub adds_making : (k : Clock) (capacity life : ℕ) → k.thread.0 ≡ main_thread → AddsAtPort [] (at_ports.making k capacity life ∷ [])
+adds_making k capacity life main =
+    let n : Noted PortEntry = note [] (at_ports.making k capacity life) in
+    record { added = n ∷ []; may = All-cons May n [] tt (All-nil May); noted_is = noted-own at_ports.by_number main_thread [] (at_ports.making k capacity life) main }
+
+-- a post, whose item waits for no slot
+owes_none : (back : Option Address) → owes_no_slot (back_duty back) ≡ true
+owes_none None = refl
+owes_none (Some address) = refl
+
+pub may_post : (e : Envelope) (m : MessageData) (sent : Result ℕ SendFault) → IfSome (post_event e m sent) MayEnterPort
+may_post e m (Ok position) = owes_none e.back
+may_post e m (Err fault.TooLong) = tt
+may_post e m (Err fault.NoMemory) = tt
+may_post e m (Err fault.BadPort) = tt
+may_post e m (Err fault.Spent) = tt
+may_post e m (Err fault.WouldBlock) = tt
+
+pub may_close : (answer : CloseAnswer) → IfSome (close_entry answer) MayEnterPort
+may_close closed.Shut = tt
+may_close closed.AlreadyShut = tt
+
+-- ---- an ask
+-- a list of which something holds that does not hold of its last
+any_before : {X : Type 0} (P : X → Type 0) (xs : List X) (y : X) → ¬ (P y) → Any P (xs ++ y ∷ []) → Any P xs
+any_before P xs y not any =
+    ⊎_elim (λ there. (there.0, any.1, there.1, there.2, any.4)) (λ last. absurd (not (subst P (sym last) any.4))) (Contains-push_cases xs y any.1 (any.0, any.2, any.3))
+
+-- taking a slot fills none
+filled_before : (n : ℕ) (flat : List ℕ) (k l : Clock) (b b' : ReplySeat) (entered : at_books.HasEntered k l (slot_event.Taken n) b b') → FillsWith n flat b'.front → FillsWith n flat entered.before
+filled_before n flat k l b b' entered fills =
+    any_before (λ (x : ReplyEntry). x.event ≡ slot_event.Filled n flat) entered.before (at_books.entry_now k entered.before (slot_event.Taken n)) (λ same. cc) (subst (FillsWith n flat) entered.front fills)
+
+-- what main did at both, as acts
+pub record ActsAtBoth (looper : ℕ) (book book' : List ReplyEntry) (port port' : List PortEntry) : Type 0 where
+  pub steps : List Step
+  pub acts : IsMainDiary steps
+  pub goes : GoesAtBoth looper steps book book' port port'
+
+-- at the port alone
+pub port_acts : (looper : ℕ) (book : List ReplyEntry) (a b : List PortEntry) → AddsAtPort a b → ActsAtBoth looper book book a b
+port_acts looper book a b adds = record { steps = steps_there looper adds.added; acts = there_diary looper adds.added adds.may; goes = adds_there looper adds.added book a b adds.noted_is }
+
+-- steps of which P holds
+record DoesAtBoth (looper : ℕ) (P : List Step → Type 0) (book book' : List ReplyEntry) (port port' : List PortEntry) : Type 0 where
+  steps : List Step
+  does : P steps
+  goes : GoesAtBoth looper steps book book' port port'
+
+module _ (looper : ℕ) where
+  abbrev noted_there : (e : PortEvent) (k l : Clock) (a b : PortSeat) → at_ports.HasEntered k l e a b → Noted PortEntry
+  noted_there e k l a b entered = note entered.before (at_ports.entry_now k entered.before e)
+
+  abbrev noted_in_book : (e : ReplyEvent) (k l : Clock) (a b : ReplySeat) → at_books.HasEntered k l e a b → Noted ReplyEntry
+  noted_in_book e k l a b entered = note entered.before (at_books.entry_now k entered.before e)
+
+  abbrev same_port : (port : List PortEntry) → noted at_ports.by_number main_thread port ≡ noted at_ports.by_number main_thread port ++ []
+  same_port port = sym (append-nil (noted at_ports.by_number main_thread port))
+
+  at_the_book : (e : ReplyEvent) (k l : Clock) (a b : ReplySeat) (port : List PortEntry) → a.thread ≡ main_thread → (entered : at_books.HasEntered k l e a b) → GoesAtBoth looper (at_book (noted_in_book e k l a b entered) ∷ []) a.front b.front port port
+  at_the_book e k l a b port main entered = record {
+    roster_none = refl;
+    noted_book = called_one at_books.maker_of a b main (at_books.entry_now k entered.before e) entered.before entered.called entered.front;
+    book_on = called_on at_books.maker_of a b main (at_books.entry_now k entered.before e) entered.called;
+    book_seen = All-nil (StartsWith b.front);
+    noted_port = same_port port;
+    elsewhere = λ other differ. refl;
+  }
+
+  at_the_port : (e : PortEvent) (k l : Clock) (a b : PortSeat) (book : List ReplyEntry) → a.thread ≡ main_thread → (entered : at_ports.HasEntered k l e a b) → GoesAtBoth looper (at_port looper (noted_there e k l a b entered) ∷ []) book book a.front b.front
+  at_the_port e k l a b book main entered =
+      adds_there looper (noted_there e k l a b entered ∷ []) book a.front b.front (called_one at_ports.by_number a b main (at_ports.entry_now k entered.before e) entered.before entered.called entered.front)
+
+  looks_at_port : (k l : Clock) (a b : PortSeat) (book : List ReplyEntry) → a.thread ≡ main_thread → at_ports.HasLooked k l a b → GoesAtBoth looper [] book book a.front b.front
+  looks_at_port k l a b book main looked = adds_there looper [] book a.front b.front (seen_none at_ports.by_number a b main looked.seen ∙ sym (append-nil (noted at_ports.by_number main_thread a.front)))
+
+  looks_at_book : (k l : Clock) (a b : ReplySeat) (port : List PortEntry) → a.thread ≡ main_thread → at_books.HasLooked k l a b → GoesAtBoth looper [] a.front b.front port port
+  looks_at_book k l a b port main looked = record {
+    roster_none = refl;
+    noted_book = seen_none at_books.maker_of a b main looked.seen ∙ sym (append-nil (noted at_books.maker_of main_thread a.front));
+    book_on = seen_on at_books.maker_of a b main looked.seen;
+    book_seen = All-nil (StartsWith b.front);
+    noted_port = same_port port;
+    elsewhere = λ other differ. refl;
+  }
+
+  sees_book : (k l : Clock) (a b : ReplySeat) (port : List PortEntry) → a.thread ≡ main_thread → at_books.HasLooked k l a b → GoesAtBoth looper (saw_book b.front ∷ []) a.front b.front port port
+  sees_book k l a b port main looked = record {
+    roster_none = refl;
+    noted_book = seen_none at_books.maker_of a b main looked.seen ∙ sym (append-nil (noted at_books.maker_of main_thread a.front));
+    book_on = seen_on at_books.maker_of a b main looked.seen;
+    book_seen = All-cons (StartsWith b.front) b.front [] ([], sym (append-nil b.front)) (All-nil (StartsWith b.front));
+    noted_port = same_port port;
+    elsewhere = λ other differ. refl;
+  }
+
+  -- a slot is closed
+  closes : (n : ℕ) (k l : Clock) (a b : ReplySeat) (port : List PortEntry) → a.thread ≡ main_thread → HasClosed n k l a b → DoesAtBoth looper (Cancels n) a.front b.front port port
+  closes n k l a b port main (inl entered) =
+      let x = noted_in_book (slot_event.Cancelled n) k l a b entered.entered in
+      record { steps = at_book x ∷ []; does = inl (record { noted = x; event_is = refl; is = refl }); goes = at_the_book (slot_event.Cancelled n) k l a b port main entered.entered }
+  closes n k l a b port main (inr found) = record {
+    steps = saw_book b.front ∷ [];
+    does = inr (record { seen = b.front; filled = found.filled; is = refl });
+    goes = sees_book k l a b port main found.looked;
+  }
+
+  -- the looper that is asked
+  module _ (item : ItemData) (c c' : Clock) (b b' : ReplySeat) (s s' : PortSeat) (book_main : b.thread ≡ main_thread) (port_main : s.thread ≡ main_thread) where
+    abbrev to : Address
+    to = record { looper = looper; target = item.target }
+
+    later_main : (n : ℕ) (k : Clock) (b1 : ReplySeat) → HasEnteredBook c k (slot_event.Opened n) b b1 → b1.thread ≡ main_thread
+    later_main n k b1 opened = ap (λ (x : ReplySeat). x.thread) opened.entered.called.after ∙ book_main
+
+    -- a slot was opened, the item written, and taken what the slot was filled with
+    converses : (n : ℕ) (k : Clock) (b1 : ReplySeat) (flat : List ℕ) → HasEnteredBook c k (slot_event.Opened n) b b1 → HasConversed item k c' b1 b' s s' n flat → ActsAtBoth looper b.front b'.front s.front s'.front
+    converses n k b1 flat opened h =
+        let asked : ItemData = record item { duty = duty.Slot n } in
+        let position = h.written.0 in
+        let x = noted_in_book (slot_event.Opened n) c k b b1 opened.entered in
+        let y = noted_there (event.Written position asked) k h.between s s' h.written.1 in
+        let z = noted_in_book (slot_event.Taken n) h.between c' b1 b' h.collected.taken.entered in
+        let does : Converses to item flat (at_book x ∷ at_port looper y ∷ at_book z ∷ []) = record {
+          slot = n;
+          position = position;
+          opened = x;
+          written = y;
+          taken = z;
+          opened_is = refl;
+          written_is = refl;
+          taken_is = refl;
+          filled = filled_before n flat h.between c' b1 b' h.collected.taken.entered h.collected.filled;
+          is = refl;
+        } in
+        record {
+          steps = at_book x ∷ at_port looper y ∷ at_book z ∷ [];
+          acts = one_act (at_book x ∷ at_port looper y ∷ at_book z ∷ []) (asks to item flat does);
+          goes =
+              both_then looper (at_book x ∷ []) (at_port looper y ∷ at_book z ∷ []) b.front b1.front b'.front s.front s.front s'.front (at_the_book (slot_event.Opened n) c k b b1 s.front book_main opened.entered)
+              (both_then looper (at_port looper y ∷ []) (at_book z ∷ []) b1.front b1.front b'.front s.front s'.front s'.front (at_the_port (event.Written position asked) k h.between s s' b1.front port_main h.written.1)
+              (at_the_book (slot_event.Taken n) h.between c' b1 b' s'.front (later_main n k b1 opened) h.collected.taken.entered));
+        }
+
+    -- the item was refused, and the slot closed
+    withdraws : (e : Option PortEvent) → MayRefuse e → (n : ℕ) (k between : Clock) (b1 : ReplySeat) → HasEnteredBook c k (slot_event.Opened n) b b1 → DoesAtBoth looper (IsRefusedBy looper e) b1.front b1.front s.front s'.front → HasClosed n between c' b1 b'
+        → ActsAtBoth looper b.front b'.front s.front s'.front
+    withdraws e may n k between b1 opened refused closing =
+        let x = noted_in_book (slot_event.Opened n) c k b b1 opened.entered in
+        let last = closes n between c' b1 b' s'.front (later_main n k b1 opened) closing in
+        let does : Withdraws to e (at_book x ∷ refused.steps ++ last.steps) =
+        record { slot = n; opened = x; refused = refused.steps; closing = last.steps; opened_is = refl; refused_is = refused.does; closes = last.does; is = refl } in
+        record {
+          steps = at_book x ∷ refused.steps ++ last.steps;
+          acts = one_act (at_book x ∷ refused.steps ++ last.steps) (asks_in_vain to e may does);
+          goes =
+              both_then looper (at_book x ∷ []) (refused.steps ++ last.steps) b.front b1.front b'.front s.front s.front s'.front (at_the_book (slot_event.Opened n) c k b b1 s.front book_main opened.entered)
+              (both_then looper refused.steps last.steps b1.front b1.front b'.front s.front s'.front s'.front refused.goes last.goes);
+        }
+
+    -- the port gave a reason
+    withdraws_so : (e : PortEvent) → MayRefuse (Some e) → (n : ℕ) (k between : Clock) (b1 : ReplySeat) → HasEnteredBook c k (slot_event.Opened n) b b1 → at_ports.HasEntered k between e s s' → HasClosed n between c' b1 b' → ActsAtBoth looper b.front b'.front s.front s'.front
+    withdraws_so e may n k between b1 opened entered closing =
+        let y = noted_there e k between s s' entered in
+        withdraws (Some e) may n k between b1 opened (record { steps = at_port looper y ∷ []; does = record { noted = y; event_is = refl; is = refl }; goes = at_the_port e k between s s' b1.front port_main entered }) closing
+
+    -- memory was wanting
+    in_vain_later : (h : HasAsked item c c' b b' s s' (Err fault.NoMemory)) → (HasGivenUp item h.clock c' h.seat b' s s' h.slot fault.NoMemory ⊎ ((flat : List ℕ) × HasConversed item h.clock c' h.seat b' s s' h.slot flat)) → ActsAtBoth looper b.front b'.front s.front s'.front
+    in_vain_later h (inl up) = withdraws None tt h.slot h.clock up.between h.seat h.opened (record { steps = []; does = refl; goes = looks_at_port h.clock up.between s s' h.seat.front port_main up.refused.looked }) up.closed
+    in_vain_later h (inr both) = converses h.slot h.clock h.seat both.0 h.opened both.1
+
+    nothing : (a : ReplySeat) (p : PortSeat) → a ≡ b → p ≡ s → ActsAtBoth looper b.front a.front s.front p.front
+    nothing a p same_book same_seat =
+        subst (λ (x : ReplySeat). ActsAtBoth looper b.front x.front s.front p.front) (sym same_book)
+        (subst (λ (x : PortSeat). ActsAtBoth looper b.front b.front s.front x.front) (sym same_seat) (record { steps = []; acts = begun; goes = adds_there looper [] b.front s.front s.front (same_port s.front) }))
+
+    in_vain : HasLackedMemory item c c' b b' s s' → ActsAtBoth looper b.front b'.front s.front s'.front
+    in_vain (asking.before_all none) = nothing b' s' none.book none.port
+    in_vain (asking.for_the_slot none) =
+        subst (λ (x : PortSeat). ActsAtBoth looper b.front b'.front s.front x.front) (sym none.port) (record { steps = []; acts = begun; goes = looks_at_book c c' b b' s.front book_main none.looked.looked })
+    in_vain (asking.later h) = in_vain_later h h.became
+
+    pub ask_acts : (sent : Result Reply SendFault) → AskTells item c c' b b' s s' sent → ActsAtBoth looper b.front b'.front s.front s'.front
+    ask_acts (Ok reply) h = converses h.slot h.clock h.seat reply.flat h.opened h.became.1
+    ask_acts (Err fault.TooLong) h = nothing b' s' h.book h.port
+    ask_acts (Err fault.NoMemory) h = in_vain h
+    ask_acts (Err fault.BadPort) h = withdraws_so event.Refused tt h.slot h.clock h.became.between h.seat h.opened h.became.refused h.became.closed
+    ask_acts (Err fault.Spent) h = withdraws_so event.Spent tt h.slot h.clock h.became.between h.seat h.opened h.became.refused h.became.closed
+    ask_acts (Err fault.WouldBlock) h = absurd h
+
+-- ---- at the roster
+abbrev Entries : Type 0
+Entries = List (EntryWithObjects Object)
+
+plain-append : (xs ys : Entries) → plain_entries (xs ++ ys) ≡ plain_entries xs ++ plain_entries ys
+plain-append xs ys = map-append (λ (entry : EntryWithObjects Object). entry.plain) xs ys
+
+-- main had its turn there, and made one entry or none
+pub roster_acts : (front between added : Entries) (book : List ReplyEntry) (ports : List (List PortEntry)) → AreByOthers by_number main_thread between → length added ≤ 1 → All (λ (e : EntryWithObjects Object). e.plain.by.0 ≡ main_thread) added
+    → All (λ (e : EntryWithObjects Object). MayEnterRoster e.plain.event) added → Records (fronts (plain_entries front) book ports) (fronts (plain_entries ((front ++ between) ++ added)) book ports)
+roster_acts front between added book ports others few mine may = by_added added few mine may
+  where
+    before : List RosterEntry
+    before = plain_entries front ++ plain_entries between
+
+    none_more : noted maker_of main_thread before ≡ noted maker_of main_thread (plain_entries front)
+    none_more = noted-others maker_of main_thread (plain_entries front) (plain_entries between) (All-map (λ (entry : RosterEntry). entry.by.0 ≢ main_thread) (λ (entry : EntryWithObjects Object). entry.plain) between others)
+
+    by_added : (xs : Entries) → length xs ≤ 1 → All (λ (e : EntryWithObjects Object). e.plain.by.0 ≡ main_thread) xs → All (λ (e : EntryWithObjects Object). MayEnterRoster e.plain.event) xs
+        → Records (fronts (plain_entries front) book ports) (fronts (plain_entries ((front ++ between) ++ xs)) book ports)
+    by_added [] less by_main allowed =
+        nothing_done (fronts (plain_entries front) book ports) (fronts (plain_entries ((front ++ between) ++ [])) book ports)
+        (ap (λ (l : Entries). noted maker_of main_thread (plain_entries l)) (append-nil (front ++ between)) ∙ ap (noted maker_of main_thread) (plain-append front between) ∙ none_more) refl ([], sym (append-nil book)) (λ looper. refl)
+    by_added (x ∷ []) less by_main allowed =
+        let n : Noted RosterEntry = note before x.plain in
+        let is : plain_entries ((front ++ between) ++ x ∷ []) ≡ before ++ x.plain ∷ [] = plain-append (front ++ between) (x ∷ []) ∙ ap (λ l. l ++ x.plain ∷ []) (plain-append front between) in
+        record {
+          steps = at_roster n ∷ [];
+          goes = record {
+            acts = one_act (at_roster n ∷ []) (enters_roster n (All-head (λ (e : EntryWithObjects Object). MayEnterRoster e.plain.event) x [] allowed) refl);
+            roster =
+                ap (noted maker_of main_thread) is ∙ noted-own maker_of main_thread before x.plain (All-head (λ (e : EntryWithObjects Object). e.plain.by.0 ≡ main_thread) x [] by_main)
+                ∙ ap (λ l. l ++ n ∷ []) none_more;
+            book = sym (append-nil (noted at_books.maker_of main_thread book));
+            book_on = ([], sym (append-nil book));
+            book_seen = All-nil (StartsWith book);
+            ports = λ looper. sym (append-nil (noted at_ports.by_number main_thread (list_at ports looper)));
+          };
+        }
+    by_added (x ∷ y ∷ zs) less by_main allowed = absurd (omega (arith, less))

@@ -1,0 +1,94 @@
+-- At the end main's diary has all that main did.
+use Rattle.std.proofs.Common.{◌≡◌, ◌≢◌, ℕ, zero, suc, List, [], ◌∷◌, ◌++◌, map, All, sym, refl, ap, ◌∙◌, subst, append-nil}
+use Rattle.std.proofs.lemmas.List.{map-append}
+use Rattle.std.proofs.lemmas.List.Elements.{All-head, All-map, All-tail}
+use Rattle.std.specs.Prelude.{option_map, slice_get, unwrap_or}
+use Rattle.ak_base.specs.Thread.{main_thread}
+use Rattle.ak_turn.specs.Entries.{AreByOthers}
+use Rattle.ak_turn.specs.Noted.{noted}
+use Rattle.ak_turn.specs.Seats.{IsGiven, SeatData}
+use Rattle.ak_turn.proofs.Surface.{noted-others}
+use Rattle.ak_roster.specs.declared.entry.EntryWithObjects.{EntryWithObjects}
+use Rattle.ak_roster.specs.declared.entry.RosterEntry.{RosterEntry}
+use Rattle.ak_roster.specs.declared.head.AppHead.{AppHead}
+use Rattle.ak_roster.specs.Roster.{RosterData, plain_entries}
+use Rattle.ak_port.specs.declared.port_entry.PortEntry.{PortEntry}
+use Rattle.ak_port.specs.declared.reply_entry.ReplyEntry.{ReplyEntry}
+use Rattle.ak_port.specs.PortCalls as at_ports
+use Rattle.ak_port.specs.PortCalls.{PortData}
+use Rattle.ak_port.specs.ReplySeats as at_books
+use Rattle.ak_port.specs.ReplySeats.{ReplySeat}
+use Rattle.ak_desk.specs.Desk.{DeskData}
+use Rattle.ak_diary.specs.declared.histories.Histories.{Histories}
+use Rattle.ak_diary.specs.Step.{Step, book_sights}
+use Rattle.ak_headline.specs.Run.{HasDone}
+use Rattle.ak_looper.specs.declared.kept_door.KeptDoor.{KeptDoor}
+use Rattle.ak_looper.specs.Rosters.{Object, RosterSeat, by_number, maker_of, plain_of}
+use Rattle.ak_run.specs.declared.gathering.Joined.{Joined}
+use Rattle.ak_run.specs.declared.run.Run.{Run}
+use Rattle.ak_run.specs.Gathering.{AreBooksOf, GoesOnKnowing, IsJoined, IsRosterOf, joined_front}
+use Rattle.ak_run.specs.Recording.{EndsByOthers, Fronts, HasMainDiary, HasRecord, IsRecorded, PortsEndByOthers, fronts_of, list_at, member_front}
+use Rattle.ak_run.proofs.Acts.{seen_still}
+
+-- what main did is in what its seat has seen
+module _ {L : Type 0} (by : L → ℕ) where
+  pub noted_at_end : (front entries : List L) → EndsByOthers by front entries → noted by main_thread entries ≡ noted by main_thread front
+  noted_at_end front entries ends = ap (noted by main_thread) ends.goes_on ∙ noted-others by main_thread front ends.between ends.others
+
+  -- so it is of the list that main keeps
+  pub ends_at_turn : {O : Type 0} (seat given : SeatData O L) (entries : List L) → seat.thread ≡ main_thread → IsGiven by seat given → entries ≡ given.front → EndsByOthers by seat.front entries
+  ends_at_turn seat given entries main seen list = record {
+    between = seen.between;
+    goes_on = list ∙ ap (λ s. s.front) seen.after;
+    others = subst (λ (t : ℕ). All (λ entry. by entry ≢ t) seen.between) main seen.others;
+  }
+
+ports_at_end : (fronts : List (List PortEntry)) (ports : List PortData) → PortsEndByOthers fronts ports → (looper : ℕ)
+    → noted at_ports.by_number main_thread (unwrap_or (option_map (λ (port : PortData). port.entries) (slice_get ports looper)) []) ≡ noted at_ports.by_number main_thread (list_at fronts looper)
+ports_at_end [] [] ends zero = refl
+ports_at_end [] [] ends (suc looper) = refl
+ports_at_end (front ∷ fronts) (port ∷ ports) ends zero = noted_at_end at_ports.by_number front port.entries ends.0
+ports_at_end (front ∷ fronts) (port ∷ ports) ends (suc looper) = ports_at_end fronts ports ends.1 looper
+ports_at_end [] (port ∷ ports) ends looper = absurd ends
+ports_at_end (front ∷ fronts) [] ends looper = absurd ends
+
+pub main_done : (steps : List Step) (f : Fronts) (h : Histories) → IsRecorded steps f → EndsByOthers maker_of f.roster h.roster.items → EndsByOthers at_books.maker_of f.book h.book → PortsEndByOthers f.ports h.ports.items → HasDone h main_thread steps
+main_done steps f h is roster book ports = record {
+  at_roster = noted_at_end maker_of f.roster h.roster.items roster ∙ is.roster;
+  at_book = noted_at_end at_books.maker_of f.book h.book book ∙ is.book;
+  at_ports = λ looper. ports_at_end f.ports h.ports.items ports looper ∙ is.ports looper;
+  book_seen = seen_still f.book h.book (book_sights steps) (book.between, book.goes_on) is.book_seen;
+}
+
+-- ---- of what was gathered
+ports_end : (heads : List AppHead) (roster : RosterSeat) (book : ReplySeat) (js : List Joined) (ports : List PortData) (desks : List DeskData) → All (IsJoined heads roster book) js → AreBooksOf js ports desks → PortsEndByOthers (map joined_front js) ports
+ports_end heads roster book [] [] [] all kept = tt
+ports_end heads roster book (j ∷ js) (port ∷ ports) (desk ∷ desks) all kept =
+    let is = All-head (IsJoined heads roster book) j js all in
+    (kept.0.0.ends is.by_main, ports_end heads roster book js ports desks (All-tail (IsJoined heads roster book) j js all) kept.1)
+ports_end heads roster book [] [] (desk ∷ desks) all kept = absurd kept
+ports_end heads roster book [] (port ∷ ports) desks all kept = absurd kept
+ports_end heads roster book (j ∷ js) [] desks all kept = absurd kept
+ports_end heads roster book (j ∷ js) (port ∷ ports) [] all kept = absurd kept
+
+roster_ends : (seat : RosterSeat) (roster : RosterData KeptDoor Object) → seat.thread ≡ main_thread → IsRosterOf seat roster → EndsByOthers maker_of (plain_of seat) (plain_entries roster.entries)
+roster_ends seat roster main of = record {
+  between = plain_entries of.between;
+  goes_on = ap (λ (l : List (EntryWithObjects Object)). plain_entries l) of.goes_on ∙ map-append (λ (entry : EntryWithObjects Object). entry.plain) seat.front of.between;
+  others = All-map (λ (entry : RosterEntry). maker_of entry ≢ main_thread) (λ (entry : EntryWithObjects Object). entry.plain) of.between (subst (λ (t : ℕ). AreByOthers by_number t of.between) main of.others);
+}
+
+-- main's seats saw nothing more while the threads were joined
+pub run_done : (r : Run) → HasRecord (fronts_of r) → (heads : List AppHead) (main : RosterSeat) (at_book : ReplySeat) (roster : RosterData KeptDoor Object) (book : List ReplyEntry) (js : List Joined) (h : Histories) → GoesOnKnowing r.roster_seat main → GoesOnKnowing r.hands.book_seat at_book
+    → All (IsJoined heads main at_book) js → map joined_front js ≡ map member_front r.members.items → AreBooksOf js h.ports.items h.desks.items → IsRosterOf main roster → (at_book.thread ≡ main_thread → EndsByOthers at_books.maker_of at_book.front book)
+    → h.roster.items ≡ plain_entries roster.entries → h.book ≡ book → HasMainDiary h
+run_done r has heads main at_book roster book js h roster_on book_on joined same kept of ends h_roster h_book =
+    let by_main : main.thread ≡ main_thread = roster_on.thread ∙ r.roster_thread ∙ r.main in
+    let at_roster : EndsByOthers maker_of (plain_of r.roster_seat) h.roster.items =
+    subst (EndsByOthers maker_of (plain_of r.roster_seat)) (sym h_roster)
+    (subst (λ (l : List (EntryWithObjects Object)). EndsByOthers maker_of (plain_entries l) (plain_entries roster.entries)) roster_on.front (roster_ends main roster by_main of)) in
+    let at_the_book : EndsByOthers at_books.maker_of r.hands.book_seat.front h.book =
+    subst (EndsByOthers at_books.maker_of r.hands.book_seat.front) (sym h_book) (subst (λ (l : List ReplyEntry). EndsByOthers at_books.maker_of l book) book_on.front (ends (book_on.thread ∙ r.hands.thread ∙ r.main))) in
+    let at_all : PortsEndByOthers (map member_front r.members.items ++ []) h.ports.items =
+    subst (λ (l : List (List PortEntry)). PortsEndByOthers l h.ports.items) (same ∙ sym (append-nil (map member_front r.members.items))) (ports_end heads main at_book js h.ports.items h.desks.items joined kept) in
+    record { main = has.did; main_diary = has.recorded.diary; main_done = main_done has.did (fronts_of r) h has.recorded at_roster at_the_book at_all }
