@@ -1,0 +1,280 @@
+-- What each thread's diary tells of a slot, and all of them together: the sums over main and all loopers.
+use Rattle.std.proofs.Common.{◌≡◌, ◌≢◌, ◌⊎◌, ℕ, zero, suc, ◌+◌, ◌<◌, ◌≤◌, ◌==◌, ◌&&◌, Bool, true, false, List, [], ◌∷◌, ◌++◌, length, All, Any, Contains, Some, option_map, slice_get, unwrap_or, refl, sym, ap, ◌∙◌, subst, inl, inr, ⊎_elim, arith}
+use Rattle.std.proofs.lemmas.Bool.{cases_lt}
+use Rattle.std.proofs.lemmas.List.Elements.{All-nil, All-weaker}
+use Rattle.std.proofs.lemmas.Option.{slice_get_past}
+use Rattle.ak_base.specs.Thread.{looper_thread, main_thread}
+use Rattle.ak_flatten.specs.declared.item.Taken.{Taken}
+use Rattle.ak_flatten.specs.Item.{ItemData}
+use Rattle.ak_turn.specs.Entries.{StartsWith}
+use Rattle.ak_turn.specs.Noted.{Noted, noted}
+use Rattle.ak_turn.proofs.Surface.{noted-others}
+use Rattle.ak_port.specs.declared.port_entry.PortEntry.{PortEntry}
+use Rattle.ak_port.specs.declared.reply_entry.ReplyEntry.{ReplyEntry}
+use Rattle.ak_port.specs.declared.reply_entry.ReplyEvent.{ReplyEvent}
+use Rattle.ak_port.specs.declared.reply_entry.ReplyEvent.TheVariants as slot
+use Rattle.ak_port.specs.PortCalls as ports
+use Rattle.ak_port.specs.PortCalls.{PortData}
+use Rattle.ak_port.specs.PortMachine.{written_in}
+use Rattle.ak_port.specs.Reply.{IsLegal, IsSettled, fills, takes}
+use Rattle.ak_port.specs.ReplySeats as books
+use Rattle.ak_desk.specs.Desk.{DeskData}
+use Rattle.ak_desk.specs.Entry.{EntryData}
+use Rattle.ak_diary.specs.declared.histories.Histories.{Histories}
+use Rattle.ak_diary.specs.Step.{Step, at_roster, at_book, at_port, at_desk, saw_roster, saw_book, saw_port, lacked, book_entries, book_sights, port_entries}
+use Rattle.ak_headline.specs.Answers.{IsAccepted, WasSentOn, cancels, opens}
+use Rattle.ak_headline.specs.Run.{IsOfRun, desk_list, port_list}
+use Rattle.ak_headline.specs.Tally.{SendsUp, Tally, at_slot, how_many, kept_in, owing_in, sends, sends_to, sent_on_in, writes_owing}
+use Rattle.ak_headline.proofs.Counts.{how_many_most, one_if}
+use Rattle.ak_headline.proofs.Once.{opened_once, settled_counts}
+use Rattle.ak_headline.proofs.Replies.{IsPaid}
+use Rattle.ak_headline.proofs.Resting.{RestsAt}
+use Rattle.ak_headline.proofs.Shares.{made_is_noted, made_so, parted, steps_at_book, steps_at_port, steps_at_ports}
+use Rattle.ak_headline.proofs.Sums.{total, total_most, total_none, total_one, total_same, total_some, total_sum, total_swap}
+
+-- ---- one thread
+-- what it made at the book and at the ports are its steps there; what it saw of the book without an entry is a beginning of the book
+pub record IsToldBy (h : Histories) (thread : ℕ) (steps : List Step) : Type 0 where
+  pub at_book : noted books.maker_of thread h.book ≡ book_entries steps
+  pub at_ports : (looper : ℕ) → noted ports.by_number thread (port_list h looper) ≡ port_entries looper steps
+  pub book_seen : All (StartsWith h.book) (book_sights steps)
+
+abbrev pub writes_at : Histories → ℕ → ℕ → ℕ
+writes_at h n looper = how_many (λ (entry : PortEntry). writes_owing n entry.event) (port_list h looper)
+
+-- what the looper's thread did, and what became of the items of its port
+pub record Account (h : Histories) (short : List ℕ) (n k : ℕ) : Type 0 where
+  pub steps : List Step
+  pub left : List Taken
+  pub told : IsToldBy h (looper_thread k) steps
+  pub tally : Tally n (desk_list h k) left steps
+  pub accepted : writes_at h n k ≡ sent_on_in n (desk_list h k) + (kept_in n (desk_list h k) + owing_in n left)
+  pub up : SendsUp n k (desk_list h k) steps
+  pub became : (at : ℕ) (other : ItemData) → IsAccepted h n k at other → RestsAt n (desk_list h k) left at ⊎ WasSentOn h k at other
+  pub paid : (text : List ℕ) (x : Noted ReplyEntry) → Contains (book_entries steps) x → x.entry.event ≡ slot.Filled n text → IsPaid h short n k left text
+
+-- ---- where there is no looper
+module _ (h : Histories) (k : ℕ) (none : length h.ports.items ≤ k) where
+  pub no_port : port_list h k ≡ []
+  no_port = ap (λ o. unwrap_or (option_map (λ (port : PortData). port.entries) o) []) (slice_get_past h.ports.items k none)
+
+  pub no_desk : length h.desks.items ≡ length h.ports.items → desk_list h k ≡ []
+  no_desk each = ap (λ o. unwrap_or (option_map (λ (desk : DeskData). desk.entries) o) []) (slice_get_past h.desks.items k (omega (arith, each, none)))
+
+  -- its thread made no entry
+  not_of_it : (thread : ℕ) → IsOfRun h thread → thread ≢ looper_thread k
+  not_of_it thread of e =
+      ⊎_elim (λ (main : thread ≡ main_thread). absurd (omega (arith, e, main)))
+      (λ (one : (looper : ℕ) × (looper < length h.ports.items) × (thread ≡ looper_thread looper)). absurd (omega (arith, e, one.1, one.2, none))) of
+
+  noted_none : {L : Type 0} (by : L → ℕ) (xs : List L) → All (λ x. IsOfRun h (by x)) xs → noted by (looper_thread k) xs ≡ []
+  noted_none by xs all = noted-others by (looper_thread k) [] xs (All-weaker (λ x. IsOfRun h (by x)) (λ x. by x ≢ looper_thread k) (λ x of. not_of_it (by x) of) xs all)
+
+  pub account_none : (short : List ℕ) (n : ℕ) → length h.desks.items ≡ length h.ports.items → All (λ (entry : ReplyEntry). IsOfRun h entry.by.0) h.book
+      → ((looper : ℕ) → All (λ (entry : PortEntry). IsOfRun h entry.by.0) (port_list h looper)) → Account h short n k
+  account_none short n each in_book in_ports = record {
+    steps = [];
+    left = [];
+    told = record {
+      at_book = noted_none books.maker_of h.book in_book;
+      at_ports = λ looper. noted_none ports.by_number (port_list h looper) (in_ports looper);
+      book_seen = All-nil (StartsWith h.book);
+    };
+    tally = subst (λ (desk : List EntryData). Tally n desk [] []) (sym (no_desk each))
+        (record { asks = 0; sent = refl; opened = omega arith; took = refl; filled = omega arith; settled = inl refl });
+    accepted =
+        ap (how_many (λ (entry : PortEntry). writes_owing n entry.event)) no_port
+        ∙ ap (λ (desk : List EntryData). sent_on_in n desk + (kept_in n desk + owing_in n [])) (sym (no_desk each));
+    up = λ looper least none_taken. refl;
+    became = λ at other is. let at_none = ap (λ (port : List PortEntry). slice_get (written_in port) at) (sym no_port) ∙ is.accepted in absurd (cc at_none);
+    paid = λ text x there is. absurd (omega (arith, there.1));
+  }
+
+-- ---- steps at one port are steps
+one_of_both : (a b : Bool) → one_if (a && b) ≤ one_if b
+one_of_both true b = omega arith
+one_of_both false true = omega arith
+one_of_both false false = omega arith
+
+at_one_port : (n looper : ℕ) (step : Step) → one_if (sends_to n looper step) ≤ one_if (sends n step)
+at_one_port n looper (at_roster m) = omega arith
+at_one_port n looper (at_book m) = omega arith
+at_one_port n looper (at_port number m) = one_of_both (number == looper) (writes_owing n m.entry.event)
+at_one_port n looper (at_desk number m) = omega arith
+at_one_port n looper (saw_roster seen) = omega arith
+at_one_port n looper (saw_book seen) = omega arith
+at_one_port n looper (saw_port number seen) = omega arith
+at_one_port n looper lacked = omega arith
+
+sends_some : (n looper : ℕ) (steps : List Step) → how_many (sends_to n looper) steps ≤ how_many (sends n) steps
+sends_some n looper steps = how_many_most (sends_to n looper) (sends n) (at_one_port n looper) steps
+
+-- ---- all together
+module _ (h : Histories) (short : List ℕ) (n : ℕ) (accounts : (k : ℕ) → Account h short n k) (main : List Step) (main_told : IsToldBy h main_thread main) (main_tally : Tally n [] [] main)
+    (book_makers : All (λ (entry : ReplyEntry). IsOfRun h entry.by.0) h.book) (port_makers : (looper : ℕ) → All (λ (entry : PortEntry). IsOfRun h entry.by.0) (port_list h looper)) (legal : IsLegal h.book) where
+  abbrev pub all_of : (ℕ → ℕ) → ℕ
+  all_of f = total f (length h.ports.items)
+
+  abbrev pub asked : ℕ → ℕ
+  asked k = (accounts k).tally.asks
+
+  abbrev pub sent_on : ℕ → ℕ
+  sent_on k = sent_on_in n (desk_list h k)
+
+  abbrev pub rested : ℕ → ℕ
+  rested k = kept_in n (desk_list h k) + owing_in n (accounts k).left
+
+  abbrev pub did : (ReplyEvent → Bool) → ℕ → ℕ
+  did does k = how_many (at_slot does) (accounts k).steps
+
+  abbrev pub main_did : (ReplyEvent → Bool) → ℕ
+  main_did does = how_many (at_slot does) main
+
+  abbrev pub in_book : (ReplyEvent → Bool) → ℕ
+  in_book does = how_many (λ (entry : ReplyEntry). does entry.event) h.book
+
+  -- ---- the book
+  pub made_at_book : (does : ReplyEvent → Bool) (thread : ℕ) (steps : List Step) → IsToldBy h thread steps → made_so books.maker_of (λ (entry : ReplyEntry). does entry.event) thread h.book ≡ how_many (at_slot does) steps
+  made_at_book does thread steps told =
+      made_is_noted books.maker_of (λ (entry : ReplyEntry). does entry.event) thread h.book ∙ ap (how_many (λ (m : Noted ReplyEntry). does m.entry.event)) told.at_book ∙ steps_at_book does steps
+
+  pub book_total : (does : ReplyEvent → Bool) → in_book does ≡ main_did does + all_of (did does)
+  book_total does =
+      let test : ReplyEntry → Bool = λ entry. does entry.event in
+      omega (
+        arith, parted books.maker_of test h h.book book_makers, made_at_book does main_thread main main_told,
+        total_same (λ k. made_so books.maker_of test (looper_thread k) h.book) (did does) (length h.ports.items)
+            (λ k lt. made_at_book does (looper_thread k) (accounts k).steps (accounts k).told),
+      )
+
+  -- ---- the ports
+  made_at_port : (looper thread : ℕ) (steps : List Step) → IsToldBy h thread steps
+      → made_so ports.by_number (λ (entry : PortEntry). writes_owing n entry.event) thread (port_list h looper) ≡ how_many (sends_to n looper) steps
+  made_at_port looper thread steps told =
+      made_is_noted ports.by_number (λ (entry : PortEntry). writes_owing n entry.event) thread (port_list h looper)
+      ∙ ap (how_many (λ (m : Noted PortEntry). writes_owing n m.entry.event)) (told.at_ports looper) ∙ steps_at_port n looper steps
+
+  abbrev main_to : ℕ → ℕ
+  main_to looper = how_many (sends_to n looper) main
+
+  abbrev sent_to : ℕ → ℕ → ℕ
+  sent_to looper k = how_many (sends_to n looper) (accounts k).steps
+
+  port_total : (looper : ℕ) → writes_at h n looper ≡ main_to looper + all_of (sent_to looper)
+  port_total looper =
+      let test : PortEntry → Bool = λ entry. writes_owing n entry.event in
+      omega (
+        arith, parted ports.by_number test h (port_list h looper) (port_makers looper), made_at_port looper main_thread main main_told,
+        total_same (λ k. made_so ports.by_number test (looper_thread k) (port_list h looper)) (sent_to looper) (length h.ports.items)
+            (λ k lt. made_at_port looper (looper_thread k) (accounts k).steps (accounts k).told),
+      )
+
+  -- all that a thread sent is at some port
+  all_sent : (thread : ℕ) (steps : List Step) → IsToldBy h thread steps → how_many (sends n) steps ≡ all_of (λ looper. how_many (sends_to n looper) steps)
+  all_sent thread steps told =
+      steps_at_ports n (length h.ports.items) steps (λ looper past. sym (told.at_ports looper) ∙ ap (noted ports.by_number thread) (no_port h looper past))
+
+  abbrev all_steps : ℕ → ℕ
+  all_steps k = how_many (sends n) (accounts k).steps
+
+  ports_total : all_of (writes_at h n) ≡ how_many (sends n) main + all_of all_steps
+  ports_total =
+      let count = length h.ports.items in
+      omega (
+        arith, total_same (writes_at h n) (λ looper. main_to looper + all_of (sent_to looper)) count (λ looper lt. port_total looper),
+        total_sum main_to (λ looper. all_of (sent_to looper)) count, all_sent main_thread main main_told, total_swap sent_to count count,
+        total_same all_steps (λ k. all_of (λ looper. sent_to looper k)) count (λ k lt. all_sent (looper_thread k) (accounts k).steps (accounts k).told),
+      )
+
+  -- ---- as many asks as items that came to rest
+  pub balance : main_tally.asks + all_of asked ≡ all_of rested
+  balance =
+      let count = length h.ports.items in
+      omega (
+        arith, ports_total, main_tally.sent, total_same all_steps (λ k. asked k + sent_on k) count (λ k lt. (accounts k).tally.sent), total_sum asked sent_on count,
+        total_same (writes_at h n) (λ k. sent_on k + rested k) count (λ k lt. (accounts k).accepted), total_sum sent_on rested count,
+      )
+
+  -- ---- at most one
+  pub few : (main_tally.asks + all_of asked) + (main_did (cancels n) + all_of (did (cancels n))) ≤ in_book (opens n)
+  few =
+      let count = length h.ports.items in
+      omega (
+        arith, book_total (opens n), main_tally.opened, total_most (λ k. asked k + did (cancels n) k) (did (opens n)) count (λ k lt. (accounts k).tally.opened),
+        total_sum asked (did (cancels n)) count,
+      )
+
+  -- ---- without an ask there is no item
+  module _ (none_asked : main_tally.asks + all_of asked ≡ 0) where
+    asks_none : (k : ℕ) → k < length h.ports.items → asked k ≡ 0
+    asks_none k lt = omega (arith, total_one asked (length h.ports.items) k lt, none_asked)
+
+    sends_none : (looper : ℕ) → ((k : ℕ) → k < looper → writes_at h n k ≡ 0) → (k : ℕ) → k < length h.ports.items → sent_to looper k ≡ 0
+    sends_none looper below k lt =
+        ⊎_elim
+        (λ (less : k < looper). omega (arith, below k less, (accounts k).accepted, (accounts k).tally.sent, asks_none k lt, sends_some n looper (accounts k).steps))
+        (λ (more : looper ≤ k). (accounts k).up looper more (omega (arith, (accounts k).tally.took, asks_none k lt))) (cases_lt k looper)
+
+    main_sends_none : (looper : ℕ) → main_to looper ≡ 0
+    main_sends_none looper = omega (arith, main_tally.sent, none_asked, sends_some n looper main)
+
+    none_below : (bound looper : ℕ) → looper < bound → writes_at h n looper ≡ 0
+    none_below zero looper lt = absurd (omega (arith, lt))
+    none_below (suc bound) looper lt =
+        omega (
+          arith, port_total looper, main_sends_none looper,
+          total_none (sent_to looper) (length h.ports.items) (sends_none looper (λ k less. none_below bound k (omega (arith, less, lt)))),
+        )
+
+  pub some_asked : (looper : ℕ) → 1 ≤ writes_at h n looper → 1 ≤ main_tally.asks + all_of asked
+  some_asked looper some =
+      ⊎_elim (λ (lt : 0 < main_tally.asks + all_of asked). omega (arith, lt))
+      (λ (none : main_tally.asks + all_of asked ≤ 0). absurd (omega (arith, some, none_below (omega (arith, none)) (suc looper) looper (omega arith)))) (cases_lt 0 (main_tally.asks + all_of asked))
+
+  -- ---- where one was accepted, each number is 1 or 0
+  module _ (looper : ℕ) (some : 1 ≤ writes_at h n looper) where
+    one_opened : in_book (opens n) ≡ 1
+    one_opened = omega (arith, opened_once n h.book legal, few, some_asked looper some)
+
+    pub opened_one : in_book (opens n) ≡ 1
+    opened_one = one_opened
+
+    pub asked_one : main_tally.asks + all_of asked ≡ 1
+    asked_one = omega (arith, one_opened, few, some_asked looper some)
+
+    pub rested_one : all_of rested ≡ 1
+    rested_one = omega (arith, balance, asked_one)
+
+    pub cancelled_none : in_book (cancels n) ≡ 0
+    cancelled_none = omega (arith, book_total (cancels n), one_opened, few, asked_one)
+
+    pub taken_one : in_book (takes n) ≡ 1
+    taken_one =
+        omega (arith, book_total (takes n), main_tally.took, total_same (did (takes n)) asked (length h.ports.items) (λ k lt. (accounts k).tally.took), asked_one)
+
+    filled_most : main_did (fills n) ≡ 0
+    filled_most = omega (arith, main_tally.filled)
+
+    all_filled : all_of (did (fills n)) ≤ 1
+    all_filled = omega (arith, rested_one, total_most (did (fills n)) rested (length h.ports.items) (λ k lt. (accounts k).tally.filled))
+
+    -- a thread that found it settled shows an entry that fills it
+    seen_filled : (steps : List Step) → All (StartsWith h.book) (book_sights steps) → Any (IsSettled n) (book_sights steps) → 1 ≤ in_book (fills n)
+    seen_filled steps seen any =
+        let starts : StartsWith h.book any.1 = subst (StartsWith h.book) any.3 (seen any.0 any.1 any.2) in
+        omega (arith, settled_counts n h.book any.1 starts any.4, cancelled_none)
+
+    some_filled : 1 ≤ in_book (fills n)
+    some_filled =
+        let at = total_some rested (length h.ports.items) (omega (arith, rested_one)) in
+        let k = at.0 in
+        ⊎_elim
+        (λ (all : did (fills n) k ≡ rested k). omega (arith, all, at.2, book_total (fills n), total_one (did (fills n)) (length h.ports.items) k at.1))
+        (λ (any : Any (IsSettled n) (book_sights (accounts k).steps)). seen_filled (accounts k).steps (accounts k).told.book_seen any) (accounts k).tally.settled
+
+    pub filled_one : in_book (fills n) ≡ 1
+    filled_one = omega (arith, some_filled, all_filled, filled_most, book_total (fills n))
+
+    -- one looper filled it
+    pub filler : (k : ℕ) × (k < length h.ports.items) × (1 ≤ did (fills n) k)
+    filler = total_some (did (fills n)) (length h.ports.items) (omega (arith, filled_one, filled_most, book_total (fills n)))
