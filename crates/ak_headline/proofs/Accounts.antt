@@ -30,7 +30,7 @@ use Rattle.ak_headline.proofs.Once.{opened_once, settled_counts}
 use Rattle.ak_headline.proofs.Replies.{IsPaid}
 use Rattle.ak_headline.proofs.Resting.{RestsAt}
 use Rattle.ak_headline.proofs.Shares.{made_is_noted, made_so, parted, steps_at_book, steps_at_port, steps_at_ports}
-use Rattle.ak_headline.proofs.Sums.{total, total_most, total_none, total_one, total_same, total_some, total_sum, total_swap}
+use Rattle.ak_headline.proofs.Sums.{total, total_most, total_none, total_one, total_same, total_some, total_sum, total_swap, total_two}
 
 -- ---- one thread
 -- what it made at the book and at the ports are its steps there; what it saw of the book without an entry is a beginning of the book
@@ -52,6 +52,35 @@ pub record Account (h : Histories) (short : List ℕ) (n k : ℕ) : Type 0 where
   pub up : SendsUp n k (desk_list h k) steps
   pub became : (at : ℕ) (other : ItemData) → IsAccepted h n k at other → RestsAt n (desk_list h k) left at ⊎ WasSentOn h k at other
   pub paid : (text : List ℕ) (x : Noted ReplyEntry) → Contains (book_entries steps) x → x.entry.event ≡ slot.Filled n text → IsPaid h short n k left text
+
+-- ---- what all of them come to
+abbrev pub in_book : Histories → (ReplyEvent → Bool) → ℕ
+in_book h does = how_many (λ (entry : ReplyEntry). does entry.event) h.book
+
+abbrev pub in_book_by : Histories → ℕ → (ReplyEvent → Bool) → ℕ
+in_book_by h thread does = made_so books.maker_of (λ (entry : ReplyEntry). does entry.event) thread h.book
+
+abbrev pub rested_in : (h : Histories) (short : List ℕ) (n : ℕ) → ((k : ℕ) → Account h short n k) → ℕ → ℕ
+rested_in h short n accounts k = kept_in n (desk_list h k) + owing_in n (accounts k).left
+
+-- one thread opened the slot and took from it
+pub record HasAsked (h : Histories) (n : ℕ) : Type 0 where
+  pub thread : ℕ
+  pub opens_it : 1 ≤ in_book_by h thread (opens n)
+  pub takes_it : 1 ≤ in_book_by h thread (takes n)
+
+-- the slot was opened, filled and taken once, and not cancelled; and one item alone came to rest, at the looper that filled it
+pub record IsEachOnce (h : Histories) (short : List ℕ) (n : ℕ) (accounts : (k : ℕ) → Account h short n k) : Type 0 where
+  pub opened : in_book h (opens n) ≡ 1
+  pub filled : in_book h (fills n) ≡ 1
+  pub taken : in_book h (takes n) ≡ 1
+  pub cancelled : in_book h (cancels n) ≡ 0
+  pub asked : HasAsked h n
+  pub looper : ℕ
+  pub within : looper < length h.ports.items
+  pub fills_it : 1 ≤ in_book_by h (looper_thread looper) (fills n)
+  pub alone : (j : ℕ) → j < length h.ports.items → 1 ≤ rested_in h short n accounts j → j ≡ looper
+  pub few : rested_in h short n accounts looper ≤ 1
 
 -- ---- where there is no looper
 module _ (h : Histories) (k : ℕ) (none : length h.ports.items ≤ k) where
@@ -112,33 +141,30 @@ sends_some n looper steps = how_many_most (sends_to n looper) (sends n) (at_one_
 -- ---- all together
 module _ (h : Histories) (short : List ℕ) (n : ℕ) (accounts : (k : ℕ) → Account h short n k) (main : List Step) (main_told : IsToldBy h main_thread main) (main_tally : Tally n [] [] main)
     (book_makers : All (λ (entry : ReplyEntry). IsOfRun h entry.by.0) h.book) (port_makers : (looper : ℕ) → All (λ (entry : PortEntry). IsOfRun h entry.by.0) (port_list h looper)) (legal : IsLegal h.book) where
-  abbrev pub all_of : (ℕ → ℕ) → ℕ
+  abbrev all_of : (ℕ → ℕ) → ℕ
   all_of f = total f (length h.ports.items)
 
-  abbrev pub asked : ℕ → ℕ
+  abbrev asked : ℕ → ℕ
   asked k = (accounts k).tally.asks
 
-  abbrev pub sent_on : ℕ → ℕ
+  abbrev sent_on : ℕ → ℕ
   sent_on k = sent_on_in n (desk_list h k)
 
-  abbrev pub rested : ℕ → ℕ
-  rested k = kept_in n (desk_list h k) + owing_in n (accounts k).left
+  abbrev rested : ℕ → ℕ
+  rested k = rested_in h short n accounts k
 
-  abbrev pub did : (ReplyEvent → Bool) → ℕ → ℕ
+  abbrev did : (ReplyEvent → Bool) → ℕ → ℕ
   did does k = how_many (at_slot does) (accounts k).steps
 
-  abbrev pub main_did : (ReplyEvent → Bool) → ℕ
+  abbrev main_did : (ReplyEvent → Bool) → ℕ
   main_did does = how_many (at_slot does) main
 
-  abbrev pub in_book : (ReplyEvent → Bool) → ℕ
-  in_book does = how_many (λ (entry : ReplyEntry). does entry.event) h.book
-
   -- ---- the book
-  pub made_at_book : (does : ReplyEvent → Bool) (thread : ℕ) (steps : List Step) → IsToldBy h thread steps → made_so books.maker_of (λ (entry : ReplyEntry). does entry.event) thread h.book ≡ how_many (at_slot does) steps
+  made_at_book : (does : ReplyEvent → Bool) (thread : ℕ) (steps : List Step) → IsToldBy h thread steps → in_book_by h thread does ≡ how_many (at_slot does) steps
   made_at_book does thread steps told =
       made_is_noted books.maker_of (λ (entry : ReplyEntry). does entry.event) thread h.book ∙ ap (how_many (λ (m : Noted ReplyEntry). does m.entry.event)) told.at_book ∙ steps_at_book does steps
 
-  pub book_total : (does : ReplyEvent → Bool) → in_book does ≡ main_did does + all_of (did does)
+  book_total : (does : ReplyEvent → Bool) → in_book h does ≡ main_did does + all_of (did does)
   book_total does =
       let test : ReplyEntry → Bool = λ entry. does entry.event in
       omega (
@@ -187,7 +213,7 @@ module _ (h : Histories) (short : List ℕ) (n : ℕ) (accounts : (k : ℕ) → 
       )
 
   -- ---- as many asks as items that came to rest
-  pub balance : main_tally.asks + all_of asked ≡ all_of rested
+  balance : main_tally.asks + all_of asked ≡ all_of rested
   balance =
       let count = length h.ports.items in
       omega (
@@ -196,7 +222,7 @@ module _ (h : Histories) (short : List ℕ) (n : ℕ) (accounts : (k : ℕ) → 
       )
 
   -- ---- at most one
-  pub few : (main_tally.asks + all_of asked) + (main_did (cancels n) + all_of (did (cancels n))) ≤ in_book (opens n)
+  few : (main_tally.asks + all_of asked) + (main_did (cancels n) + all_of (did (cancels n))) ≤ in_book h (opens n)
   few =
       let count = length h.ports.items in
       omega (
@@ -226,45 +252,58 @@ module _ (h : Histories) (short : List ℕ) (n : ℕ) (accounts : (k : ℕ) → 
           total_none (sent_to looper) (length h.ports.items) (sends_none looper (λ k less. none_below bound k (omega (arith, less, lt)))),
         )
 
-  pub some_asked : (looper : ℕ) → 1 ≤ writes_at h n looper → 1 ≤ main_tally.asks + all_of asked
+  some_asked : (looper : ℕ) → 1 ≤ writes_at h n looper → 1 ≤ main_tally.asks + all_of asked
   some_asked looper some =
       ⊎_elim (λ (lt : 0 < main_tally.asks + all_of asked). omega (arith, lt))
       (λ (none : main_tally.asks + all_of asked ≤ 0). absurd (omega (arith, some, none_below (omega (arith, none)) (suc looper) looper (omega arith)))) (cases_lt 0 (main_tally.asks + all_of asked))
 
   -- ---- where one was accepted, each number is 1 or 0
   module _ (looper : ℕ) (some : 1 ≤ writes_at h n looper) where
-    one_opened : in_book (opens n) ≡ 1
-    one_opened = omega (arith, opened_once n h.book legal, few, some_asked looper some)
+    opened_one : in_book h (opens n) ≡ 1
+    opened_one = omega (arith, opened_once n h.book legal, few, some_asked looper some)
 
-    pub opened_one : in_book (opens n) ≡ 1
-    opened_one = one_opened
+    asked_one : main_tally.asks + all_of asked ≡ 1
+    asked_one = omega (arith, opened_one, few, some_asked looper some)
 
-    pub asked_one : main_tally.asks + all_of asked ≡ 1
-    asked_one = omega (arith, one_opened, few, some_asked looper some)
-
-    pub rested_one : all_of rested ≡ 1
+    rested_one : all_of rested ≡ 1
     rested_one = omega (arith, balance, asked_one)
 
-    pub cancelled_none : in_book (cancels n) ≡ 0
-    cancelled_none = omega (arith, book_total (cancels n), one_opened, few, asked_one)
+    cancelled_none : in_book h (cancels n) ≡ 0
+    cancelled_none = omega (arith, book_total (cancels n), opened_one, few, asked_one)
 
-    pub taken_one : in_book (takes n) ≡ 1
+    taken_one : in_book h (takes n) ≡ 1
     taken_one =
         omega (arith, book_total (takes n), main_tally.took, total_same (did (takes n)) asked (length h.ports.items) (λ k lt. (accounts k).tally.took), asked_one)
 
-    filled_most : main_did (fills n) ≡ 0
-    filled_most = omega (arith, main_tally.filled)
+    -- who asked opened the slot, and took from it
+    by_asker : (thread : ℕ) (steps : List Step) → IsToldBy h thread steps → (asks : ℕ) → 1 ≤ asks → asks + how_many (at_slot (cancels n)) steps ≤ how_many (at_slot (opens n)) steps
+        → how_many (at_slot (takes n)) steps ≡ asks → HasAsked h n
+    by_asker thread steps told asks one opened took = record {
+      thread = thread;
+      opens_it = omega (arith, made_at_book (opens n) thread steps told, opened, one);
+      takes_it = omega (arith, made_at_book (takes n) thread steps told, took, one);
+    }
 
+    asker : HasAsked h n
+    asker =
+        ⊎_elim (λ (by_main : 0 < main_tally.asks). by_asker main_thread main main_told main_tally.asks (omega (arith, by_main)) main_tally.opened main_tally.took)
+        (λ (none : main_tally.asks ≤ 0).
+        let at = total_some asked (length h.ports.items) (omega (arith, asked_one, none)) in
+        let account = accounts at.0 in
+        by_asker (looper_thread at.0) account.steps account.told account.tally.asks at.2 account.tally.opened account.tally.took)
+        (cases_lt 0 main_tally.asks)
+
+    -- ---- it was filled once
     all_filled : all_of (did (fills n)) ≤ 1
     all_filled = omega (arith, rested_one, total_most (did (fills n)) rested (length h.ports.items) (λ k lt. (accounts k).tally.filled))
 
     -- a thread that found it settled shows an entry that fills it
-    seen_filled : (steps : List Step) → All (StartsWith h.book) (book_sights steps) → Any (IsSettled n) (book_sights steps) → 1 ≤ in_book (fills n)
+    seen_filled : (steps : List Step) → All (StartsWith h.book) (book_sights steps) → Any (IsSettled n) (book_sights steps) → 1 ≤ in_book h (fills n)
     seen_filled steps seen any =
         let starts : StartsWith h.book any.1 = subst (StartsWith h.book) any.3 (seen any.0 any.1 any.2) in
         omega (arith, settled_counts n h.book any.1 starts any.4, cancelled_none)
 
-    some_filled : 1 ≤ in_book (fills n)
+    some_filled : 1 ≤ in_book h (fills n)
     some_filled =
         let at = total_some rested (length h.ports.items) (omega (arith, rested_one)) in
         let k = at.0 in
@@ -272,9 +311,31 @@ module _ (h : Histories) (short : List ℕ) (n : ℕ) (accounts : (k : ℕ) → 
         (λ (all : did (fills n) k ≡ rested k). omega (arith, all, at.2, book_total (fills n), total_one (did (fills n)) (length h.ports.items) k at.1))
         (λ (any : Any (IsSettled n) (book_sights (accounts k).steps)). seen_filled (accounts k).steps (accounts k).told.book_seen any) (accounts k).tally.settled
 
-    pub filled_one : in_book (fills n) ≡ 1
-    filled_one = omega (arith, some_filled, all_filled, filled_most, book_total (fills n))
+    filled_one : in_book h (fills n) ≡ 1
+    filled_one = omega (arith, some_filled, all_filled, main_tally.filled, book_total (fills n))
 
-    -- one looper filled it
-    pub filler : (k : ℕ) × (k < length h.ports.items) × (1 ≤ did (fills n) k)
-    filler = total_some (did (fills n)) (length h.ports.items) (omega (arith, filled_one, filled_most, book_total (fills n)))
+    filler : (k : ℕ) × (k < length h.ports.items) × (1 ≤ did (fills n) k)
+    filler = total_some (did (fills n)) (length h.ports.items) (omega (arith, filled_one, main_tally.filled, book_total (fills n)))
+
+    filler_rests : 1 ≤ rested filler.0
+    filler_rests = omega (arith, filler.2, (accounts filler.0).tally.filled)
+
+    alone : (j : ℕ) → j < length h.ports.items → 1 ≤ rested j → j ≡ filler.0
+    alone j lt rests =
+        ⊎_elim (λ (same : j ≡ filler.0). same)
+        (λ (both : rested j + rested filler.0 ≤ all_of rested). absurd (omega (arith, both, rests, filler_rests, rested_one)))
+        (total_two rested (length h.ports.items) j filler.0 lt filler.1)
+
+    pub each_once : IsEachOnce h short n accounts
+    each_once = record {
+      opened = opened_one;
+      filled = filled_one;
+      taken = taken_one;
+      cancelled = cancelled_none;
+      asked = asker;
+      looper = filler.0;
+      within = filler.1;
+      fills_it = omega (arith, filler.2, made_at_book (fills n) (looper_thread filler.0) (accounts filler.0).steps (accounts filler.0).told);
+      alone = alone;
+      few = omega (arith, rested_one, total_one rested (length h.ports.items) filler.0 filler.1);
+    }
