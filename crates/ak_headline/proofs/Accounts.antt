@@ -168,7 +168,9 @@ module _ (h : Histories) (short : List ℕ) (n : ℕ) (accounts : (k : ℕ) → 
   book_total does =
       let test : ReplyEntry → Bool = λ entry. does entry.event in
       omega (
-        arith, parted books.maker_of test h h.book book_makers, made_at_book does main_thread main main_told,
+        arith,
+        parted books.maker_of test h h.book book_makers,
+        made_at_book does main_thread main main_told,
         total_same (λ k. made_so books.maker_of test (looper_thread k) h.book) (did does) (length h.ports.items)
             (λ k lt. made_at_book does (looper_thread k) (accounts k).steps (accounts k).told),
       )
@@ -190,7 +192,9 @@ module _ (h : Histories) (short : List ℕ) (n : ℕ) (accounts : (k : ℕ) → 
   port_total looper =
       let test : PortEntry → Bool = λ entry. writes_owing n entry.event in
       omega (
-        arith, parted ports.by_number test h (port_list h looper) (port_makers looper), made_at_port looper main_thread main main_told,
+        arith,
+        parted ports.by_number test h (port_list h looper) (port_makers looper),
+        made_at_port looper main_thread main main_told,
         total_same (λ k. made_so ports.by_number test (looper_thread k) (port_list h looper)) (sent_to looper) (length h.ports.items)
             (λ k lt. made_at_port looper (looper_thread k) (accounts k).steps (accounts k).told),
       )
@@ -207,8 +211,11 @@ module _ (h : Histories) (short : List ℕ) (n : ℕ) (accounts : (k : ℕ) → 
   ports_total =
       let count = length h.ports.items in
       omega (
-        arith, total_same (writes_at h n) (λ looper. main_to looper + all_of (sent_to looper)) count (λ looper lt. port_total looper),
-        total_sum main_to (λ looper. all_of (sent_to looper)) count, all_sent main_thread main main_told, total_swap sent_to count count,
+        arith,
+        total_same (writes_at h n) (λ looper. main_to looper + all_of (sent_to looper)) count (λ looper lt. port_total looper),
+        total_sum main_to (λ looper. all_of (sent_to looper)) count,
+        all_sent main_thread main main_told,
+        total_swap sent_to count count,
         total_same all_steps (λ k. all_of (λ looper. sent_to looper k)) count (λ k lt. all_sent (looper_thread k) (accounts k).steps (accounts k).told),
       )
 
@@ -217,8 +224,13 @@ module _ (h : Histories) (short : List ℕ) (n : ℕ) (accounts : (k : ℕ) → 
   balance =
       let count = length h.ports.items in
       omega (
-        arith, ports_total, main_tally.sent, total_same all_steps (λ k. asked k + sent_on k) count (λ k lt. (accounts k).tally.sent), total_sum asked sent_on count,
-        total_same (writes_at h n) (λ k. sent_on k + rested k) count (λ k lt. (accounts k).accepted), total_sum sent_on rested count,
+        arith,
+        ports_total,
+        main_tally.sent,
+        total_same all_steps (λ k. asked k + sent_on k) count (λ k lt. (accounts k).tally.sent),
+        total_sum asked sent_on count,
+        total_same (writes_at h n) (λ k. sent_on k + rested k) count (λ k lt. (accounts k).accepted),
+        total_sum sent_on rested count,
       )
 
   -- ---- at most one
@@ -226,7 +238,10 @@ module _ (h : Histories) (short : List ℕ) (n : ℕ) (accounts : (k : ℕ) → 
   few =
       let count = length h.ports.items in
       omega (
-        arith, book_total (opens n), main_tally.opened, total_most (λ k. asked k + did (cancels n) k) (did (opens n)) count (λ k lt. (accounts k).tally.opened),
+        arith,
+        book_total (opens n),
+        main_tally.opened,
+        total_most (λ k. asked k + did (cancels n) k) (did (opens n)) count (λ k lt. (accounts k).tally.opened),
         total_sum asked (did (cancels n)) count,
       )
 
@@ -248,7 +263,9 @@ module _ (h : Histories) (short : List ℕ) (n : ℕ) (accounts : (k : ℕ) → 
     none_below zero looper lt = absurd (omega (arith, lt))
     none_below (suc bound) looper lt =
         omega (
-          arith, port_total looper, main_sends_none looper,
+          arith,
+          port_total looper,
+          main_sends_none looper,
           total_none (sent_to looper) (length h.ports.items) (sends_none looper (λ k less. none_below bound k (omega (arith, less, lt)))),
         )
 

@@ -2,6 +2,7 @@ pub mod Accounts
 pub mod Counts
 pub mod Loopers
 pub mod Once
+pub mod OneReply
 pub mod Replies
 pub mod Resting
 pub mod Shares

@@ -51,14 +51,19 @@ module _ (heads : List AppHead) (short : List ℕ) (h : Histories) (k : ℕ) (ha
 
   one_accounted : AcceptedIsDispatchedThenLeft → IsAccounted k port desk
   one_accounted law = (
-    has.facts, has.steps, has.diary.legal, has.number_is,
+    has.facts,
+    has.steps,
+    has.diary.legal,
+    has.number_is,
     subst (λ (entries : List EntryData). IsAccountedFor has.facts has.steps has.diary.legal port.entries entries) desks_are
         (subst (λ (entries : List PortEntry). IsAccountedFor has.facts has.steps has.diary.legal entries (desk_list h k)) ports_are (law has.facts has.steps (port_list h k) (desk_list h k) has.diary)),
   )
 
   one_by_rule : EachIsDispatchedByRule → IsByRule k port desk
   one_by_rule law = (
-    has.facts, has.number_is, opened_is,
+    has.facts,
+    has.number_is,
+    opened_is,
     λ before entry behind position r words quit there is.
         subst (λ (entries : List PortEntry). IsDispatchedSo has.facts entries before entry position r words quit) ports_are
         (law has.facts has.steps (port_list h k) (desk_list h k) has.diary before entry behind position r words quit (desks_are ∙ there) is),

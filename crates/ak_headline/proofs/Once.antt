@@ -80,6 +80,9 @@ module _ (n : ℕ) where
       let test : ReplyEntry → Bool = λ entry. settles n entry.event in
       let whole : how_many test book ≡ how_many test (seen ++ starts.0) = ap (how_many test) starts.1 in
       omega (
-        arith, any_counts test seen settled, whole, how_many-append test seen starts.0,
+        arith,
+        any_counts test seen settled,
+        whole,
+        how_many-append test seen starts.0,
         how_many_parts test (λ (entry : ReplyEntry). fills n entry.event) (λ (entry : ReplyEntry). cancels n entry.event) (λ entry. fills_or_cancels entry.event) book,
       )

@@ -45,12 +45,15 @@ module _ {L : Type 0} (by : L → ℕ) (test : L → Bool) where
         ⊎_elim
         (λ (main : by x ≡ main_thread).
         omega (
-          arith, its_own main_thread x main,
+          arith,
+          its_own main_thread x main,
           total_none (λ k. cond (by x == looper_thread k) (one_if (test x)) 0) (length h.ports.items) (λ k lt. not_its (looper_thread k) x (λ e. absurd (omega (arith, e, main)))),
         ))
         (λ (one : (looper : ℕ) × (looper < length h.ports.items) × (by x ≡ looper_thread looper)).
         omega (
-          arith, not_its main_thread x (λ e. absurd (omega (arith, e, one.2))), its_own (looper_thread one.0) x one.2,
+          arith,
+          not_its main_thread x (λ e. absurd (omega (arith, e, one.2))),
+          its_own (looper_thread one.0) x one.2,
           total_only (λ k. cond (by x == looper_thread k) (one_if (test x)) 0) (length h.ports.items) one.0 one.1
               (λ k lt other. not_its (looper_thread k) x (λ e. other (omega (arith, e, one.2)))),
         ))
@@ -60,7 +63,11 @@ module _ {L : Type 0} (by : L → ℕ) (test : L → Bool) where
     parted [] all = omega (arith, total_none (λ k. 0) (length h.ports.items) (λ k lt. refl))
     parted (x ∷ xs) all =
         omega (
-          arith, how_many-cons test x xs, made_more main_thread x xs, one_maker x (All-head (λ e. IsOfRun h (by e)) x xs all), parted xs (All-tail (λ e. IsOfRun h (by e)) x xs all),
+          arith,
+          how_many-cons test x xs,
+          made_more main_thread x xs,
+          one_maker x (All-head (λ e. IsOfRun h (by e)) x xs all),
+          parted xs (All-tail (λ e. IsOfRun h (by e)) x xs all),
           total_same (λ k. made_so (looper_thread k) (x ∷ xs)) (λ k. cond (by x == looper_thread k) (one_if (test x)) 0 + made_so (looper_thread k) xs) (length h.ports.items)
               (λ k lt. made_more (looper_thread k) x xs),
           total_sum (λ k. cond (by x == looper_thread k) (one_if (test x)) 0) (λ k. made_so (looper_thread k) xs) (length h.ports.items),
@@ -135,7 +142,9 @@ module _ (n : ℕ) where
   steps_at_ports count (at_book m ∷ steps) none = steps_at_ports count steps none
   steps_at_ports count (at_port number m ∷ steps) none =
       omega (
-        arith, how_many-cons (sends n) (at_port number m) steps, one_port count number (writes_it m) (is_within count number m steps none),
+        arith,
+        how_many-cons (sends n) (at_port number m) steps,
+        one_port count number (writes_it m) (is_within count number m steps none),
         steps_at_ports count steps (none_behind count number m steps none),
         total_same (λ looper. how_many (sends_to n looper) (at_port number m ∷ steps)) (λ looper. one_if ((number == looper) && writes_it m) + how_many (sends_to n looper) steps) count
             (λ looper lt. how_many-cons (sends_to n looper) (at_port number m) steps),

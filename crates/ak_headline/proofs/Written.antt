@@ -24,10 +24,10 @@ module _ {X : Type 0} where
   get_parts (y ∷ xs) ys zero x at = inl at
   get_parts (y ∷ xs) ys (suc i) x at = more y xs ys i x (get_parts xs ys i x at)
     where
-    more : (y : X) (xs ys : List X) (i : ℕ) (x : X) → slice_get xs i ≡ Some x ⊎ ((j : ℕ) × (i ≡ length xs + j) × (slice_get ys j ≡ Some x))
-        → slice_get xs i ≡ Some x ⊎ ((j : ℕ) × (suc i ≡ length (y ∷ xs) + j) × (slice_get ys j ≡ Some x))
-    more y xs ys i x (inl there) = inl there
-    more y xs ys i x (inr behind) = inr (behind.0, omega (arith, behind.1), behind.2)
+      more : (y : X) (xs ys : List X) (i : ℕ) (x : X) → slice_get xs i ≡ Some x ⊎ ((j : ℕ) × (i ≡ length xs + j) × (slice_get ys j ≡ Some x))
+          → slice_get xs i ≡ Some x ⊎ ((j : ℕ) × (suc i ≡ length (y ∷ xs) + j) × (slice_get ys j ≡ Some x))
+      more y xs ys i x (inl there) = inl there
+      more y xs ys i x (inr behind) = inr (behind.0, omega (arith, behind.1), behind.2)
 
   pub get_second : (xs ys : List X) (j : ℕ) → slice_get (xs ++ ys) (length xs + j) ≡ slice_get ys j
   get_second [] ys j = ap (λ (k : ℕ). slice_get ys k) (omega arith)
@@ -75,7 +75,11 @@ module _ (n : ℕ) where
   accepted_owing port desk left is =
       let all : owing_in n (written_in port) ≡ owing_in n (dispatched_items desk ++ left) = ap (owing_in n) is in
       omega (
-        arith, written_owing port, all, how_many-append owes_it (dispatched_items desk) left, dispatched_owing desk,
+        arith,
+        written_owing port,
+        all,
+        how_many-append owes_it (dispatched_items desk) left,
+        dispatched_owing desk,
         how_many_parts (owes_entry n) (λ (entry : EntryData). owes_entry n entry && was_sent_on entry) (λ (entry : EntryData). owes_entry n entry && not (was_sent_on entry))
             (λ entry. two_ways (owes_entry n entry) (was_sent_on entry)) desk,
       )
@@ -93,13 +97,13 @@ counts_on taker by s (event.Written position item) allowed = record {
   here = one_here (length s.written) position item allowed.3;
 }
   where
-  one_here : (n position : ℕ) (item : ItemData) → position ≡ n → (i : ℕ) (t : Taken) → slice_get (written_item (event.Written position item)) i ≡ Some t → t.position ≡ n + i
-  one_here n position item is zero t at =
-      let it : Taken = record { position = position; item = item } in
-      let same : it ≡ t = cc at in
-      let there : position ≡ t.position = ap (λ (k : Taken). k.position) same in
-      omega (arith, there, is)
-  one_here n position item is (suc i) t at = absurd (cc at)
+    one_here : (n position : ℕ) (item : ItemData) → position ≡ n → (i : ℕ) (t : Taken) → slice_get (written_item (event.Written position item)) i ≡ Some t → t.position ≡ n + i
+    one_here n position item is zero t at =
+        let it : Taken = record { position = position; item = item } in
+        let same : it ≡ t = cc at in
+        let there : position ≡ t.position = ap (λ (k : Taken). k.position) same in
+        omega (arith, there, is)
+    one_here n position item is (suc i) t at = absurd (cc at)
 counts_on taker by s event.Full allowed = record { after = omega arith; here = λ i t at. absurd (cc at) }
 counts_on taker by s event.Refused allowed = record { after = omega arith; here = λ i t at. absurd (cc at) }
 counts_on taker by s event.Spent allowed = record { after = omega arith; here = λ i t at. absurd (cc at) }

@@ -17,10 +17,19 @@ pub fn runs_go_by_rule()
     ak_diary::each_is_dispatched_by_rule();
 }
 
+/// By what the diaries tell of each slot, each accepted waiting send got one reply.
+fn tallies_tell_replies()
+    ensures { headline.TalliesTellReplies }
+{
+    ak_diary::accepted_is_dispatched_then_left();
+    ak_diary::each_is_dispatched_by_rule();
+    ak_desk::the_list_tells_the_handlers();
+    ak_desk::an_entry_tells_its_reply();
+}
+
 /// Each accepted waiting send got one reply, the one that the rules make for it.
 pub fn each_waiting_send_got_one_reply()
     ensures { headline.RunsAnswer }
 {
-    ak_diary::accepted_is_dispatched_then_left();
-    ak_diary::each_is_dispatched_by_rule();
+    tallies_tell_replies();
 }
