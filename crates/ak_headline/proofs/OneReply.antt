@@ -1,5 +1,5 @@
 -- Each accepted waiting send got one reply.
-use Rattle.std.proofs.Common.{◌≡◌, ◌⊎◌, ℕ, suc, ◌+◌, ◌<◌, ◌≤◌, ◌==◌, Bool, true, false, cond, List, [], ◌∷◌, ◌++◌, length, map, filter, All, Contains, Some, slice_get, refl, sym, ap, ◌∙◌, subst, inl, inr, ⊎_elim, arith, eq-eqb, eqb-true}
+use Rattle.std.proofs.Common.{◌≡◌, ◌⊎◌, ℕ, ◌<◌, ◌≤◌, ◌==◌, Bool, true, cond, List, [], ◌∷◌, length, map, filter, Contains, slice_get, refl, sym, ap, ◌∙◌, subst, inl, inr, ⊎_elim, arith, eq-eqb, eqb-true}
 use Rattle.std.proofs.lemmas.Bool.{cases_lt}
 use Rattle.ak_base.specs.Thread.{looper_thread, main_thread}
 use Rattle.ak_flatten.specs.declared.item.Taken.{Taken}
@@ -15,7 +15,6 @@ use Rattle.ak_port.specs.declared.reply_entry.ReplyEvent.TheVariants as slot
 use Rattle.ak_port.specs.PortMachine.{written_in}
 use Rattle.ak_port.specs.Reply.{fills, takes}
 use Rattle.ak_port.specs.ReplySeats as books
-use Rattle.ak_desk.specs.Entry.{EntryData}
 use Rattle.ak_desk.specs.Laws.{ForwardTellsReply, StateIsOne}
 use Rattle.ak_diary.specs.declared.histories.Histories.{Histories}
 use Rattle.ak_diary.specs.Laws.{AcceptedIsDispatchedThenLeft, EachIsDispatchedByRule, left_in}
@@ -23,7 +22,7 @@ use Rattle.ak_diary.specs.Step.{Step, book_entries}
 use Rattle.ak_headline.specs.Answers.{GotOneReply, IsAccepted, WasSentOn, cancels, doing, opens, owes}
 use Rattle.ak_headline.specs.Headline.{RunsAnswer}
 use Rattle.ak_headline.specs.Run.{HasDone, HasLooper, IsRun, desk_list, port_list}
-use Rattle.ak_headline.specs.Tally.{LoopersPay, LoopersSendUp, LoopersTally, MainTallies, SendsUp, how_many, owing_in, writes_owing}
+use Rattle.ak_headline.specs.Tally.{LoopersPay, LoopersSendUp, LoopersTally, MainTallies, SendsUp, how_many, writes_owing}
 use Rattle.ak_headline.proofs.Accounts.{Account, IsEachOnce, IsToldBy, account_none, each_once, no_port}
 use Rattle.ak_headline.proofs.Counts.{filter_both, first_meets, found_of, none_of, one_among, one_of, there_counts}
 use Rattle.ak_headline.proofs.Replies.{IsPaid, became, paid}

@@ -1,5 +1,5 @@
 -- What one looper did with an item that owes a slot: it sent it on, or filled the slot with the reply that the rules make.
-use Rattle.std.proofs.Common.{◌≡◌, ◌⊎◌, ℕ, ◌+◌, ◌<◌, ◌≤◌, ◌==◌, ◌&&◌, not, Bool, true, false, List, [], ◌∷◌, ◌++◌, length, Contains, Option, Some, None, option_map, slice_get, refl, sym, ap, ◌∙◌, subst, inl, inr, ⊎_elim, arith, eq-eqb, eqb-true}
+use Rattle.std.proofs.Common.{◌≡◌, ◌⊎◌, ℕ, ◌+◌, ◌==◌, ◌&&◌, not, Bool, true, false, List, [], ◌∷◌, ◌++◌, length, Contains, Option, Some, None, slice_get, refl, sym, ap, ◌∙◌, subst, inl, inr, ⊎_elim, arith, eq-eqb, eqb-true}
 use Rattle.std.specs.List.{list_any}
 use Rattle.std.proofs.lemmas.List.Folds.{Any-from_list_any}
 use Rattle.std.proofs.lemmas.Option.{slice_get-get_or}
@@ -16,27 +16,25 @@ use Rattle.ak_port.specs.declared.reply_entry.ReplyEntry.{ReplyEntry}
 use Rattle.ak_port.specs.declared.reply_entry.ReplyEvent.TheVariants as slot
 use Rattle.ak_port.specs.PortMachine.{unmade, written_in}
 use Rattle.ak_port.specs.Reply.{none_text}
-use Rattle.ak_base.specs.declared.error.KitError.{KitError}
 use Rattle.ak_base.specs.declared.error.KitError.TheVariants as error
 use Rattle.ak_action.specs.declared.answer.AnswerWord.{AnswerWord}
 use Rattle.ak_action.specs.declared.answer.AnswerWord.TheVariants as word
 use Rattle.ak_action.specs.declared.state.DeskState.{DeskState}
-use Rattle.ak_desk.specs.declared.entry.DeskEvent.{DeskEvent}
 use Rattle.ak_desk.specs.declared.entry.DeskEvent.TheVariants as desk_event
 use Rattle.ak_desk.specs.declared.entry.EntryRoute.{EntryRoute}
 use Rattle.ak_desk.specs.declared.entry.EntryRoute.TheVariants as went
 use Rattle.ak_desk.specs.Dispatch.{fitting}
 use Rattle.ak_desk.specs.Entry.{EntryData}
 use Rattle.ak_desk.specs.Laws.{ForwardTellsReply, StateIsOne, reply_of_error}
-use Rattle.ak_desk.specs.Machine.{Replies, StepReplies, dispatches}
+use Rattle.ak_desk.specs.Machine.{Replies, StepReplies}
 use Rattle.ak_diary.specs.declared.histories.Histories.{Histories}
 use Rattle.ak_diary.specs.Laws.{AcceptedIsDispatchedThenLeft, EachIsDispatchedByRule, IsAccountedFor, IsDispatchedSo, WasGivenUp, WentByRule, dispatched_items, left_in}
 use Rattle.ak_diary.specs.Looper.{LooperFacts, thread_of}
-use Rattle.ak_diary.specs.Step.{Step, book_entries, ran_short}
+use Rattle.ak_diary.specs.Step.{book_entries, ran_short}
 use Rattle.ak_headline.specs.Answers.{IsAccepted, IsAnswerTo, IsDispatchOf, WasSentOn, owes, to_dispatched, to_left, without_memory}
 use Rattle.ak_headline.specs.Run.{HasLooper, desk_list, port_list}
 use Rattle.ak_headline.specs.Tally.{LoopersPay, PaidForDispatch, PaidForLeft, owes_entry, owes_event, sent_on_event, was_sent_on}
-use Rattle.ak_headline.proofs.Resting.{KeepsAt, LeavesAt, RestsAt}
+use Rattle.ak_headline.proofs.Resting.{RestsAt}
 use Rattle.ak_headline.proofs.Written.{DispatchedAt, dispatched_at, get_parts, get_second, position_is}
 
 -- a slot was filled with that text, which is the reply to an item that came to rest there
