@@ -101,12 +101,12 @@ module _ (h : Histories) (k : ℕ) (none : length h.ports.items ≤ k) where
 
   pub account_none : (short : List ℕ) (n : ℕ) → length h.desks.items ≡ length h.ports.items → All (λ (entry : ReplyEntry). IsOfRun h entry.by.0) h.book
       → ((looper : ℕ) → All (λ (entry : PortEntry). IsOfRun h entry.by.0) (port_list h looper)) → Account h short n k
-  account_none short n each in_book in_ports = record {
+  account_none short n each book_makers port_makers = record {
     steps = [];
     left = [];
     told = record {
-      at_book = noted_none books.maker_of h.book in_book;
-      at_ports = λ looper. noted_none ports.by_number (port_list h looper) (in_ports looper);
+      at_book = noted_none books.maker_of h.book book_makers;
+      at_ports = λ looper. noted_none ports.by_number (port_list h looper) (port_makers looper);
       book_seen = All-nil (StartsWith h.book);
     };
     tally = subst (λ (desk : List EntryData). Tally n desk [] []) (sym (no_desk each))
