@@ -1,5 +1,5 @@
 -- How often steps speak of a slot: it adds up, part by part.
-use Rattle.std.proofs.Common.{◌≡◌, ◌⊎◌, ℕ, ◌+◌, ◌≤◌, ◌==◌, Bool, true, false, cond, List, [], ◌∷◌, ◌++◌, length, Option, None, Some, refl, sym, ap, ◌∙◌, subst, inl, inr, arith, length-append, ⊎_elim}
+use Rattle.std.proofs.Common.{◌≡◌, ◌⊎◌, ℕ, ◌+◌, ◌≤◌, ◌==◌, Bool, true, false, cond, List, [], ◌∷◌, ◌++◌, length, Option, None, Some, refl, sym, ap, ◌∙◌, subst, inl, inr, arith, length-append, ne_eqb, ⊎_elim}
 use Rattle.std.specs.Prelude.{◌&&◌, Any, filter}
 use Rattle.std.proofs.lemmas.Grind.{flat_map-append}
 use Rattle.std.proofs.lemmas.List.Elements.{Contains-append_left, Contains-append_right, filter-append}
@@ -165,8 +165,31 @@ module _ (Below : ℕ → Type 0) (n : ℕ) where
   pub add_idle : (xs ys steps : List Step) → Adds Below n 0 0 xs → Adds Below n 0 0 ys → steps ≡ xs ++ ys → Adds Below n 0 0 steps
   add_idle xs ys steps a b is = add_as 0 0 steps (xs ++ ys) is (add_both 0 0 0 0 xs ys a b)
 
+  -- one of two parts adds nothing
+  pub add_before : (sent due : ℕ) (xs ys steps : List Step) → Adds Below n 0 0 xs → Adds Below n sent due ys → steps ≡ xs ++ ys → Adds Below n sent due steps
+  add_before sent due xs ys steps a b is = add_as sent due steps (xs ++ ys) is (add_so (0 + sent) (0 + due) sent due (xs ++ ys) (omega arith) (omega arith) (add_both 0 0 sent due xs ys a b))
+
+  pub add_behind : (sent due : ℕ) (xs ys steps : List Step) → Adds Below n sent due xs → Adds Below n 0 0 ys → steps ≡ xs ++ ys → Adds Below n sent due steps
+  add_behind sent due xs ys steps a b is = add_as sent due steps (xs ++ ys) is (add_so (sent + 0) (due + 0) sent due (xs ++ ys) (omega arith) (omega arith) (add_both sent due 0 0 xs ys a b))
+
   -- one entry at a port that writes nothing that owes the slot
   pub add_port : (looper : ℕ) (x : Noted PortEntry) → writes_owing n x.entry.event ≡ false → Adds Below n 0 0 (at_port looper x ∷ [])
   add_port looper x idle =
       add_counted (at_port looper x ∷ []) 0 0 0
       (subst (λ (b : Bool). Counts n (at_port looper x ∷ []) (bit b) 0 0 0 0) idle (count_one n (at_port looper x))) (omega arith)
+
+  -- one that writes an item which goes on to a looper that is not below
+  pub add_sent_on : (looper : ℕ) (x : Noted PortEntry) (owing : Bool) → writes_owing n x.entry.event ≡ owing → (Below looper → ⊥) → Adds Below n (bit owing) 0 (at_port looper x ∷ [])
+  add_sent_on looper x owing is apart =
+      let c = count_one n (at_port looper x) in
+      record {
+        asks = 0;
+        sent_are = c.sent_are ∙ ap bit is ∙ omega arith;
+        opened = omega (arith, c.cancelled_are, c.opened_are);
+        took = c.took_are;
+        most = omega (arith, c.filled_are);
+        settled = inl c.filled_are;
+        up = λ number below.
+        let other : (looper == number) ≡ false = ne_eqb looper number (λ same. apart (subst Below (sym same) below)) in
+        omega (arith, many_one (sends_to n number) (at_port looper x) ∙ ap (λ (b : Bool). bit (b && writes_owing n x.entry.event)) other);
+      }

@@ -1,3 +1,6 @@
 pub mod Counting
+pub mod Lists
 pub mod MainTold
+pub mod OwnWants
+pub mod SentOn
 pub mod Wanting

@@ -6,3 +6,11 @@ ghost use Rattle.ak_headline.specs.Diaries as diaries;
 pub fn main_tallies()
     ensures { diaries.MainTallies }
 {}
+
+/// What a looper's diary tells of a slot: each ask that was written opened it and took from it; and each item that owes
+/// it was sent on, or the slot was filled or found to be settled.
+pub fn loopers_tally()
+    ensures { diaries.LoopersTally }
+{
+    ak_route::forwards_are_to_later_loopers();
+}
