@@ -1,5 +1,7 @@
 pub mod Counting
+pub mod Later
 pub mod Lists
+pub mod LoopersTold
 pub mod MainTold
 pub mod Owing
 pub mod OwnWants
