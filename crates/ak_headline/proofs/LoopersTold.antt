@@ -132,3 +132,110 @@ on_bit false = refl
 off_bit : (b : Bool) → bit (b && false) ≡ 0
 off_bit true = refl
 off_bit false = refl
+
+module _ (later : ForwardIsLater) (l : LooperFacts) (number_is : l.desk.looper ≡ l.number) (n : ℕ) where
+  -- the looper itself, and those before it
+  abbrev Below : ℕ → Type 0
+  Below looper = looper ≤ l.number
+
+  -- so many of the entries were sent on, and so many kept
+  abbrev TurnAdds : List EntryData → List Step → Type 0
+  TurnAdds entries steps = Adds Below n (sent_on_in n entries) (kept_in n entries) steps
+
+  sent_later : (taken : Taken) (x : Noted EntryData) (s : DeskState) (i : ℕ) → IsHistory l.desk x.before s → (routed_of s taken.item).route ≡ route.Forward i → s.first + i ≤ l.number → ⊥
+  sent_later taken x s i history e below =
+      let same = number_stays l.desk.looper 0 l.desk x.before s history.replays in
+      let far = goes_up later s taken.item i e in
+      absurd (omega (arith, same, far, number_is, below))
+
+  take_adds : (so_far turn : List Step) → IsTake l so_far turn → TurnAdds (desk_list l turn) turn
+  take_adds so_far turn t =
+      subst (λ (k : List Step). TurnAdds (desk_list l k) k) (sym t.is) (add_port Below n l.number t.noted (ap (writes_owing n) t.event_is))
+
+  module _ (so_far turn : List Step) (d : IsDispatch l so_far turn) where
+    entry_alone : desk_list l turn ≡ d.noted.entry ∷ []
+    entry_alone = ap (map entry_of) (turn_enters l so_far turn d)
+
+    middle_adds : (b : Bool) → Adds Below n 0 0 (at_desk l.number d.noted ∷ lacked_if b)
+    middle_adds true =
+        add_both Below n 0 0 0 0 (at_desk l.number d.noted ∷ []) (lacked ∷ []) (add_counted Below n (at_desk l.number d.noted ∷ []) 0 0 0 (count_one n (at_desk l.number d.noted)) (omega arith))
+        (add_counted Below n (lacked ∷ []) 0 0 0 (count_one n lacked) (omega arith))
+    middle_adds false = add_counted Below n (at_desk l.number d.noted ∷ []) 0 0 0 (count_one n (at_desk l.number d.noted)) (omega arith)
+
+    -- by what it came to: so often sent on, and so much due
+    parts_add : (sent due : ℕ) → Adds Below n sent 0 d.served → Adds Below n 0 due d.settled → Adds Below n sent due turn
+    parts_add sent due served settled =
+        add_as Below n sent due turn (d.served ++ middle l so_far turn d ++ d.settled) d.is
+        (add_so Below n (sent + 0) (0 + due) sent due (d.served ++ middle l so_far turn d ++ d.settled) (omega arith) (omega arith)
+        (add_both Below n sent 0 0 due (d.served ++ middle l so_far turn d) d.settled
+        (add_behind Below n sent 0 d.served (middle l so_far turn d) (d.served ++ middle l so_far turn d) served (middle_adds d.made.no_memory) refl) settled))
+
+    sent_so : (b : Bool) → was_sent_on d.noted.entry ≡ b → sent_on_in n (desk_list l turn) ≡ bit (owes n d.taken.item.duty && b)
+    sent_so b is =
+        ap (sent_on_in n) entry_alone ∙ many_one (λ (x : EntryData). owes_entry n x && was_sent_on x) d.noted.entry
+        ∙ (λ i. bit (entry_is_of l.desk d.taken d.asked d.heard d.made d.noted n d.comes i && is i))
+
+    kept_so : (b : Bool) → was_sent_on d.noted.entry ≡ b → kept_in n (desk_list l turn) ≡ bit (owes n d.taken.item.duty && not b)
+    kept_so b is =
+        ap (kept_in n) entry_alone ∙ many_one (λ (x : EntryData). owes_entry n x && not (was_sent_on x)) d.noted.entry
+        ∙ (λ i. bit (entry_is_of l.desk d.taken d.asked d.heard d.made d.noted n d.comes i && not (is i)))
+
+    goes_adds : Goes Below n d.taken.item (was_sent_on d.noted.entry) d.made.reply d.served → TurnAdds (desk_list l turn) turn
+    goes_adds (on is none served) =
+        add_so Below n (bit (owes n d.taken.item.duty)) 0 (sent_on_in n (desk_list l turn)) (kept_in n (desk_list l turn)) turn
+        (sym (sent_so true is ∙ on_bit (owes n d.taken.item.duty))) (sym (kept_so true is ∙ off_bit (owes n d.taken.item.duty)))
+        (parts_add (bit (owes n d.taken.item.duty)) 0 served
+        (settles_none Below n l (so_far ++ d.served ++ middle l so_far turn d) d.taken.item.duty d.made.reply d.settled d.settles none))
+    goes_adds (stays is some served) =
+        add_so Below n 0 (bit (owes n d.taken.item.duty)) (sent_on_in n (desk_list l turn)) (kept_in n (desk_list l turn)) turn
+        (sym (sent_so false is ∙ off_bit (owes n d.taken.item.duty))) (sym (kept_so false is ∙ on_bit (owes n d.taken.item.duty)))
+        (parts_add 0 (bit (owes n d.taken.item.duty)) served
+        (settles_owed Below n l (so_far ++ d.served ++ middle l so_far turn d) d.taken.item.duty d.made.reply d.settled d.settles some))
+
+    dispatch_adds : TurnAdds (desk_list l turn) turn
+    dispatch_adds = goes_adds (comes_goes Below n l so_far d.taken d.asked d.heard d.made d.noted d.served (sent_later d.taken d.noted) d.serves d.comes)
+
+  work_adds : (work : List Step) → Works l work → TurnAdds (desk_list l work) work
+  work_adds _ begun = add_none Below n
+  work_adds _ (went_on so_far turn works does) =
+      let so = work_adds so_far works in
+      let more : TurnAdds (desk_list l turn) turn = ⊎_elim (λ (t : IsTake l so_far turn). take_adds so_far turn t) (λ (t : IsDispatch l so_far turn). dispatch_adds so_far turn t) does in
+      let all = list_both l so_far turn in
+      add_so Below n (sent_on_in n (desk_list l so_far) + sent_on_in n (desk_list l turn)) (kept_in n (desk_list l so_far) + kept_in n (desk_list l turn))
+      (sent_on_in n (desk_list l (so_far ++ turn))) (kept_in n (desk_list l (so_far ++ turn))) (so_far ++ turn)
+      (sym (ap (sent_on_in n) all ∙ many_both (λ (x : EntryData). owes_entry n x && was_sent_on x) (desk_list l so_far) (desk_list l turn)))
+      (sym (ap (kept_in n) all ∙ many_both (λ (x : EntryData). owes_entry n x && not (was_sent_on x)) (desk_list l so_far) (desk_list l turn)))
+      (add_both Below n (sent_on_in n (desk_list l so_far)) (kept_in n (desk_list l so_far)) (sent_on_in n (desk_list l turn)) (kept_in n (desk_list l turn)) so_far turn so more)
+
+  end_adds : (so_far turn : List Step) (e : IsEnd l so_far turn) → Adds Below n 0 (owing_in n (left_at l so_far e.noted)) turn
+  end_adds so_far turn e =
+      add_before Below n 0 (owing_in n (left_at l so_far e.noted)) (at_port l.number e.noted ∷ []) e.answers turn (add_port Below n l.number e.noted (ap (writes_owing n) e.event_is))
+      (add_leaves_all Below n (left_at l so_far e.noted) e.answers e.leaves) e.is
+
+module _ (later : ForwardIsLater) (l : LooperFacts) (steps : List Step) (port : List PortEntry) (desk : List EntryData) (has : HasDiary l steps port desk) (n : ℕ) where
+  told_of : (test : EntryData → Bool) → ((x : EntryData) → IsOwn x.plain.event false → test x ≡ false) → how_many test desk ≡ how_many test (desk_list l has.legal.work)
+  told_of test spares =
+      own_many test spares l.desk.looper 0 l.desk desk has.desk_legal.state has.desk_legal.history.replays ∙ ap (how_many test) (own_list l steps port desk has)
+
+  diary_adds : Adds (λ looper. looper ≤ l.number) n (sent_on_in n desk) (kept_in n desk + owing_in n (left_in l steps has.legal)) steps
+  diary_adds =
+      let sent = told_of (λ (x : EntryData). owes_entry n x && was_sent_on x) (λ x own. ap (λ b. b && was_sent_on x) (no_owing n x.plain.event x.item own)) in
+      let kept = told_of (λ (x : EntryData). owes_entry n x && not (was_sent_on x)) (λ x own. ap (λ b. b && not (was_sent_on x)) (no_owing n x.plain.event x.item own)) in
+      let work = has.legal.work in
+      let left = owing_in n (left_in l steps has.legal) in
+      add_as (λ looper. looper ≤ l.number) n (sent_on_in n desk) (kept_in n desk + left) steps (work ++ has.legal.end) has.legal.is
+      (add_so (λ looper. looper ≤ l.number) n (sent_on_in n (desk_list l work) + 0) (kept_in n (desk_list l work) + left) (sent_on_in n desk) (kept_in n desk + left) (work ++ has.legal.end)
+      (omega (arith, sent)) (omega (arith, kept))
+      (add_both (λ looper. looper ≤ l.number) n (sent_on_in n (desk_list l work)) (kept_in n (desk_list l work)) 0 left work has.legal.end
+      (work_adds later l has.own_desk n work has.legal.works) (end_adds later l has.own_desk n work has.legal.end has.legal.ends)))
+
+pub loopers_tally : ForwardIsLater → LoopersTally
+loopers_tally later l steps port desk has n =
+    let a = diary_adds later l steps port desk has n in
+    record { asks = a.asks; sent = a.sent_are; opened = a.opened; took = a.took; filled = a.most; settled = a.settled }
+
+pub loopers_send_up : ForwardIsLater → LoopersSendUp
+loopers_send_up later l steps port desk has n looper below untaken =
+    let a = diary_adds later l steps port desk has n in
+    let few = a.up looper below in
+    omega (arith, few, a.took, untaken)
