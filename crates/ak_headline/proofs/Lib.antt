@@ -1,9 +1,11 @@
 pub mod Counting
+pub mod Filling
 pub mod Later
 pub mod Lists
 pub mod LoopersTold
 pub mod MainTold
 pub mod Owing
 pub mod OwnWants
+pub mod Paying
 pub mod SentOn
 pub mod Wanting

@@ -90,7 +90,7 @@ module _ (Below : ℕ → Type 0) (n : ℕ) where
       (λ (t : turns.FindsGone l steps). add_step (saw_roster t.seen) steps t.is (add_counted Below n (saw_roster t.seen ∷ []) 0 0 0 (count_one n (saw_roster t.seen)) (omega arith))) s
   add_leaves_roster l false steps s = add_empty Below n steps s
 
-  add_closes_if : (l : LooperFacts) (due : Bool) (steps : List Step) → ClosesIf l due steps → Nothing steps
+  pub add_closes_if : (l : LooperFacts) (due : Bool) (steps : List Step) → ClosesIf l due steps → Nothing steps
   add_closes_if l true steps c = add_idle Below n c.gone c.shut steps (add_leaves_roster l (is_own l) c.gone c.leaves) (add_shuts_all (closed_by l) c.shut c.shuts) c.is
   add_closes_if l false steps c = add_empty Below n steps c
 
@@ -113,16 +113,16 @@ module _ (Below : ℕ → Type 0) (n : ℕ) where
       add_idle Below n t.door t.rest steps (add_opens Below n l so_far to.looper t.door t.opens) (add_tries to.looper (wants.sent_item l.team to duty.None m) t.rest refl t.then_does) t.is) r
 
   -- of an item that was sent on, and of one that was kept
-  add_pays_none : (l : LooperFacts) (so_far : List Step) (owed : Duty) (told : Option MessageData) (steps : List Step) → told ≡ None → Pays l so_far owed told steps → Nothing steps
+  pub add_pays_none : (l : LooperFacts) (so_far : List Step) (owed : Duty) (told : Option MessageData) (steps : List Step) → told ≡ None → Pays l so_far owed told steps → Nothing steps
   add_pays_none l so_far owed told steps none p = add_empty Below n steps (subst (λ (k : Option MessageData). Pays l so_far owed k steps) none p)
 
-  add_pays : (l : LooperFacts) (so_far : List Step) (owed : Duty) (m : MessageData) (steps : List Step) → Pays l so_far owed (Some m) steps → Adds Below n 0 (bit (owes n owed)) steps
+  pub add_pays : (l : LooperFacts) (so_far : List Step) (owed : Duty) (m : MessageData) (steps : List Step) → Pays l so_far owed (Some m) steps → Adds Below n 0 (bit (owes n owed)) steps
   add_pays l so_far duty.None m steps p = add_empty Below n steps p
   add_pays l so_far (duty.Slot k) m steps p = add_fills k (spelling m) steps p
   add_pays l so_far (duty.Back to) m steps p = add_back l so_far (is_no_reply m) to m steps p
 
   -- ---- its text
-  text_idle : (owed : Duty) (reply told : Option MessageData) (steps : List Step) → WritesText owed reply told steps → Nothing steps
+  pub text_idle : (owed : Duty) (reply told : Option MessageData) (steps : List Step) → WritesText owed reply told steps → Nothing steps
   text_idle owed reply _ _ turns.with_memory = add_none Below n
   text_idle owed reply _ _ (turns.without wants) = add_lack (lacked ∷ []) refl
 
@@ -136,7 +136,7 @@ told_none : (owed : Duty) (reply told : Option MessageData) (steps : List Step) 
 told_none owed reply _ _ none turns.with_memory = none
 told_none owed reply _ _ none (turns.without wants) = absurd (wants_some owed (subst (λ (k : Option MessageData). turns.wants_text owed k ≡ true) none wants))
 
-told_some : (owed : Duty) (reply told : Option MessageData) (steps : List Step) → IsReplied reply → WritesText owed reply told steps → IsReplied told
+pub told_some : (owed : Duty) (reply told : Option MessageData) (steps : List Step) → IsReplied reply → WritesText owed reply told steps → IsReplied told
 told_some owed reply _ _ some turns.with_memory = some
 told_some owed reply _ _ some (turns.without wants) = record { message = none_reply; is = refl }
 
