@@ -1,5 +1,5 @@
 -- How often steps speak of a slot: it adds up, part by part.
-use Rattle.std.proofs.Common.{◌≡◌, ◌⊎◌, ℕ, ◌+◌, ◌≤◌, ◌==◌, Bool, true, false, cond, List, [], ◌∷◌, ◌++◌, length, Option, None, Some, refl, sym, ap, ◌∙◌, subst, inl, inr, arith, length-append, ne_eqb, ⊎_elim}
+use Rattle.std.proofs.Common.{◌≡◌, ◌⊎◌, ℕ, ◌+◌, ◌≤◌, ◌==◌, Bool, true, false, cond, List, [], ◌∷◌, ◌++◌, length, refl, sym, ap, ◌∙◌, subst, inl, inr, arith, length-append, ne_eqb}
 use Rattle.std.specs.Prelude.{◌&&◌, Any, filter}
 use Rattle.std.proofs.lemmas.Grind.{flat_map-append}
 use Rattle.std.proofs.lemmas.List.Elements.{Contains-append_left, Contains-append_right, filter-append}
@@ -190,6 +190,6 @@ module _ (Below : ℕ → Type 0) (n : ℕ) where
         most = omega (arith, c.filled_are);
         settled = inl c.filled_are;
         up = λ number below.
-        let other : (looper == number) ≡ false = ne_eqb looper number (λ same. apart (subst Below (sym same) below)) in
-        omega (arith, many_one (sends_to n number) (at_port looper x) ∙ ap (λ (b : Bool). bit (b && writes_owing n x.entry.event)) other);
+            let other : (looper == number) ≡ false = ne_eqb looper number (λ same. apart (subst Below (sym same) below)) in
+            omega (arith, many_one (sends_to n number) (at_port looper x) ∙ ap (λ (b : Bool). bit (b && writes_owing n x.entry.event)) other);
       }

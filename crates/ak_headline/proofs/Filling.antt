@@ -1,6 +1,5 @@
 -- What the entries of a diary fill slots with: part by part.
-use Rattle.std.proofs.Common.{◌≡◌, ◌⊎◌, ℕ, ◌+◌, ◌≤◌, ◌==◌, Bool, true, false, List, [], ◌∷◌, ◌++◌, Option, None, Some, All, refl, sym, ap, ◌∙◌, subst, inl, inr, arith, append-nil, eq-eqb, ⊎_elim}
-use Rattle.std.specs.Prelude.{Contains}
+use Rattle.std.proofs.Common.{◌≡◌, ℕ, ◌+◌, ◌≤◌, Bool, true, false, List, [], ◌∷◌, ◌++◌, Some, All, refl, sym, ap, ◌∙◌, subst, arith, eq-eqb, ⊎_elim}
 use Rattle.std.proofs.lemmas.Bool.{false≢true}
 use Rattle.std.proofs.lemmas.Grind.{flat_map-append}
 use Rattle.std.proofs.lemmas.List.Elements.{All-append, All-cons, All-nil, All-weaker, Contains-append_left, Contains-append_right, Contains-push}
@@ -20,7 +19,7 @@ use Rattle.ak_diary.specs.Turns as turns
 use Rattle.ak_diary.specs.Turns.{Fills, LeavesAll, LeavesOne, Pays}
 use Rattle.ak_headline.specs.Answers.{owes}
 use Rattle.ak_headline.specs.Tally.{PaidForLeft, at_slot, how_many}
-use Rattle.ak_headline.proofs.Counting.{Adds, bit, many_both, many_one}
+use Rattle.ak_headline.proofs.Counting.{bit, many_both, many_one}
 use Rattle.ak_headline.proofs.Owing.{add_pays}
 
 -- an entry that fills a slot fills it so

@@ -1,5 +1,5 @@
 -- A looper's desk keeps the looper's number, and a message that is sent on goes to a looper of a greater one.
-use Rattle.std.proofs.Common.{◌≡◌, ℕ, ◌+◌, ◌<◌, ◌≤◌, ◌==◌, Bool, true, false, cond, List, [], ◌∷◌, length, Option, None, Some, refl, sym, ap, ◌∙◌, arith, eqb-true}
+use Rattle.std.proofs.Common.{◌≡◌, ℕ, ◌+◌, ◌<◌, Bool, true, false, cond, List, [], ◌∷◌, length, Option, None, Some, refl, sym, ap, ◌∙◌, arith, eqb-true}
 use Rattle.ak_flatten.specs.Item.{ItemData, message_of}
 use Rattle.ak_route.specs.declared.outcome.Route.TheVariants as route
 use Rattle.ak_route.specs.Handlers.{handlers_seen}

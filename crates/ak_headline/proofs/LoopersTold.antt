@@ -1,5 +1,5 @@
 -- A looper's diary, turn after turn: what it asked, sent on, filled and took.
-use Rattle.std.proofs.Common.{◌≡◌, ◌⊎◌, ℕ, ◌+◌, ◌<◌, ◌≤◌, ◌==◌, Bool, true, false, not, cond, List, [], ◌∷◌, ◌++◌, length, map, Option, None, Some, refl, sym, ap, ◌∙◌, subst, arith, append-nil, eq-eqb, ⊎_elim}
+use Rattle.std.proofs.Common.{◌≡◌, ℕ, ◌+◌, ◌≤◌, ◌==◌, Bool, true, false, not, cond, List, [], ◌∷◌, ◌++◌, map, Option, refl, sym, ap, ◌∙◌, subst, arith, append-nil, eq-eqb, ⊎_elim}
 use Rattle.std.specs.Prelude.{◌&&◌}
 use Rattle.std.proofs.lemmas.Grind.{flat_map-append}
 use Rattle.std.proofs.lemmas.List.{map-append}
@@ -9,10 +9,9 @@ use Rattle.ak_flatten.specs.declared.item.Duty.{Duty}
 use Rattle.ak_flatten.specs.declared.item.Duty.TheVariants as duty
 use Rattle.ak_flatten.specs.declared.item.Taken.{Taken}
 use Rattle.ak_turn.specs.Entries.{made_by}
-use Rattle.ak_turn.specs.Noted.{Noted, entry_of, noted}
+use Rattle.ak_turn.specs.Noted.{Noted, entry_of}
 use Rattle.ak_turn.proofs.Surface.{noted_is_made}
 use Rattle.ak_port.specs.declared.port_entry.PortEntry.{PortEntry}
-use Rattle.ak_port.specs.declared.port_entry.PortEvent.{PortEvent}
 use Rattle.ak_route.specs.Laws.{ForwardIsLater}
 use Rattle.ak_route.specs.declared.outcome.Route.TheVariants as route
 use Rattle.ak_action.specs.declared.state.DeskState.{DeskState}
@@ -25,18 +24,17 @@ use Rattle.ak_desk.specs.Shared.{by_number}
 use Rattle.ak_diary.specs.Diary.{Works, begun, went_on}
 use Rattle.ak_diary.specs.Laws.{HasDiary, left_in}
 use Rattle.ak_diary.specs.Looper.{LooperFacts, desk_list, thread_of}
-use Rattle.ak_diary.specs.Step.{Step, at_book, at_desk, at_port, desk_entries, desk_entry, lacked, saw_book}
+use Rattle.ak_diary.specs.Step.{Step, at_desk, at_port, desk_entries, desk_entry, lacked}
 use Rattle.ak_diary.specs.Turns as turns
 use Rattle.ak_diary.specs.Turns.{IsDispatch, IsEnd, IsTake, LeavesAll, LeavesOne, lacked_if, left_at}
 use Rattle.ak_diary.proofs.Surface.{all_serving, are_quiet, quiet_at_no_desk, settles_quiet}
 use Rattle.ak_headline.specs.Answers.{owes}
 use Rattle.ak_headline.specs.Diaries.{LoopersSendUp, LoopersTally}
-use Rattle.ak_headline.specs.Tally.{Tally, how_many, kept_in, owes_entry, owes_event, owing_in, sent_on_in, was_sent_on, writes_owing}
+use Rattle.ak_headline.specs.Tally.{how_many, kept_in, owes_entry, owes_event, owing_in, sent_on_in, was_sent_on, writes_owing}
 use Rattle.ak_headline.proofs.Counting.{Adds, add_as, add_before, add_behind, add_both, add_counted, add_none, add_port, add_so, bit, count_one, many_both, many_one}
 use Rattle.ak_headline.proofs.Later.{goes_up, number_stays}
 use Rattle.ak_headline.proofs.Owing.{add_leaves_all, settles_none, settles_owed}
-use Rattle.ak_headline.proofs.OwnWants.{IsReplied}
-use Rattle.ak_headline.proofs.SentOn.{Goes, GoesLater, comes_goes, entry_is_of, on, stays}
+use Rattle.ak_headline.proofs.SentOn.{Goes, comes_goes, entry_is_of, on, stays}
 
 -- ---- the desk's entries
 pub list_both : (l : LooperFacts) (xs ys : List Step) → desk_list l (xs ++ ys) ≡ desk_list l xs ++ desk_list l ys

@@ -1,5 +1,5 @@
 -- Main's diary, act after act: it asks and takes, and neither sends on nor fills.
-use Rattle.std.proofs.Common.{◌≡◌, ◌⊎◌, ℕ, ◌+◌, Bool, true, false, List, [], ◌∷◌, ◌++◌, Option, None, Some, refl, sym, ap, ◌∙◌, arith, ⊎_elim}
+use Rattle.std.proofs.Common.{◌≡◌, ℕ, true, false, List, [], ◌∷◌, Option, None, Some, refl, arith}
 use Rattle.ak_flatten.specs.declared.item.Duty.{Duty}
 use Rattle.ak_flatten.specs.declared.item.Duty.TheVariants as duty
 use Rattle.ak_port.specs.declared.port_entry.PortEvent.{PortEvent}
@@ -8,7 +8,7 @@ use Rattle.ak_diary.specs.Step.{Step, at_desk, saw_port, saw_roster}
 use Rattle.ak_headline.specs.Answers.{owes}
 use Rattle.ak_headline.specs.Diaries.{MainTallies}
 use Rattle.ak_headline.specs.Main.{IsAct, IsMainDiary, MayEnterPort, MayRefuse, asks, asks_in_vain, begun, edits, enters_port, enters_roster, finds_gone, finds_shut, owes_no_slot, went_on}
-use Rattle.ak_headline.specs.Tally.{Tally, writes_owing}
+use Rattle.ak_headline.specs.Tally.{writes_owing}
 use Rattle.ak_headline.proofs.Counting.{Adds, add_as, add_both, add_counted, add_none, count_one}
 use Rattle.ak_headline.proofs.Wanting.{Keeps, add_converses, add_enters, add_roster, add_withdraws}
 
@@ -40,25 +40,25 @@ idle_refusal n (Some event.Shut) may = absurd may
 
 module _ (n : ℕ) where
   -- no looper is below main
-  abbrev None-below : ℕ → Type 0
-  None-below looper = ⊥
+  abbrev NoLooper : ℕ → Type 0
+  NoLooper looper = ⊥
 
-  one_step : (step : Step) (steps : List Step) → steps ≡ step ∷ [] → Adds None-below n 0 0 (step ∷ []) → Adds None-below n 0 0 steps
-  one_step step steps is a = add_as None-below n 0 0 steps (step ∷ []) is a
+  one_step : (step : Step) (steps : List Step) → steps ≡ step ∷ [] → Adds NoLooper n 0 0 (step ∷ []) → Adds NoLooper n 0 0 steps
+  one_step step steps is a = add_as NoLooper n 0 0 steps (step ∷ []) is a
 
-  act_adds : (steps : List Step) → IsAct steps → Adds None-below n 0 0 steps
-  act_adds steps (asks to item flat c) = add_converses None-below n to item flat steps c
-  act_adds steps (asks_in_vain to e may w) = add_withdraws None-below n to e steps (idle_refusal n e may) w
-  act_adds steps (enters_port looper e may enters) = add_enters None-below n looper e steps (idle_event n e may) enters
+  act_adds : (steps : List Step) → IsAct steps → Adds NoLooper n 0 0 steps
+  act_adds steps (asks to item flat c) = add_converses NoLooper n to item flat steps c
+  act_adds steps (asks_in_vain to e may w) = add_withdraws NoLooper n to e steps (idle_refusal n e may) w
+  act_adds steps (enters_port looper e may enters) = add_enters NoLooper n looper e steps (idle_event n e may) enters
   act_adds steps (finds_shut looper f) =
-      one_step (saw_port looper f.seen) steps f.is (add_counted None-below n (saw_port looper f.seen ∷ []) 0 0 0 (count_one n (saw_port looper f.seen)) (omega arith))
-  act_adds steps (edits looper e) = one_step (at_desk looper e.noted) steps e.is (add_counted None-below n (at_desk looper e.noted ∷ []) 0 0 0 (count_one n (at_desk looper e.noted)) (omega arith))
-  act_adds steps (enters_roster noted may is) = add_roster None-below n noted steps is
-  act_adds steps (finds_gone seen is) = one_step (saw_roster seen) steps is (add_counted None-below n (saw_roster seen ∷ []) 0 0 0 (count_one n (saw_roster seen)) (omega arith))
+      one_step (saw_port looper f.seen) steps f.is (add_counted NoLooper n (saw_port looper f.seen ∷ []) 0 0 0 (count_one n (saw_port looper f.seen)) (omega arith))
+  act_adds steps (edits looper e) = one_step (at_desk looper e.noted) steps e.is (add_counted NoLooper n (at_desk looper e.noted ∷ []) 0 0 0 (count_one n (at_desk looper e.noted)) (omega arith))
+  act_adds steps (enters_roster noted may is) = add_roster NoLooper n noted steps is
+  act_adds steps (finds_gone seen is) = one_step (saw_roster seen) steps is (add_counted NoLooper n (saw_roster seen ∷ []) 0 0 0 (count_one n (saw_roster seen)) (omega arith))
 
-  diary_adds : (steps : List Step) → IsMainDiary steps → Adds None-below n 0 0 steps
-  diary_adds _ begun = add_none None-below n
-  diary_adds _ (went_on so_far act works does) = add_both None-below n 0 0 0 0 so_far act (diary_adds so_far works) (act_adds act does)
+  diary_adds : (steps : List Step) → IsMainDiary steps → Adds NoLooper n 0 0 steps
+  diary_adds _ begun = add_none NoLooper n
+  diary_adds _ (went_on so_far act works does) = add_both NoLooper n 0 0 0 0 so_far act (diary_adds so_far works) (act_adds act does)
 
 pub main_tallies : MainTallies
 main_tallies steps diary n =

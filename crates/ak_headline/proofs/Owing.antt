@@ -1,5 +1,5 @@
 -- What follows a dispatch: what is owed for an item that was kept is paid once, and else nothing is written, opened, taken or filled.
-use Rattle.std.proofs.Common.{◌≡◌, ◌⊎◌, ℕ, ◌+◌, ◌≤◌, ◌==◌, Bool, true, false, List, [], ◌∷◌, ◌++◌, Option, None, Some, refl, sym, ap, ◌∙◌, subst, inl, inr, arith, eqb-true, ⊎_elim}
+use Rattle.std.proofs.Common.{◌≡◌, ◌⊎◌, ℕ, ◌+◌, ◌==◌, Bool, true, false, List, [], ◌∷◌, ◌++◌, Option, None, Some, refl, sym, ap, ◌∙◌, subst, inl, inr, arith, eqb-true, ⊎_elim}
 use Rattle.std.specs.Prelude.{Any}
 use Rattle.std.proofs.lemmas.List.Quantifiers.{Any-push}
 use Rattle.ak_message.specs.declared.address.Address.{Address}
@@ -15,8 +15,8 @@ use Rattle.ak_port.specs.declared.reply_entry.ReplyEntry.{ReplyEntry}
 use Rattle.ak_port.specs.declared.reply_entry.ReplyEvent.TheVariants as slot
 use Rattle.ak_port.specs.Reply.{IsSettled, fills}
 use Rattle.ak_desk.specs.Replies.{none_reply}
-use Rattle.ak_diary.specs.Looper.{LooperFacts, closed_by, is_closing, is_own}
-use Rattle.ak_diary.specs.Step.{Step, at_book, at_port, at_roster, book_sights, lacked, saw_book, saw_port, saw_roster}
+use Rattle.ak_diary.specs.Looper.{LooperFacts, closed_by, is_own}
+use Rattle.ak_diary.specs.Step.{Step, at_book, book_sights, lacked, saw_book, saw_port, saw_roster}
 use Rattle.ak_diary.specs.Turns as turns
 use Rattle.ak_diary.specs.Turns.{Closes, ClosesIf, Fills, LeavesAll, LeavesOne, LeavesRoster, Pays, RepliesBack, Settles, Shuts, ShutsAll, TriesBack, WritesText, is_no_reply}
 use Rattle.ak_diary.specs.Wants as wants

@@ -5,7 +5,6 @@ use Rattle.ak_message.specs.declared.address.Address.{Address}
 use Rattle.ak_message.specs.Message.{MessageData}
 use Rattle.ak_route.specs.declared.outcome.Route.{Route}
 use Rattle.ak_route.specs.declared.outcome.Route.TheVariants as route
-use Rattle.ak_route.specs.declared.outcome.Taker.{Taker}
 use Rattle.ak_route.specs.declared.outcome.Taker.TheVariants as taker
 use Rattle.ak_action.specs.declared.action.Action.{Action}
 use Rattle.ak_action.specs.declared.answer.Answer.{Answer}
@@ -16,7 +15,7 @@ use Rattle.ak_action.specs.declared.doing.Sending.{Sending}
 use Rattle.ak_action.specs.declared.doing.Sending.TheVariants as sending
 use Rattle.ak_action.specs.declared.state.DeskState.{DeskState}
 use Rattle.ak_action.specs.Acts.{Acts, Course, act, acts_on, asks, carried_out, ended, found, goes_on, heard, is_at, opened, sent, taken_in, waits, want_of, while_going}
-use Rattle.ak_action.specs.Doing.{Doing, doing_of, finds, puts, quits, replies, says, sends, stops}
+use Rattle.ak_action.specs.Doing.{Doing, finds, puts, quits, replies, says, sends, stops}
 use Rattle.ak_action.specs.Interp.{actions_of}
 use Rattle.ak_desk.specs.Dispatch.{by_route}
 use Rattle.ak_headline.proofs.Wanting.{IsOwnWant}

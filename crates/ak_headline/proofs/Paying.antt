@@ -1,5 +1,5 @@
 -- A looper's diary, turn after turn: each slot that it fills it fills with what the rules make for the item that owes it, or with the text of no reply.
-use Rattle.std.proofs.Common.{◌≡◌, ◌⊎◌, ℕ, ◌+◌, ◌≤◌, Bool, true, false, List, [], ◌∷◌, ◌++◌, Option, None, Some, All, refl, sym, ap, ◌∙◌, subst, inl, inr, append_assoc, eq-eqb, ⊎_elim}
+use Rattle.std.proofs.Common.{◌≡◌, ◌⊎◌, ℕ, ◌≤◌, Bool, true, false, List, [], ◌∷◌, ◌++◌, Option, None, Some, refl, sym, ap, ◌∙◌, subst, inl, inr, append_assoc, eq-eqb, ⊎_elim}
 use Rattle.std.specs.Prelude.{◌||◌, Contains, option_map}
 use Rattle.std.proofs.lemmas.Grind.{flat_map-append}
 use Rattle.std.proofs.lemmas.List.Elements.{All-contains, Contains-append_left, Contains-append_right, Contains-push}
@@ -33,8 +33,8 @@ use Rattle.ak_desk.specs.Replies.{none_reply}
 use Rattle.ak_desk.specs.Shared.{by_number}
 use Rattle.ak_diary.specs.Diary.{Works, begun, went_on}
 use Rattle.ak_diary.specs.Laws.{HasDiary, left_in}
-use Rattle.ak_diary.specs.Looper.{LooperFacts, is_closing, thread_of}
-use Rattle.ak_diary.specs.Step.{Step, at_desk, at_port, book_entries, desk_entries, desk_entry, is_lack, lacked, ran_short}
+use Rattle.ak_diary.specs.Looper.{LooperFacts, thread_of}
+use Rattle.ak_diary.specs.Step.{Step, at_desk, at_port, book_entries, desk_entries, desk_entry, is_lack, ran_short}
 use Rattle.ak_diary.specs.Turns as turns
 use Rattle.ak_diary.specs.Turns.{Carried, ComesTo, GivenUp, IsDispatch, IsEnd, IsTake, Pays, Settles, WritesText, lacked_if, left_at}
 use Rattle.ak_headline.specs.Answers.{owes}

@@ -1,23 +1,20 @@
 -- What a dispatched message comes to: it was sent on, to a later looper, and nothing is replied; or there is a reply, and no item was written that owes what it owes.
-use Rattle.std.proofs.Common.{◌≡◌, ◌≢◌, ◌⊎◌, ℕ, ◌+◌, ◌≤◌, Bool, true, false, cond, List, [], ◌∷◌, ◌++◌, length, Option, None, Some, All, refl, sym, ap, ◌∙◌, subst, inl, inr, append-nil, ⊎_elim}
+use Rattle.std.proofs.Common.{◌≡◌, ℕ, ◌+◌, Bool, true, false, List, [], ◌∷◌, ◌++◌, Option, None, refl, sym, ap, ◌∙◌, subst, append-nil, ⊎_elim}
 use Rattle.std.specs.Prelude.{option_map}
 use Rattle.ak_message.specs.Message.{MessageData}
-use Rattle.ak_flatten.specs.Item.{ItemData, message_of}
+use Rattle.ak_flatten.specs.Item.{ItemData}
 use Rattle.ak_flatten.specs.declared.item.Taken.{Taken}
 use Rattle.ak_turn.specs.Noted.{Noted}
 use Rattle.ak_port.specs.declared.port_entry.PortEvent.TheVariants as event
 use Rattle.ak_route.specs.declared.outcome.Route.{Route}
 use Rattle.ak_route.specs.declared.outcome.Route.TheVariants as route
-use Rattle.ak_route.specs.declared.outcome.Taker.{Taker}
 use Rattle.ak_action.specs.declared.answer.Answer.{Answer}
 use Rattle.ak_action.specs.declared.answer.Answer.TheVariants as answer
 use Rattle.ak_action.specs.declared.answer.AnswerWord.{AnswerWord}
 use Rattle.ak_action.specs.declared.answer.AnswerWord.TheVariants as word
 use Rattle.ak_action.specs.declared.answer.Want.{Want}
-use Rattle.ak_action.specs.declared.answer.Want.TheVariants as want
 use Rattle.ak_action.specs.declared.state.DeskState.{DeskState}
 use Rattle.ak_action.specs.Acts.{error_of}
-use Rattle.ak_desk.specs.declared.entry.DeskEvent.{DeskEvent}
 use Rattle.ak_desk.specs.declared.entry.DeskEvent.TheVariants as desk_event
 use Rattle.ak_desk.specs.declared.entry.EntryRoute.TheVariants as went
 use Rattle.ak_desk.specs.declared.made.Made.{Made}
@@ -34,7 +31,7 @@ use Rattle.ak_diary.specs.Wants as wants
 use Rattle.ak_diary.specs.Wants.{EntersPort, ForwardsSo, Serves, ServesAll, Through, ThroughDoor, forwarded_item}
 use Rattle.ak_headline.specs.Answers.{owes}
 use Rattle.ak_headline.specs.Tally.{owes_entry, sent_on_event, was_sent_on, writes_owing}
-use Rattle.ak_headline.proofs.Counting.{Adds, add_as, add_before, add_empty, add_sent_on, add_so, bit}
+use Rattle.ak_headline.proofs.Counting.{Adds, add_as, add_before, add_empty, add_sent_on, bit}
 use Rattle.ak_headline.proofs.Lists.{same_last}
 use Rattle.ak_headline.proofs.OwnWants.{IsNoForward, IsReplied, has_reply, wants_are_own}
 use Rattle.ak_headline.proofs.Wanting.{add_enters, add_opens, add_serves_all, add_through}

@@ -1,5 +1,5 @@
 -- What a want that is served adds to a diary: an ask takes what it opened, or cancels it, and a post writes nothing for which someone waits.
-use Rattle.std.proofs.Common.{◌≡◌, ◌⊎◌, ℕ, ◌+◌, ◌≤◌, ◌==◌, Bool, true, false, List, [], ◌∷◌, ◌++◌, Option, None, Some, All, refl, sym, ap, ◌∙◌, subst, arith, ⊎_elim}
+use Rattle.std.proofs.Common.{◌≡◌, ℕ, ◌+◌, ◌≤◌, ◌==◌, Bool, true, false, List, [], ◌∷◌, ◌++◌, Option, None, Some, All, refl, sym, subst, arith, ⊎_elim}
 use Rattle.std.proofs.lemmas.List.Elements.{All-head, All-tail}
 use Rattle.ak_base.specs.declared.app_word.AppWord.{AppWord}
 use Rattle.ak_message.specs.declared.address.Address.{Address}
@@ -21,7 +21,7 @@ use Rattle.ak_diary.specs.Wants as wants
 use Rattle.ak_diary.specs.Wants.{AsksInVain, AsksSo, Cancels, Converses, EntersPort, IsRefusedBy, LooksUp, Opens, OpensFor, PostsSo, Serves, ServesAll, ServesFind, Through, ThroughDoor, Withdraws}
 use Rattle.ak_headline.specs.Answers.{owes}
 use Rattle.ak_headline.specs.Tally.{writes_owing}
-use Rattle.ak_headline.proofs.Counting.{Adds, Counts, add_as, add_counted, add_empty, add_idle, add_none, add_port, bit, count_book, count_both, count_none, count_one, count_port}
+use Rattle.ak_headline.proofs.Counting.{Adds, Counts, add_as, add_counted, add_empty, add_idle, bit, count_book, count_both, count_none, count_one, count_port}
 
 -- an event that writes nothing that owes the slot, if there is one
 abbrev pub Keeps : ℕ → Option PortEvent → Type 0
