@@ -23,8 +23,9 @@ pub fn loopers_send_up()
     ak_route::forwards_are_to_later_loopers();
 }
 
-/// What a looper fills a slot with is the reply that the rules make for the item that owes it, with the handlers as its
-/// desk's list makes them there; or it is the text of no reply, for want of memory or of an item that was left.
+/// What a looper fills a slot with is the text of the reply that the rules make for the item that owes it, with the
+/// handlers as its desk's list makes them there, or of the error in its place where it is too long. It is the text of
+/// no reply where there was no memory for that text, and for an item that was left.
 pub fn loopers_pay()
     ensures { diaries.LoopersPay }
 {}
