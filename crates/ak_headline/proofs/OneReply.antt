@@ -22,7 +22,8 @@ use Rattle.ak_diary.specs.Step.{Step, book_entries}
 use Rattle.ak_headline.specs.Answers.{GotOneReply, IsAccepted, WasSentOn, cancels, doing, opens, owes}
 use Rattle.ak_headline.specs.Headline.{RunsAnswer}
 use Rattle.ak_headline.specs.Run.{HasDone, HasLooper, IsRun, desk_list, port_list}
-use Rattle.ak_headline.specs.Tally.{LoopersPay, LoopersSendUp, LoopersTally, MainTallies, SendsUp, how_many, writes_owing}
+use Rattle.ak_headline.specs.Diaries.{LoopersPay, LoopersSendUp, LoopersTally, MainTallies}
+use Rattle.ak_headline.specs.Tally.{SendsUp, how_many, writes_owing}
 use Rattle.ak_headline.proofs.Accounts.{Account, IsEachOnce, IsToldBy, account_none, each_once, no_port}
 use Rattle.ak_headline.proofs.Counts.{filter_both, first_meets, found_of, none_of, one_among, one_of, there_counts}
 use Rattle.ak_headline.proofs.Replies.{IsPaid, became, paid}

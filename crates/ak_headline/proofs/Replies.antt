@@ -33,7 +33,8 @@ use Rattle.ak_diary.specs.Looper.{LooperFacts, thread_of}
 use Rattle.ak_diary.specs.Step.{book_entries, ran_short}
 use Rattle.ak_headline.specs.Answers.{IsAccepted, IsAnswerTo, IsDispatchOf, WasSentOn, owes, to_dispatched, to_left, without_memory}
 use Rattle.ak_headline.specs.Run.{HasLooper, desk_list, port_list}
-use Rattle.ak_headline.specs.Tally.{LoopersPay, PaidForDispatch, PaidForLeft, owes_entry, owes_event, sent_on_event, was_sent_on}
+use Rattle.ak_headline.specs.Diaries.{LoopersPay}
+use Rattle.ak_headline.specs.Tally.{PaidForDispatch, PaidForLeft, owes_entry, owes_event, sent_on_event, was_sent_on}
 use Rattle.ak_headline.proofs.Resting.{RestsAt}
 use Rattle.ak_headline.proofs.Written.{DispatchedAt, dispatched_at, get_parts, get_second, position_is}
 

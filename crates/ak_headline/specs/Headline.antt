@@ -15,7 +15,7 @@ use Rattle.ak_diary.specs.Looper.{LooperFacts}
 use Rattle.ak_diary.specs.Step.{Step}
 use Rattle.ak_headline.specs.Answers.{GotOneReply, IsAccepted}
 use Rattle.ak_headline.specs.Run.{IsRun}
-use Rattle.ak_headline.specs.Tally.{LoopersPay, LoopersSendUp, LoopersTally, MainTallies}
+use Rattle.ak_headline.specs.Diaries.{LoopersPay, LoopersSendUp, LoopersTally, MainTallies}
 
 -- of each looper, by their numbers from that one on, its port and its desk are so
 abbrev pub Each : (ℕ → PortData → DeskData → Type 0) → ℕ → List PortData → List DeskData → Type 0

@@ -1,4 +1,5 @@
 pub mod Answers
+pub mod Diaries
 pub mod Headline
 pub mod Main
 pub mod Run

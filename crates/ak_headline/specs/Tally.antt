@@ -1,12 +1,11 @@
 -- How often a thread's diary speaks of a slot.
-use Rattle.std.specs.Prelude.{◌≡◌, ◌+◌, ◌≤◌, ◌==◌, ◌&&◌, ◌⊎◌, not, ℕ, Bool, true, false, List, [], ◌∷◌, ◌++◌, Any, Contains, filter, length, Option, None, Some}
+use Rattle.std.specs.Prelude.{◌≡◌, ◌+◌, ◌≤◌, ◌==◌, ◌&&◌, ◌⊎◌, not, ℕ, Bool, true, false, List, [], ◌∷◌, ◌++◌, Any, Contains, filter, length, Option, Some}
 use Rattle.ak_base.specs.declared.error.KitError.TheVariants as error
 use Rattle.ak_message.specs.Message.{MessageData}
 use Rattle.ak_flatten.specs.declared.item.Taken.{Taken}
 use Rattle.ak_flatten.specs.Item.{ItemData}
 use Rattle.ak_flatten.specs.Spelling.{spelling}
 use Rattle.ak_turn.specs.Noted.{Noted}
-use Rattle.ak_port.specs.declared.port_entry.PortEntry.{PortEntry}
 use Rattle.ak_port.specs.declared.port_entry.PortEvent.{PortEvent}
 use Rattle.ak_port.specs.declared.port_entry.PortEvent.TheVariants as event
 use Rattle.ak_port.specs.declared.reply_entry.ReplyEntry.{ReplyEntry}
@@ -23,11 +22,8 @@ use Rattle.ak_desk.specs.declared.entry.EntryRoute.TheVariants as went
 use Rattle.ak_desk.specs.Dispatch.{fitting}
 use Rattle.ak_desk.specs.Entry.{EntryData}
 use Rattle.ak_desk.specs.Machine.{IsHistory, StepReplies}
-use Rattle.ak_diary.specs.Laws.{HasDiary, left_in}
-use Rattle.ak_diary.specs.Looper.{LooperFacts}
 use Rattle.ak_diary.specs.Step.{Step, at_book, at_port, book_entries, book_sights, ran_short}
 use Rattle.ak_headline.specs.Answers.{cancels, opens, owes}
-use Rattle.ak_headline.specs.Main.{IsMainDiary}
 
 module _ {X : Type 0} where
   abbrev pub how_many : (X → Bool) → List X → ℕ
@@ -126,19 +122,3 @@ abbrev pub PaysByRule : DeskState → List EntryData → List Taken → List Ste
 PaysByRule opening entries left steps =
     (n : ℕ) (text : List ℕ) (x : Noted ReplyEntry) → Contains (book_entries steps) x → x.entry.event ≡ slot.Filled n text
     → PaidForDispatch opening n entries (ran_short steps) text ⊎ PaidForLeft n left text
-
--- ---- of every diary
-abbrev pub LoopersTally : Type 0
-LoopersTally =
-    (l : LooperFacts) (steps : List Step) (port : List PortEntry) (desk : List EntryData) (has : HasDiary l steps port desk) (n : ℕ) → Tally n desk (left_in l steps has.legal) steps
-
-abbrev pub LoopersSendUp : Type 0
-LoopersSendUp =
-    (l : LooperFacts) (steps : List Step) (port : List PortEntry) (desk : List EntryData) → HasDiary l steps port desk → (n : ℕ) → SendsUp n l.number desk steps
-
-abbrev pub LoopersPay : Type 0
-LoopersPay =
-    (l : LooperFacts) (steps : List Step) (port : List PortEntry) (desk : List EntryData) (has : HasDiary l steps port desk) → PaysByRule l.desk desk (left_in l steps has.legal) steps
-
-abbrev pub MainTallies : Type 0
-MainTallies = (steps : List Step) → IsMainDiary steps → (n : ℕ) → Tally n [] [] steps

@@ -1,7 +1,8 @@
 //! The laws of runs that ended.
 
 ghost use Rattle.ak_headline.specs.Headline as headline;
-ghost use Rattle.ak_headline.specs.Tally as tally;
+
+use crate::tallies::{loopers_pay, loopers_send_up, loopers_tally, main_tallies};
 
 /// The messages that each looper dispatched, followed by those that it left, are exactly what its port accepted, in
 /// order and each once.
@@ -28,18 +29,13 @@ fn tallies_tell_replies()
     ak_desk::an_entry_tells_its_reply();
 }
 
-/// What each diary tells of a slot.
-fn diaries_tell_slots()
-    ensures tally { tally.LoopersTally }
-    ensures up { tally.LoopersSendUp }
-    ensures pays { tally.LoopersPay }
-    ensures main { tally.MainTallies }
-{}
-
 /// Each accepted waiting send got one reply, the one that the rules make for it.
 pub fn each_waiting_send_got_one_reply()
     ensures { headline.RunsAnswer }
 {
     tallies_tell_replies();
-    diaries_tell_slots();
+    loopers_tally();
+    loopers_send_up();
+    loopers_pay();
+    main_tallies();
 }
