@@ -1,3 +1,4 @@
 pub mod Letters
 pub mod Depths
 pub mod Pieces
+pub mod Words

@@ -3,9 +3,11 @@
 //! and nothing is shared.
 #![tactic(auto)]
 
+mod laws;
 mod message;
 mod payload;
 mod told;
 
+pub use laws::printed_replies_are_read;
 pub use message::print_message;
 pub use told::{Told, print_outcome};

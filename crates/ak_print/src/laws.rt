@@ -1,0 +1,14 @@
+//! What holds of all that is printed.
+
+ghost use Rattle.ak_print.specs.Laws.{PrintedRepliesAreRead};
+
+use ak_message::printed_messages_are_read;
+
+/// The line of a reply is read back: its words are `reply` and those of the message, of which `read_message` makes
+/// that message with nothing popped. It is so for all that are within the limits at every depth, as all that exist
+/// are.
+pub fn printed_replies_are_read()
+    ensures { PrintedRepliesAreRead }
+{
+    printed_messages_are_read();
+}
