@@ -8,6 +8,6 @@ mod message;
 mod payload;
 mod told;
 
-pub use laws::printed_replies_are_read;
+pub use laws::{outcomes_are_lines, printed_replies_are_read};
 pub use message::print_message;
 pub use told::{Told, print_outcome};
