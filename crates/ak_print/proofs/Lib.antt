@@ -4,3 +4,4 @@ pub mod Pieces
 pub mod Words
 pub mod LineEnds
 pub mod OutcomeLines
+pub mod Surface

@@ -1,5 +1,5 @@
 -- No text that is printed has a line end in it.
-use Rattle.std.proofs.Common.{◌≡◌, ℕ, zero, suc, ◌/◌, ◌%◌, ◌≤◌, Bool, true, false, ◌&&◌, ◌||◌, cond, eqb, leb, ltb, List, [], ◌∷◌, ◌++◌, codes, ℤ, pos, negsuc, refl, sym, subst, ◌∙◌, arith}
+use Rattle.std.proofs.Common.{◌≡◌, ℕ, zero, suc, ◌+◌, ◌/◌, ◌%◌, ◌≤◌, Bool, true, false, ◌&&◌, ◌||◌, cond, eqb, leb, ltb, List, [], ◌∷◌, ◌++◌, codes, ℤ, pos, negsuc, refl, sym, subst, ◌∙◌, arith}
 use Rattle.std.specs.Prelude.{All, count_by, ◌==◌, if◌then◌else◌}
 use Rattle.std.specs.Char.{digit_char}
 use Rattle.std.specs.Fmt.{decimal, signed_decimal, digits, digits_onto, digit_glyph}
@@ -29,9 +29,12 @@ use Rattle.ak_message.specs.Whole.{FitsValue, FitsValues, FitsFields, IsWhole}
 unfoldable pub line_ends : List ℕ → ℕ
 line_ends text = count_by (λ b. b == 10) text
 
-pub both : (xs ys : List ℕ) → line_ends xs ≡ 0 → line_ends ys ≡ 0 → line_ends (xs ++ ys) ≡ 0
+pub line_ends-append : (xs ys : List ℕ) → line_ends (xs ++ ys) ≡ line_ends xs + line_ends ys
 unfolding line_ends
-both xs ys p q = sum_by-append (λ b. cond (b == 10) 1 0) xs ys ∙ omega (arith, p, q)
+line_ends-append xs ys = sum_by-append (λ b. cond (b == 10) 1 0) xs ys
+
+pub both : (xs ys : List ℕ) → line_ends xs ≡ 0 → line_ends ys ≡ 0 → line_ends (xs ++ ys) ≡ 0
+both xs ys p q = line_ends-append xs ys ∙ omega (arith, p, q)
 
 behind : (b : ℕ) (text : List ℕ) → 11 ≤ b → line_ends text ≡ 0 → line_ends (b ∷ text) ≡ 0
 unfolding line_ends
@@ -54,7 +57,7 @@ pub decimal_end : (n : ℕ) → line_ends (decimal n) ≡ 0
 unfolding digits
 decimal_end n = digits_end n 64 [] nothing
 
-signed_end : (z : ℤ) → line_ends (signed_decimal z) ≡ 0
+pub signed_end : (z : ℤ) → line_ends (signed_decimal z) ≡ 0
 signed_end (pos n) = decimal_end n
 signed_end (negsuc n) = behind 45 (decimal (suc n)) (omega arith) (decimal_end (suc n))
 
