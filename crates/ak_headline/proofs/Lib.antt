@@ -1,4 +1,5 @@
 pub mod Accounts
+pub mod Asking
 pub mod Counting
 pub mod Counts
 pub mod Filling

@@ -156,9 +156,9 @@ module _ (later : ForwardIsLater) (l : LooperFacts) (number_is : l.desk.looper �
 
     middle_adds : (b : Bool) → Adds Below n 0 0 (at_desk l.number d.noted ∷ lacked_if b)
     middle_adds true =
-        add_both Below n 0 0 0 0 (at_desk l.number d.noted ∷ []) (lacked ∷ []) (add_counted Below n (at_desk l.number d.noted ∷ []) 0 0 0 (count_one n (at_desk l.number d.noted)) (omega arith))
-        (add_counted Below n (lacked ∷ []) 0 0 0 (count_one n lacked) (omega arith))
-    middle_adds false = add_counted Below n (at_desk l.number d.noted ∷ []) 0 0 0 (count_one n (at_desk l.number d.noted)) (omega arith)
+        add_both Below n 0 0 0 0 (at_desk l.number d.noted ∷ []) (lacked ∷ []) (add_counted Below n (at_desk l.number d.noted ∷ []) 0 0 (count_one n (at_desk l.number d.noted)) (omega arith))
+        (add_counted Below n (lacked ∷ []) 0 0 (count_one n lacked) (omega arith))
+    middle_adds false = add_counted Below n (at_desk l.number d.noted ∷ []) 0 0 (count_one n (at_desk l.number d.noted)) (omega arith)
 
     -- by what it came to: so often sent on, and so much due
     parts_add : (sent due : ℕ) → Adds Below n sent 0 d.served → Adds Below n 0 due d.settled → Adds Below n sent due turn
@@ -179,7 +179,7 @@ module _ (later : ForwardIsLater) (l : LooperFacts) (number_is : l.desk.looper �
         ∙ (λ i. bit (entry_is_of l.desk d.taken d.asked d.heard d.made d.noted n d.comes i && not (is i)))
 
     goes_adds : Goes Below n d.taken.item (was_sent_on d.noted.entry) d.made.reply d.served → TurnAdds (desk_list l turn) turn
-    goes_adds (on is none served) =
+    goes_adds (on is none served wrote) =
         add_so Below n (bit (owes n d.taken.item.duty)) 0 (sent_on_in n (desk_list l turn)) (kept_in n (desk_list l turn)) turn
         (sym (sent_so true is ∙ on_bit (owes n d.taken.item.duty))) (sym (kept_so true is ∙ off_bit (owes n d.taken.item.duty)))
         (parts_add (bit (owes n d.taken.item.duty)) 0 served

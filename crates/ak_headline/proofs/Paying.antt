@@ -154,7 +154,7 @@ module _ (P : ℕ → List ℕ → Type 0) (l : LooperFacts) (so_far : List Step
       ∙ short_left (s.text ++ s.closing ++ s.paying) s.late (short_left (s.text ++ s.closing) s.paying (short_left s.text s.closing e))
 
 goes_few : (n : ℕ) (item : ItemData) (b : Bool) (reply : Option MessageData) (served : List Step) → Goes (λ _. ⊥) n item b reply served → how_many (at_slot (fills n)) served ≤ 0
-goes_few n item b reply served (on e none adds) = adds.most
+goes_few n item b reply served (on e none adds wrote) = adds.most
 goes_few n item b reply served (stays e some adds) = adds.most
 
 -- ---- turn after turn
@@ -204,7 +204,7 @@ module _ (l : LooperFacts) (desk : List EntryData) (short : Bool) where
         }
 
     settled_fills : Goes (λ _. ⊥) 0 d.taken.item (was_sent_on d.noted.entry) d.made.reply d.served → FillsSo ForDispatch d.settled
-    settled_fills (on is none adds) =
+    settled_fills (on is none adds wrote) =
         uncounted ForDispatch d.settled (λ n. (settles_none (λ _. ⊥) n l before_it d.taken.item.duty d.made.reply d.settled d.settles none).most)
     settled_fills (stays is some adds) = settles_fill ForDispatch l before_it d.taken.item.duty d.made.reply d.settled d.settles some (paid_for is some)
 
