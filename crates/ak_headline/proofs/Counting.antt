@@ -112,7 +112,7 @@ module _ (n : ℕ) (xs ys : List Step) where
   abbrev IsAsked : List Step → Type 0
   IsAsked steps = (looper : ℕ) × (x : Noted PortEntry) × HasAsk n looper x steps
 
-  asked_both : (1 ≤ how_many (at_slot (takes n)) xs → IsAsked xs) → (1 ≤ how_many (at_slot (takes n)) ys → IsAsked ys) → 1 ≤ how_many (at_slot (takes n)) (xs ++ ys) → IsAsked (xs ++ ys)
+  pub asked_both : (1 ≤ how_many (at_slot (takes n)) xs → IsAsked xs) → (1 ≤ how_many (at_slot (takes n)) ys → IsAsked ys) → 1 ≤ how_many (at_slot (takes n)) (xs ++ ys) → IsAsked (xs ++ ys)
   asked_both a b some =
       ⊎_elim (λ (first : 0 < how_many (at_slot (takes n)) xs). let it = a (omega (arith, first)) in (it.0, it.1, ask_left n it.0 it.1 xs ys it.2))
       (λ (none : how_many (at_slot (takes n)) xs ≤ 0).

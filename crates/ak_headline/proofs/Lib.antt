@@ -15,6 +15,7 @@ pub mod OwnWants
 pub mod Paying
 pub mod Replies
 pub mod Resting
+pub mod SendsTold
 pub mod SentOn
 pub mod Shares
 pub mod Sums

@@ -56,7 +56,7 @@ module _ (n : ℕ) where
   act_adds steps (enters_roster noted may is) = add_roster NoLooper n noted steps is
   act_adds steps (finds_gone seen is) = one_step (saw_roster seen) steps is (add_counted NoLooper n (saw_roster seen ∷ []) 0 0 (count_one n (saw_roster seen)) (omega arith))
 
-  diary_adds : (steps : List Step) → IsMainDiary steps → Adds NoLooper n 0 0 steps
+  pub diary_adds : (steps : List Step) → IsMainDiary steps → Adds NoLooper n 0 0 steps
   diary_adds _ begun = add_none NoLooper n
   diary_adds _ (went_on so_far act works does) = add_both NoLooper n 0 0 0 0 so_far act (diary_adds so_far works) (act_adds act does)
 
