@@ -1,5 +1,6 @@
 -- An ask among the steps of a diary, and writes that are counted.
 use Rattle.std.proofs.Common.{◌≡◌, ◌⊎◌, ℕ, zero, suc, ◌+◌, ◌<◌, ◌≤◌, ◌==◌, Bool, true, false, cond, List, [], ◌∷◌, ◌++◌, length, Contains, Some, slice_get, refl, sym, ap, ◌∙◌, subst, append_assoc, arith, eq-eqb, eqb-true}
+use Rattle.std.proofs.lemmas.Bool.{false≢true}
 use Rattle.std.proofs.lemmas.Grind.{flat_map-append}
 use Rattle.std.proofs.lemmas.List.Elements.{Contains-append_cases, Contains-append_left, Contains-append_right}
 use Rattle.std.proofs.lemmas.Option.{slice_get-get_or}
@@ -42,6 +43,14 @@ module _ {X : Type 0} where
   pub only_if : (b : Bool) (y x : X) → Contains (cond b (y ∷ []) [] ++ []) x → (b ≡ true) × (y ≡ x)
   only_if true y x w = (refl, only_in y x w)
   only_if false y x w = absurd (none_in x w)
+
+  pub first_if : (b : Bool) (x : X) (xs : List X) → b ≡ true → Contains (cond b (x ∷ xs) xs) x
+  first_if true x xs is = first_in x xs
+  first_if false x xs is = absurd (false≢true is)
+
+  pub later_if : (b : Bool) (x : X) (xs : List X) (y : X) → Contains xs y → Contains (cond b (x ∷ xs) xs) y
+  later_if true x xs y there = later_in x xs y there
+  later_if false x xs y there = there
 
 -- at a port, in two parts
 pub port_cases : (looper : ℕ) (xs ys : List Step) (x : Noted PortEntry) → Contains (port_entries looper (xs ++ ys)) x → Contains (port_entries looper xs) x ⊎ Contains (port_entries looper ys) x

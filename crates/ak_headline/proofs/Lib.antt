@@ -1,4 +1,5 @@
 pub mod Accounts
+pub mod Asked
 pub mod Asking
 pub mod Counting
 pub mod Counts
@@ -15,6 +16,7 @@ pub mod OwnWants
 pub mod Paying
 pub mod Replies
 pub mod Resting
+pub mod Senders
 pub mod SendsTold
 pub mod SentOn
 pub mod Shares

@@ -20,6 +20,7 @@ use Rattle.ak_base.specs.declared.error.KitError.TheVariants as error
 use Rattle.ak_action.specs.declared.answer.AnswerWord.{AnswerWord}
 use Rattle.ak_action.specs.declared.answer.AnswerWord.TheVariants as word
 use Rattle.ak_action.specs.declared.state.DeskState.{DeskState}
+use Rattle.ak_desk.specs.declared.entry.DeskEvent.{DeskEvent}
 use Rattle.ak_desk.specs.declared.entry.DeskEvent.TheVariants as desk_event
 use Rattle.ak_desk.specs.declared.entry.EntryRoute.{EntryRoute}
 use Rattle.ak_desk.specs.declared.entry.EntryRoute.TheVariants as went
@@ -36,6 +37,7 @@ use Rattle.ak_headline.specs.Run.{HasLooper, desk_list, port_list}
 use Rattle.ak_headline.specs.Diaries.{LoopersPay}
 use Rattle.ak_headline.specs.Tally.{PaidForDispatch, PaidForLeft, owes_entry, owes_event, sent_on_event, was_sent_on}
 use Rattle.ak_headline.proofs.Resting.{RestsAt}
+use Rattle.ak_headline.proofs.Senders.{parted_at, parted_in}
 use Rattle.ak_headline.proofs.Written.{DispatchedAt, dispatched_at, get_parts, get_second, position_is}
 
 -- a slot was filled with that text, which is the reply to an item that came to rest there
@@ -45,6 +47,23 @@ pub record IsPaid (h : Histories) (short : List ℕ) (n k : ℕ) (left : List Ta
   pub accepted : IsAccepted h n k position item
   pub by_rule : IsAnswerTo h short k position item text
   pub rests : RestsAt n (desk_list h k) left position
+
+-- the entry dispatched an item that its port had accepted, and sent it on
+pub record IsOff (h : Histories) (n k : ℕ) (entry : EntryData) : Type 0 where
+  pub position : ℕ
+  pub item : ItemData
+  pub item_is : entry.item ≡ Some item
+  pub accepted : IsAccepted h n k position item
+  pub was : WasSentOn h k position item
+
+-- an entry sent the item at that position on
+pub record HasGone (h : Histories) (n k at : ℕ) (other : ItemData) : Type 0 where
+  pub entry : EntryData
+  pub there : Contains (desk_list h k) entry
+  pub owed : owes_entry n entry ≡ true
+  pub sent_on : was_sent_on entry ≡ true
+  pub item_is : entry.item ≡ Some other
+  pub was : WasSentOn h k at other
 
 -- ---- words
 is_slot : (n : ℕ) (d : Duty) → owes n d ≡ true → d ≡ duty.Slot n
@@ -63,6 +82,17 @@ forward_form : (position : ℕ) (route : EntryRoute) (words : List AnswerWord) (
     → (looper : ℕ) × (route ≡ went.Forward looper) × (words ≡ word.Error error.Ok ∷ [])
 forward_form position (went.Forward looper) (word.Error error.Ok ∷ []) quit e = (looper, refl, refl)
 forward_form position route words quit e = absurd (cc e)
+
+record IsDispatchEvent (e : DeskEvent) : Type 0 where
+  position : ℕ
+  route : EntryRoute
+  words : List AnswerWord
+  quit : Bool
+  is : e ≡ desk_event.Dispatched position route words quit
+
+sent_form : (e : DeskEvent) → sent_on_event e ≡ true → IsDispatchEvent e
+sent_form (desk_event.Dispatched position route words quit) e = record { position = position; route = route; words = words; quit = quit; is = refl }
+sent_form (desk_event.Edited edit answer) e = absurd (cc e)
 
 is_short : (short : List ℕ) (k : ℕ) → list_any (λ number. number == k) short ≡ true → Contains short k
 is_short short k e =
@@ -141,19 +171,26 @@ module _ (all : AcceptedIsDispatchedThenLeft) (law : EachIsDispatchedByRule) (on
           is_dispatch None (forwarded form.0 form.1 form.2)
 
     -- ---- what became of an accepted item
-    dispatched_one : (n at : ℕ) (other : ItemData) → IsAccepted h n k at other → DispatchedAt desk at (record { position = at; item = other }) → RestsAt n desk left at ⊎ WasSentOn h k at other
+    dispatched_one : (n at : ℕ) (other : ItemData) → IsAccepted h n k at other → DispatchedAt desk at (record { position = at; item = other }) → RestsAt n desk left at ⊎ HasGone h n k at other
     dispatched_one n at other is d =
         let its = so d.before d.entry d.behind d.there at d.route d.words d.quit d.event_is in
         let same : its.item ≡ other = same_item d.before d.entry d.behind d.there at d.route d.words d.quit d.event_is other d.item_is in
+        let owed : owes_entry n d.entry ≡ true = (λ i. owes_event n (d.event_is i) (d.item_is i)) ∙ slot_owes n other.duty is.owed in
         ⊎_elim
         (λ (sent : was_sent_on d.entry ≡ true).
-        inr (subst (λ (item : ItemData). IsDispatchOf h k at item None) same (was_forwarded d.before d.entry d.behind d.there at d.route d.words d.quit d.event_is sent)))
+        inr (record {
+          entry = d.entry;
+          there = parted_in desk d.entry d.before d.behind d.there;
+          owed = owed;
+          sent_on = sent;
+          item_is = d.item_is;
+          was = subst (λ (item : ItemData). IsDispatchOf h k at item None) same (was_forwarded d.before d.entry d.behind d.there at d.route d.words d.quit d.event_is sent);
+        }))
         (λ (kept : was_sent_on d.entry ≡ false).
-        let owed : owes_entry n d.entry ≡ true = (λ i. owes_event n (d.event_is i) (d.item_is i)) ∙ slot_owes n other.duty is.owed in
         inl (inl (record { before = d.before; entry = d.entry; behind = d.behind; there = d.there; keeps = λ i. owed i && not (kept i); position_is = its.position_is })))
         (either (was_sent_on d.entry))
 
-    pub became : (n at : ℕ) (other : ItemData) → IsAccepted h n k at other → RestsAt n desk left at ⊎ WasSentOn h k at other
+    pub became : (n at : ℕ) (other : ItemData) → IsAccepted h n k at other → RestsAt n desk left at ⊎ HasGone h n k at other
     became n at other is =
         let t : Taken = record { position = at; item = other } in
         let whole : slice_get (dispatched_items desk ++ left) at ≡ Some t = ap (λ l. slice_get l at) (sym accounted.accepted) ∙ is.accepted in
@@ -161,6 +198,20 @@ module _ (all : AcceptedIsDispatchedThenLeft) (law : EachIsDispatchedByRule) (on
         (λ (later : (j : ℕ) × (at ≡ length (dispatched_items desk) + j) × (slice_get left j ≡ Some t)).
         inl (inr (record { place = later.0; taken = t; there = later.2; owed = slot_owes n other.duty is.owed; position_is = refl })))
         (get_parts (dispatched_items desk) left at t whole)
+
+    -- ---- what was sent on
+    pub off : (n : ℕ) (entry : EntryData) → Contains desk entry → owes_entry n entry ≡ true → was_sent_on entry ≡ true → IsOff h n k entry
+    off n entry there owed sent =
+        let p = parted_at desk entry there in
+        let f = sent_form entry.plain.event sent in
+        let its = so p.before entry p.behind p.is f.position f.route f.words f.quit f.is in
+        record {
+          position = f.position;
+          item = its.item;
+          item_is = its.item_is;
+          accepted = record { accepted = its.accepted; owed = is_slot n its.item.duty (its_owed p.before entry p.behind p.is f.position f.route f.words f.quit f.is n owed) };
+          was = was_forwarded p.before entry p.behind p.is f.position f.route f.words f.quit f.is sent;
+        }
 
     -- ---- what it paid
     for_dispatch : (n : ℕ) (text : List ℕ) → PaidForDispatch l.desk n desk (ran_short has.steps) text → IsPaid h short n k left text

@@ -25,7 +25,7 @@ use Rattle.ak_headline.specs.Answers.{owes}
 use Rattle.ak_headline.specs.Diaries.{LoopersSendSo, MainAsksSo}
 use Rattle.ak_headline.specs.Sends.{HasAsk, SendsOn, SendsSo}
 use Rattle.ak_headline.specs.Tally.{at_slot, how_many, owes_entry, owing_in, sent_on_event, was_sent_on, writes_owing}
-use Rattle.ak_headline.proofs.Asking.{ask_left, ask_right, first_in, none_in, only_if, only_in, port_cases, port_here, port_left, port_right}
+use Rattle.ak_headline.proofs.Asking.{ask_left, ask_right, first_if, first_in, later_if, none_in, only_if, only_in, port_cases, port_here, port_left, port_right}
 use Rattle.ak_headline.proofs.Counting.{Adds, add_none, add_port, asked_both, bit, count_one}
 use Rattle.ak_headline.proofs.LoopersTold as told
 use Rattle.ak_headline.proofs.LoopersTold.{IsOwn, is_own, list_both, own_list}
@@ -37,14 +37,6 @@ use Rattle.ak_headline.proofs.SentOn.{Goes, WroteOn, comes_goes, entry_has_item,
 module _ {X : Type 0} (test : X → Bool) where
   pub kept_contains : (xs : List X) (x : X) → Contains (filter test xs) x → Contains xs x
   kept_contains xs x there = All-contains (Contains xs) (filter test xs) x (All-filter test (Contains xs) xs (All-contains_itself xs)) there
-
-  first_if : (b : Bool) (x : X) (xs : List X) → b ≡ true → Contains (cond b (x ∷ xs) xs) x
-  first_if true x xs is = first_in x xs
-  first_if false x xs is = absurd (false≢true is)
-
-  later_if : (b : Bool) (x : X) (xs : List X) (y : X) → Contains xs y → Contains (cond b (x ∷ xs) xs) y
-  later_if true x xs y there = Contains-append_right (x ∷ []) xs y there
-  later_if false x xs y there = there
 
   abbrev IsKept : List X → X → Type 0
   IsKept xs x = test x ≡ true → Contains (filter test xs) x
