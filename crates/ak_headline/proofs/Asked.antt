@@ -1,5 +1,5 @@
 -- Of the items that owe a slot one was asked, by the thread that opened the slot; each other one came from a looper that sent it on, and is the same message.
-use Rattle.std.proofs.Common.{◌≡◌, ◌⊎◌, ℕ, zero, suc, ◌+◌, ◌<◌, ◌≤◌, ◌==◌, Bool, true, false, cond, List, [], ◌∷◌, ◌++◌, length, filter, All, Contains, Some, slice_get, refl, sym, ap, ◌∙◌, subst, inl, inr, ⊎_elim, arith, eq-eqb, eqb-true}
+use Rattle.std.proofs.Common.{◌≡◌, ◌⊎◌, ℕ, zero, suc, ◌<◌, ◌≤◌, ◌==◌, Bool, true, false, cond, List, [], ◌∷◌, ◌++◌, length, filter, All, Contains, Some, slice_get, refl, sym, ap, ◌∙◌, subst, inl, inr, ⊎_elim, arith, eq-eqb, eqb-true}
 use Rattle.std.proofs.lemmas.List.Elements.{All-contains}
 use Rattle.ak_base.specs.Thread.{looper_thread, main_thread}
 use Rattle.ak_flatten.specs.declared.item.Duty.{Duty}
@@ -7,9 +7,8 @@ use Rattle.ak_flatten.specs.declared.item.Duty.TheVariants as duty
 use Rattle.ak_flatten.specs.declared.item.Taken.{Taken}
 use Rattle.ak_flatten.specs.Item.{ItemData}
 use Rattle.ak_turn.specs.Entries.{made_by}
-use Rattle.ak_turn.specs.Noted.{Noted, noted}
+use Rattle.ak_turn.specs.Noted.{Noted}
 use Rattle.ak_port.specs.declared.port_entry.PortEntry.{PortEntry}
-use Rattle.ak_port.specs.declared.port_entry.PortEvent.{PortEvent}
 use Rattle.ak_port.specs.declared.port_entry.PortEvent.TheVariants as event
 use Rattle.ak_port.specs.declared.reply_entry.ReplyEntry.{ReplyEntry}
 use Rattle.ak_port.specs.PortCalls as ports
@@ -26,7 +25,7 @@ use Rattle.ak_headline.specs.Sends.{HasAsk, SendsOn, SendsSo}
 use Rattle.ak_headline.specs.Tally.{at_slot, how_many, writes_owing}
 use Rattle.ak_headline.proofs.Accounts.{Account, IsToldBy}
 use Rattle.ak_headline.proofs.Asking.{ask_there, none_in}
-use Rattle.ak_headline.proofs.Counts.{filter_both, one_among, one_if}
+use Rattle.ak_headline.proofs.Counts.{filter_both, one_among}
 use Rattle.ak_headline.proofs.Replies.{HasGone}
 use Rattle.ak_headline.proofs.Senders.{ask_opens, accepted_there, noted_behind, noted_by, noted_there, one_ask, parted_in, writes_item, written_at}
 use Rattle.ak_headline.proofs.Shares.{made_is_noted, steps_at_book}

@@ -1,15 +1,13 @@
 -- An ask among the steps of a diary, and writes that are counted.
-use Rattle.std.proofs.Common.{◌≡◌, ◌⊎◌, ℕ, zero, suc, ◌+◌, ◌<◌, ◌≤◌, ◌==◌, Bool, true, false, cond, List, [], ◌∷◌, ◌++◌, length, Contains, Some, slice_get, refl, sym, ap, ◌∙◌, subst, append_assoc, arith, eq-eqb, eqb-true}
+use Rattle.std.proofs.Common.{◌≡◌, ◌⊎◌, ℕ, zero, suc, ◌≤◌, ◌==◌, Bool, true, false, cond, List, [], ◌∷◌, ◌++◌, Contains, Some, slice_get, refl, sym, ap, ◌∙◌, subst, append_assoc, arith, eq-eqb, eqb-true}
 use Rattle.std.proofs.lemmas.Bool.{false≢true}
 use Rattle.std.proofs.lemmas.Grind.{flat_map-append}
 use Rattle.std.proofs.lemmas.List.Elements.{Contains-append_cases, Contains-append_left, Contains-append_right}
 use Rattle.std.proofs.lemmas.Option.{slice_get-get_or}
 use Rattle.ak_message.specs.declared.address.Address.{Address}
-use Rattle.ak_flatten.specs.declared.item.Duty.TheVariants as duty
 use Rattle.ak_flatten.specs.Item.{ItemData}
 use Rattle.ak_turn.specs.Noted.{Noted}
 use Rattle.ak_port.specs.declared.port_entry.PortEntry.{PortEntry}
-use Rattle.ak_port.specs.declared.port_entry.PortEvent.TheVariants as event
 use Rattle.ak_port.specs.declared.reply_entry.ReplyEvent.TheVariants as slot
 use Rattle.ak_diary.specs.Step.{Step, at_book, at_port, port_entries, port_entry}
 use Rattle.ak_diary.specs.Wants.{Converses}

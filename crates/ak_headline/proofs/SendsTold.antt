@@ -1,13 +1,10 @@
 -- A diary, part by part: who wrote the items that owe a slot, by an ask, or to send on what was dispatched.
-use Rattle.std.proofs.Common.{◌≡◌, ◌⊎◌, ℕ, ◌+◌, ◌<◌, ◌≤◌, ◌==◌, Bool, true, false, cond, List, [], ◌∷◌, ◌++◌, Some, All, Contains, filter, refl, sym, ap, ◌∙◌, subst, inl, inr, ⊎_elim, arith, append-nil, eqb-true}
+use Rattle.std.proofs.Common.{◌≡◌, ◌⊎◌, ℕ, ◌<◌, ◌≤◌, ◌==◌, Bool, true, false, List, [], ◌∷◌, ◌++◌, All, Contains, filter, refl, sym, ap, ◌∙◌, subst, inl, inr, ⊎_elim, arith, append-nil, eqb-true}
 use Rattle.std.proofs.lemmas.Bool.{cases_lt, false≢true}
 use Rattle.std.proofs.lemmas.List.Elements.{All-cons, All-contains, All-contains_itself, All-filter, All-nil, All-weaker, Contains-append_cases, Contains-append_left, Contains-append_right}
 use Rattle.ak_base.specs.Thread.{looper_thread}
-use Rattle.ak_turn.specs.Entries.{made_by}
 use Rattle.ak_turn.specs.Noted.{Noted}
 use Rattle.ak_port.specs.declared.port_entry.PortEntry.{PortEntry}
-use Rattle.ak_port.specs.declared.port_entry.PortEvent.TheVariants as port_event
-use Rattle.ak_port.specs.Reply.{takes}
 use Rattle.ak_route.specs.Laws.{ForwardIsLater, ResolvingOnlyPops}
 use Rattle.ak_action.specs.declared.state.DeskState.{DeskState}
 use Rattle.ak_desk.specs.declared.entry.DeskEvent.{DeskEvent}
@@ -16,15 +13,14 @@ use Rattle.ak_desk.specs.Entry.{EntryData}
 use Rattle.ak_desk.specs.Machine.{Replays, counted}
 use Rattle.ak_desk.specs.Shared.{by_number}
 use Rattle.ak_diary.specs.Diary.{Works, begun, went_on}
-use Rattle.ak_diary.specs.Laws.{HasDiary, left_in}
+use Rattle.ak_diary.specs.Laws.{left_in}
 use Rattle.ak_diary.specs.Looper.{LooperFacts, desk_list}
 use Rattle.ak_diary.specs.Step.{Step, at_port, port_entries}
-use Rattle.ak_diary.specs.Turns.{IsDispatch, IsTake, left_at}
-use Rattle.ak_diary.specs.Wants.{forwarded_item}
+use Rattle.ak_diary.specs.Turns.{IsDispatch, IsTake}
 use Rattle.ak_headline.specs.Answers.{owes}
 use Rattle.ak_headline.specs.Diaries.{LoopersSendSo, MainAsksSo}
 use Rattle.ak_headline.specs.Sends.{HasAsk, SendsOn, SendsSo}
-use Rattle.ak_headline.specs.Tally.{at_slot, how_many, owes_entry, owing_in, sent_on_event, was_sent_on, writes_owing}
+use Rattle.ak_headline.specs.Tally.{owes_entry, owing_in, sent_on_event, was_sent_on, writes_owing}
 use Rattle.ak_headline.proofs.Asking.{ask_left, ask_right, first_if, first_in, later_if, none_in, only_if, only_in, port_cases, port_here, port_left, port_right}
 use Rattle.ak_headline.proofs.Counting.{Adds, add_none, add_port, asked_both, bit, count_one}
 use Rattle.ak_headline.proofs.LoopersTold as told

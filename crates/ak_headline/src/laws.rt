@@ -2,7 +2,9 @@
 
 ghost use Rattle.ak_headline.specs.Headline as headline;
 
-use crate::tallies::{loopers_pay, loopers_send_so, loopers_send_up, loopers_tally, main_asks_so, main_tallies};
+use crate::tallies::{
+    loopers_pay, loopers_send_so, loopers_send_up, loopers_tally, main_asks_so, main_tallies,
+};
 
 /// The messages that each looper dispatched, followed by those that it left, are exactly what its port accepted, in
 /// order and each once.

@@ -9,4 +9,6 @@ mod laws;
 mod tallies;
 
 pub use laws::{each_waiting_send_got_one_reply, runs_are_accounted, runs_go_by_rule};
-pub use tallies::{loopers_pay, loopers_send_so, loopers_send_up, loopers_tally, main_asks_so, main_tallies};
+pub use tallies::{
+    loopers_pay, loopers_send_so, loopers_send_up, loopers_tally, main_asks_so, main_tallies,
+};
