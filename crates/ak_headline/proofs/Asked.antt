@@ -87,6 +87,7 @@ module _ (h : Histories) (short : List ℕ) (n : ℕ) (accounts : (k : ℕ) → 
         sent = record {
           up = so.up;
           sent_on = gone.was;
+          to_it = gone.to_it w.0 so.to_it;
           popped = so.popped;
           more = subst (λ (i : ItemData). i.popped ≤ so.popped) same so.more;
           item_is = ap (λ (i : ItemData). forwarded_item i so.popped) same;
@@ -167,6 +168,7 @@ module _ (h : Histories) (short : List ℕ) (n : ℕ) (accounts : (k : ℕ) → 
           sent = record {
             up = so.up;
             sent_on = off.was;
+            to_it = off.to_it number so.to_it;
             popped = so.popped;
             more = subst (λ (i : ItemData). i.popped ≤ so.popped) same so.more;
             item_is = is ∙ ap (λ (i : ItemData). forwarded_item i so.popped) same;

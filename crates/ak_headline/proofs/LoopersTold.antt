@@ -178,7 +178,7 @@ module _ (later : ForwardIsLater) (l : LooperFacts) (number_is : l.desk.looper �
         ap (kept_in n) entry_alone ∙ many_one (λ (x : EntryData). owes_entry n x && not (was_sent_on x)) d.noted.entry
         ∙ (λ i. bit (entry_is_of l.desk d.taken d.asked d.heard d.made d.noted n d.comes i && not (is i)))
 
-    goes_adds : Goes Below n d.taken.item (was_sent_on d.noted.entry) d.made.reply d.served → TurnAdds (desk_list l turn) turn
+    goes_adds : Goes Below n d.taken.item d.noted.entry.plain.event d.made.reply d.served → TurnAdds (desk_list l turn) turn
     goes_adds (on is none served wrote) =
         add_so Below n (bit (owes n d.taken.item.duty)) 0 (sent_on_in n (desk_list l turn)) (kept_in n (desk_list l turn)) turn
         (sym (sent_so true is ∙ on_bit (owes n d.taken.item.duty))) (sym (kept_so true is ∙ off_bit (owes n d.taken.item.duty)))

@@ -149,10 +149,11 @@ module _ (later : ForwardIsLater) (law : ResolvingOnlyPops) (l : LooperFacts) (n
     its_owed : owes_entry n entry ≡ owes n d.taken.item.duty
     its_owed = entry_is_of l.desk d.taken d.asked d.heard d.made d.noted n d.comes
 
-    on_so : (w : WroteOn Below n d.taken.item d.served) → was_sent_on entry ≡ true → owes_entry n entry ≡ true → SendsOn n l.number entry w.looper w.x
+    on_so : (w : WroteOn Below n d.taken.item entry.plain.event d.served) → was_sent_on entry ≡ true → owes_entry n entry ≡ true → SendsOn n l.number entry w.looper w.x
     on_so w is owed = record {
       owed = owed;
       sent_on = is;
+      to_it = w.to_it;
       item = d.taken.item;
       item_is = entry_has_item l.desk d.taken d.asked d.heard d.made d.noted d.comes;
       popped = w.popped;
@@ -162,7 +163,7 @@ module _ (later : ForwardIsLater) (law : ResolvingOnlyPops) (l : LooperFacts) (n
       up = ⊎_elim (λ (lt : l.number < w.looper). lt) (λ (below : w.looper ≤ l.number). absurd (w.above below)) (cases_lt l.number w.looper);
     }
 
-    served_on : WroteOn Below n d.taken.item d.served → was_sent_on entry ≡ true → Sends (entry ∷ []) d.served
+    served_on : WroteOn Below n d.taken.item entry.plain.event d.served → was_sent_on entry ≡ true → Sends (entry ∷ []) d.served
     served_on w is =
         let same_owed : owes_entry n entry ≡ writes_owing n w.x.entry.event = its_owed ∙ sym (ap (writes_owing n) w.written_is) in
         sends_as n l.number (entry ∷ []) (entry ∷ []) (w.door ++ at_port w.looper w.x ∷ []) d.served refl w.is
@@ -174,7 +175,7 @@ module _ (later : ForwardIsLater) (law : ResolvingOnlyPops) (l : LooperFacts) (n
         sends_as n l.number (entry ∷ []) (entry ∷ []) (d.served ++ middle ++ d.settled) turn refl d.is
         (sends_both n l.number (entry ∷ []) [] (d.served ++ middle) d.settled (sends_both n l.number (entry ∷ []) [] d.served middle served middle_sends) settled)
 
-    goes_sends : Goes Below n d.taken.item (was_sent_on entry) d.made.reply d.served → Sends (entry ∷ []) turn
+    goes_sends : Goes Below n d.taken.item entry.plain.event d.made.reply d.served → Sends (entry ∷ []) turn
     goes_sends (on is none served wrote) =
         parts_send (served_on wrote is)
         (sends_nothing n l.number Below 0 d.settled (settles_none Below n l (so_far ++ d.served ++ middle) d.taken.item.duty d.made.reply d.settled d.settles none))

@@ -17,6 +17,7 @@ use Rattle.ak_action.specs.declared.answer.AnswerWord.{AnswerWord}
 use Rattle.ak_action.specs.declared.state.DeskState.{DeskState}
 use Rattle.ak_desk.specs.declared.entry.DeskEvent.TheVariants as desk_event
 use Rattle.ak_desk.specs.declared.entry.EntryRoute.{EntryRoute}
+use Rattle.ak_desk.specs.declared.entry.EntryRoute.TheVariants as went
 use Rattle.ak_desk.specs.Desk.{DeskData}
 use Rattle.ak_desk.specs.Dispatch.{fitting}
 use Rattle.ak_desk.specs.Entry.{EntryData}
@@ -75,6 +76,7 @@ pub record WasWrittenBy (h : Histories) (looper position : ℕ) (item : ItemData
 pub record WasSentAs (h : Histories) (sender place : ℕ) (given : ItemData) (looper position : ℕ) (item : ItemData) : Type 0 where
   pub up : sender < looper
   pub sent_on : WasSentOn h sender place given
+  pub to_it : sent_on.route ≡ went.Forward looper
   pub popped : ℕ
   pub more : given.popped ≤ popped
   pub item_is : item ≡ forwarded_item given popped

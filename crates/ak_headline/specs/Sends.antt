@@ -1,5 +1,5 @@
 -- Who wrote the items that owe a slot: each was asked, or sent on from another.
-use Rattle.std.specs.Prelude.{◌≡◌, ◌<◌, ◌≤◌, ◌⊎◌, ℕ, true, List, ◌∷◌, ◌++◌, Contains, Some}
+use Rattle.std.specs.Prelude.{◌≡◌, ◌<◌, ◌≤◌, ◌⊎◌, ℕ, true, List, ◌∷◌, ◌++◌, Contains, Option, None, Some}
 use Rattle.ak_flatten.specs.Item.{ItemData}
 use Rattle.ak_turn.specs.Noted.{Noted}
 use Rattle.ak_port.specs.declared.port_entry.PortEntry.{PortEntry}
@@ -7,6 +7,9 @@ use Rattle.ak_port.specs.declared.port_entry.PortEvent.TheVariants as event
 use Rattle.ak_port.specs.declared.reply_entry.ReplyEntry.{ReplyEntry}
 use Rattle.ak_port.specs.declared.reply_entry.ReplyEvent.TheVariants as slot
 use Rattle.ak_port.specs.Reply.{takes}
+use Rattle.ak_desk.specs.declared.entry.DeskEvent.{DeskEvent}
+use Rattle.ak_desk.specs.declared.entry.DeskEvent.TheVariants as desk_event
+use Rattle.ak_desk.specs.declared.entry.EntryRoute.TheVariants as went
 use Rattle.ak_desk.specs.Entry.{EntryData}
 use Rattle.ak_diary.specs.Step.{Step, at_book, at_port, port_entries}
 use Rattle.ak_diary.specs.Wants.{forwarded_item}
@@ -23,11 +26,17 @@ pub record HasAsk (n looper : ℕ) (x : Noted PortEntry) (steps : List Step) : T
   pub owed : writes_owing n x.entry.event ≡ true
   pub taken_is : taken.entry.event ≡ slot.Taken n
 
+-- the looper to which a dispatch sent its message
+abbrev pub sent_to : DeskEvent → Option ℕ
+sent_to (desk_event.Dispatched position (went.Forward looper) words quit) = Some looper
+sent_to _ = None
+
 -- That write, at the port of a looper of a greater number, sends on the item of that dispatch: it is the same but for its target, and with
 -- as many of its specifiers popped or more
 pub record SendsOn (n number : ℕ) (entry : EntryData) (looper : ℕ) (x : Noted PortEntry) : Type 0 where
   pub owed : owes_entry n entry ≡ true
   pub sent_on : was_sent_on entry ≡ true
+  pub to_it : sent_to entry.plain.event ≡ Some looper
   pub item : ItemData
   pub item_is : entry.item ≡ Some item
   pub popped : ℕ
