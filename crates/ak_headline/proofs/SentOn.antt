@@ -89,7 +89,7 @@ module _ (Below : ℕ → Type 0) (n : ℕ) where
 
     forward_goes : (looper popped position : ℕ) (quit : Bool) (a : Answer) (served : List Step) → (Below looper → ⊥) → (ResolvingOnlyPops → item.popped ≤ popped) → ThroughDoor l so_far looper a (ForwardsSo looper (forwarded_item item popped) a) served
         → Goes item (desk_event.Dispatched position (went.Forward looper) (word.Error (error_of a) ∷ []) quit) (forward_reply a) served
-    forward_goes looper popped position quit (answer.Written at) served apart more d = on refl refl (on_through looper popped at served apart d) 
+    forward_goes looper popped position quit (answer.Written at) served apart more d = on refl refl (on_through looper popped at served apart d)
         (wrote_on (desk_event.Dispatched position (went.Forward looper) (word.Error error.Ok ∷ []) quit) looper popped at served refl apart more d)
     forward_goes looper popped position quit answer.Closed served apart more d =
         stays refl (record { message = _; is = refl }) (add_through Below n l so_far looper (EntersPort looper event.Refused) served (λ rest p. add_enters Below n looper event.Refused rest refl p) d)

@@ -31,7 +31,8 @@ fn tallies_tell_replies()
     ak_desk::an_entry_tells_its_reply();
 }
 
-/// Each accepted waiting send got one reply, the one that the rules make for it.
+/// Each accepted waiting send got one reply, the one that the rules make for it, by the looper to which it came last; it
+/// took the reply who had asked, and each looper on the way got the message that was asked.
 pub fn each_waiting_send_got_one_reply()
     ensures { headline.RunsAnswer }
 {
