@@ -1,5 +1,5 @@
 -- What each thread's diary tells of a slot, and all of them together: the sums over main and all loopers.
-use Rattle.std.proofs.Common.{◌≡◌, ◌≢◌, ◌⊎◌, ℕ, zero, suc, ◌+◌, ◌<◌, ◌≤◌, ◌==◌, ◌&&◌, Bool, true, false, List, [], length, All, Any, Contains, option_map, slice_get, unwrap_or, refl, sym, ap, ◌∙◌, subst, inl, ⊎_elim, arith}
+use Rattle.std.proofs.Common.{◌≡◌, ◌≢◌, ◌⊎◌, ℕ, zero, suc, ◌+◌, ◌<◌, ◌≤◌, ◌==◌, ◌&&◌, Bool, true, false, List, [], length, All, Any, Contains, option_map, slice_get, unwrap_or, refl, sym, ap, ◌∙◌, subst, inl, inr, ⊎_elim, arith}
 use Rattle.std.proofs.lemmas.Bool.{cases_lt}
 use Rattle.std.proofs.lemmas.List.Elements.{All-nil, All-weaker}
 use Rattle.std.proofs.lemmas.Option.{slice_get_past}
@@ -15,20 +15,24 @@ use Rattle.ak_port.specs.declared.reply_entry.ReplyEvent.{ReplyEvent}
 use Rattle.ak_port.specs.declared.reply_entry.ReplyEvent.TheVariants as slot
 use Rattle.ak_port.specs.PortCalls as ports
 use Rattle.ak_port.specs.PortCalls.{PortData}
-use Rattle.ak_port.specs.PortMachine.{written_in}
+use Rattle.ak_port.specs.PortMachine.{AreSteps, unmade, written_in}
 use Rattle.ak_port.specs.Reply.{IsLegal, IsSettled, fills, takes}
 use Rattle.ak_port.specs.ReplySeats as books
 use Rattle.ak_desk.specs.Desk.{DeskData}
 use Rattle.ak_desk.specs.Entry.{EntryData}
 use Rattle.ak_diary.specs.declared.histories.Histories.{Histories}
 use Rattle.ak_diary.specs.Step.{Step, at_roster, at_book, at_port, at_desk, saw_roster, saw_book, saw_port, lacked, book_entries, book_sights, port_entries}
-use Rattle.ak_headline.specs.Answers.{IsAccepted, WasSentOn, cancels, opens}
+use Rattle.ak_headline.specs.Answers.{IsAccepted, cancels, opens}
 use Rattle.ak_headline.specs.Run.{IsOfRun, desk_list, port_list}
-use Rattle.ak_headline.specs.Tally.{SendsUp, Tally, at_slot, how_many, kept_in, owing_in, sends, sends_to, sent_on_in, writes_owing}
+use Rattle.ak_headline.specs.Sends.{SendsSo}
+use Rattle.ak_headline.specs.Tally.{SendsUp, Tally, at_slot, how_many, kept_in, owes_entry, owing_in, sends, sends_to, sent_on_in, was_sent_on, writes_owing}
+use Rattle.ak_headline.proofs.Asking.{none_in}
+use Rattle.ak_headline.proofs.Counting.{add_none}
 use Rattle.ak_headline.proofs.Counts.{how_many_most, one_if}
 use Rattle.ak_headline.proofs.Once.{opened_once, settled_counts}
-use Rattle.ak_headline.proofs.Replies.{IsPaid}
+use Rattle.ak_headline.proofs.Replies.{HasGone, IsOff, IsPaid}
 use Rattle.ak_headline.proofs.Resting.{RestsAt}
+use Rattle.ak_headline.proofs.SendsTold.{sends_nothing}
 use Rattle.ak_headline.proofs.Shares.{made_is_noted, made_so, parted, steps_at_book, steps_at_port, steps_at_ports}
 use Rattle.ak_headline.proofs.Sums.{total, total_most, total_none, total_one, total_same, total_some, total_sum, total_swap, total_two}
 
@@ -50,7 +54,10 @@ pub record Account (h : Histories) (short : List ℕ) (n k : ℕ) : Type 0 where
   pub tally : Tally n (desk_list h k) left steps
   pub accepted : writes_at h n k ≡ sent_on_in n (desk_list h k) + (kept_in n (desk_list h k) + owing_in n left)
   pub up : SendsUp n k (desk_list h k) steps
-  pub became : (at : ℕ) (other : ItemData) → IsAccepted h n k at other → RestsAt n (desk_list h k) left at ⊎ WasSentOn h k at other
+  pub sends : SendsSo n k (desk_list h k) steps
+  pub off : (entry : EntryData) → Contains (desk_list h k) entry → owes_entry n entry ≡ true → was_sent_on entry ≡ true → IsOff h n k entry
+  pub legal : (taker : ℕ) × AreSteps taker unmade (port_list h k)
+  pub became : (at : ℕ) (other : ItemData) → IsAccepted h n k at other → RestsAt n (desk_list h k) left at ⊎ HasGone h n k at other
   pub paid : (text : List ℕ) (x : Noted ReplyEntry) → Contains (book_entries steps) x → x.entry.event ≡ slot.Filled n text → IsPaid h short n k left text
 
 -- ---- what all of them come to
@@ -115,6 +122,9 @@ module _ (h : Histories) (k : ℕ) (none : length h.ports.items ≤ k) where
         ap (how_many (λ (entry : PortEntry). writes_owing n entry.event)) no_port
         ∙ ap (λ (desk : List EntryData). sent_on_in n desk + (kept_in n desk + owing_in n [])) (sym (no_desk each));
     up = λ looper least none_taken. refl;
+    sends = subst (λ (desk : List EntryData). SendsSo n k desk []) (sym (no_desk each)) (sends_nothing n k (λ looper. ⊥) 0 [] (add_none (λ looper. ⊥) n));
+    off = λ entry there owed sent_on. absurd (none_in entry (subst (λ (desk : List EntryData). Contains desk entry) (no_desk each) there));
+    legal = (0, subst (AreSteps 0 unmade) (sym no_port) tt);
     became = λ at other is. let at_none = ap (λ (port : List PortEntry). slice_get (written_in port) at) (sym no_port) ∙ is.accepted in absurd (cc at_none);
     paid = λ text x there is. absurd (omega (arith, there.1));
   }
@@ -291,6 +301,14 @@ module _ (h : Histories) (short : List ℕ) (n : ℕ) (accounts : (k : ℕ) → 
     taken_one : in_book h (takes n) ≡ 1
     taken_one =
         omega (arith, book_total (takes n), main_tally.took, total_same (did (takes n)) asked (length h.ports.items) (λ k lt. (accounts k).tally.took), asked_one)
+
+    -- one thread took from it
+    pub who_took : (1 ≤ main_did (takes n)) ⊎ ((k : ℕ) × (1 ≤ did (takes n) k))
+    who_took =
+        ⊎_elim {C = (1 ≤ main_did (takes n)) ⊎ ((k : ℕ) × (1 ≤ did (takes n) k))} (λ (by_main : 0 < main_did (takes n)). inl (omega (arith, by_main)))
+        (λ (none : main_did (takes n) ≤ 0).
+        let at = total_some (did (takes n)) (length h.ports.items) (omega (arith, taken_one, book_total (takes n), none)) in
+        inr (at.0, at.2)) (cases_lt 0 (main_did (takes n)))
 
     -- who asked opened the slot, and took from it
     by_asker : (thread : ℕ) (steps : List Step) → IsToldBy h thread steps → (asks : ℕ) → 1 ≤ asks → asks + how_many (at_slot (cancels n)) steps ≤ how_many (at_slot (opens n)) steps

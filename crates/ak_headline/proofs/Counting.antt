@@ -1,6 +1,7 @@
 -- How often steps speak of a slot: it adds up, part by part.
-use Rattle.std.proofs.Common.{◌≡◌, ◌⊎◌, ℕ, ◌+◌, ◌≤◌, ◌==◌, Bool, true, false, cond, List, [], ◌∷◌, ◌++◌, length, refl, sym, ap, ◌∙◌, subst, inl, inr, arith, length-append, ne_eqb}
-use Rattle.std.specs.Prelude.{◌&&◌, Any, filter}
+use Rattle.std.proofs.Common.{◌≡◌, ◌⊎◌, ℕ, ◌+◌, ◌<◌, ◌≤◌, ◌==◌, Bool, true, false, cond, List, [], ◌∷◌, ◌++◌, length, refl, sym, ap, ◌∙◌, subst, inl, inr, ⊎_elim, arith, length-append, ne_eqb}
+use Rattle.std.specs.Prelude.{◌&&◌, Any, Contains, filter}
+use Rattle.std.proofs.lemmas.Bool.{cases_lt}
 use Rattle.std.proofs.lemmas.Grind.{flat_map-append}
 use Rattle.std.proofs.lemmas.List.Elements.{Contains-append_left, Contains-append_right, filter-append}
 use Rattle.ak_turn.specs.Noted.{Noted}
@@ -9,9 +10,11 @@ use Rattle.ak_port.specs.declared.port_entry.PortEvent.{PortEvent}
 use Rattle.ak_port.specs.declared.reply_entry.ReplyEntry.{ReplyEntry}
 use Rattle.ak_port.specs.declared.reply_entry.ReplyEvent.{ReplyEvent}
 use Rattle.ak_port.specs.Reply.{IsSettled, fills, takes}
-use Rattle.ak_diary.specs.Step.{Step, at_roster, at_book, at_port, at_desk, saw_roster, saw_book, saw_port, lacked, book_sight, book_sights}
+use Rattle.ak_diary.specs.Step.{Step, at_roster, at_book, at_port, at_desk, saw_roster, saw_book, saw_port, lacked, book_sight, book_sights, port_entries}
 use Rattle.ak_headline.specs.Answers.{cancels, opens}
+use Rattle.ak_headline.specs.Sends.{HasAsk}
 use Rattle.ak_headline.specs.Tally.{at_slot, how_many, sends, sends_to, writes_owing}
+use Rattle.ak_headline.proofs.Asking.{ask_left, ask_right, port_cases, wrote_counts}
 
 -- ---- numbers
 abbrev pub bit : Bool → ℕ
@@ -85,7 +88,7 @@ count_port n looper x e is = subst (λ (k : PortEvent). Counts n (at_port looper
 
 -- ---- what parts of a diary add
 -- Some asks, which took what they opened and wrote; so many items that owe the slot sent on, and none to the loopers below; and so many
--- fills that were due, each made or found to be settled
+-- fills that were due, each made or found to be settled. Where none was sent on, each item that owes the slot was asked
 pub record Adds (Below : ℕ → Type 0) (n sent due : ℕ) (steps : List Step) : Type 0 where
   pub asks : ℕ
   pub sent_are : how_many (sends n) steps ≡ asks + sent
@@ -94,6 +97,36 @@ pub record Adds (Below : ℕ → Type 0) (n sent due : ℕ) (steps : List Step) 
   pub most : how_many (at_slot (fills n)) steps ≤ due
   pub settled : (how_many (at_slot (fills n)) steps ≡ due) ⊎ Any (IsSettled n) (book_sights steps)
   pub up : (looper : ℕ) → Below looper → how_many (sends_to n looper) steps ≤ asks
+  pub wrote : (looper : ℕ) (x : Noted PortEntry) → Contains (port_entries looper steps) x → writes_owing n x.entry.event ≡ true → HasAsk n looper x steps ⊎ (1 ≤ sent)
+  pub asked : 1 ≤ how_many (at_slot (takes n)) steps → (looper : ℕ) × (x : Noted PortEntry) × HasAsk n looper x steps
+
+-- an item is among those that are counted
+pub wrote_some : (n sent : ℕ) (steps : List Step) → ((looper : ℕ) → how_many (sends_to n looper) steps ≤ sent)
+    → (looper : ℕ) (x : Noted PortEntry) → Contains (port_entries looper steps) x → writes_owing n x.entry.event ≡ true → HasAsk n looper x steps ⊎ (1 ≤ sent)
+wrote_some n sent steps to_one looper x there owed = inr (omega (arith, wrote_counts n looper steps x there owed, to_one looper))
+
+pub asked_none : (n : ℕ) (steps : List Step) → how_many (at_slot (takes n)) steps ≡ 0 → 1 ≤ how_many (at_slot (takes n)) steps → (looper : ℕ) × (x : Noted PortEntry) × HasAsk n looper x steps
+asked_none n steps none some = absurd (omega (arith, none, some))
+
+module _ (n : ℕ) (xs ys : List Step) where
+  abbrev IsAsked : List Step → Type 0
+  IsAsked steps = (looper : ℕ) × (x : Noted PortEntry) × HasAsk n looper x steps
+
+  pub asked_both : (1 ≤ how_many (at_slot (takes n)) xs → IsAsked xs) → (1 ≤ how_many (at_slot (takes n)) ys → IsAsked ys) → 1 ≤ how_many (at_slot (takes n)) (xs ++ ys) → IsAsked (xs ++ ys)
+  asked_both a b some =
+      ⊎_elim (λ (first : 0 < how_many (at_slot (takes n)) xs). let it = a (omega (arith, first)) in (it.0, it.1, ask_left n it.0 it.1 xs ys it.2))
+      (λ (none : how_many (at_slot (takes n)) xs ≤ 0).
+      let it = b (omega (arith, none, some, many_both (at_slot (takes n)) xs ys)) in
+      (it.0, it.1, ask_right n it.0 it.1 xs ys it.2)) (cases_lt 0 (how_many (at_slot (takes n)) xs))
+
+  module _ (sent sent' looper : ℕ) (x : Noted PortEntry) where
+    wrote_left : HasAsk n looper x xs ⊎ (1 ≤ sent) → HasAsk n looper x (xs ++ ys) ⊎ (1 ≤ sent + sent')
+    wrote_left (inl a) = inl (ask_left n looper x xs ys a)
+    wrote_left (inr some) = inr (omega (arith, some))
+
+    wrote_right : HasAsk n looper x ys ⊎ (1 ≤ sent') → HasAsk n looper x (xs ++ ys) ⊎ (1 ≤ sent + sent')
+    wrote_right (inl a) = inl (ask_right n looper x xs ys a)
+    wrote_right (inr some) = inr (omega (arith, some))
 
 -- one of either part
 pub any_left : {X : Type 0} (P : X → Type 0) (xs ys : List X) → Any P xs → Any P (xs ++ ys)
@@ -132,6 +165,10 @@ module _ (Below : ℕ → Type 0) (n : ℕ) where
     most = omega (arith, many_both (at_slot (fills n)) xs ys, a.most, b.most);
     settled = settled_both n xs ys due due' a.settled b.settled;
     up = λ looper below. omega (arith, many_both (sends_to n looper) xs ys, a.up looper below, b.up looper below);
+    wrote = λ looper x there owed.
+        ⊎_elim (λ (first : Contains (port_entries looper xs) x). wrote_left n xs ys sent sent' looper x (a.wrote looper x first owed))
+        (λ (second : Contains (port_entries looper ys) x). wrote_right n xs ys sent sent' looper x (b.wrote looper x second owed)) (port_cases looper xs ys x there);
+    asked = asked_both n xs ys a.asked b.asked;
   }
 
   -- steps that are those
@@ -142,20 +179,22 @@ module _ (Below : ℕ → Type 0) (n : ℕ) where
   pub add_so : (sent due sent' due' : ℕ) (steps : List Step) → sent ≡ sent' → due ≡ due' → Adds Below n sent due steps → Adds Below n sent' due' steps
   add_so sent due sent' due' steps same alike a = subst (λ (k : ℕ). Adds Below n sent' k steps) alike (subst (λ (k : ℕ). Adds Below n k due steps) same a)
 
-  -- steps that write so often, open as often or more, and take as often, and fill nothing
-  pub add_counted : (steps : List Step) (asks opened cancelled : ℕ) → Counts n steps asks opened cancelled asks 0 → asks + cancelled ≤ opened → Adds Below n 0 0 steps
-  add_counted steps asks opened cancelled c enough = record {
-    asks = asks;
+  -- steps that write nothing that owes the slot, take and fill nothing, and open as often as they cancel or more
+  pub add_counted : (steps : List Step) (opened cancelled : ℕ) → Counts n steps 0 opened cancelled 0 0 → cancelled ≤ opened → Adds Below n 0 0 steps
+  add_counted steps opened cancelled c enough = record {
+    asks = 0;
     sent_are = omega (arith, c.sent_are);
     opened = omega (arith, c.cancelled_are, c.opened_are, enough);
     took = c.took_are;
     most = omega (arith, c.filled_are);
     settled = inl c.filled_are;
     up = λ looper below. c.to_one looper;
+    wrote = wrote_some n 0 steps c.to_one;
+    asked = asked_none n steps c.took_are;
   }
 
   pub add_none : Adds Below n 0 0 []
-  add_none = add_counted [] 0 0 0 (count_none n) (omega arith)
+  add_none = add_counted [] 0 0 (count_none n) (omega arith)
 
   -- nothing is done
   pub add_empty : (steps : List Step) → steps ≡ [] → Adds Below n 0 0 steps
@@ -175,7 +214,7 @@ module _ (Below : ℕ → Type 0) (n : ℕ) where
   -- one entry at a port that writes nothing that owes the slot
   pub add_port : (looper : ℕ) (x : Noted PortEntry) → writes_owing n x.entry.event ≡ false → Adds Below n 0 0 (at_port looper x ∷ [])
   add_port looper x idle =
-      add_counted (at_port looper x ∷ []) 0 0 0
+      add_counted (at_port looper x ∷ []) 0 0
       (subst (λ (b : Bool). Counts n (at_port looper x ∷ []) (bit b) 0 0 0 0) idle (count_one n (at_port looper x))) (omega arith)
 
   -- one that writes an item which goes on to a looper that is not below
@@ -192,4 +231,6 @@ module _ (Below : ℕ → Type 0) (n : ℕ) where
         up = λ number below.
             let other : (looper == number) ≡ false = ne_eqb looper number (λ same. apart (subst Below (sym same) below)) in
             omega (arith, many_one (sends_to n number) (at_port looper x) ∙ ap (λ (b : Bool). bit (b && writes_owing n x.entry.event)) other);
+        wrote = wrote_some n (bit owing) (at_port looper x ∷ []) (λ number. omega (arith, c.to_one number, ap bit is));
+        asked = asked_none n (at_port looper x ∷ []) c.took_are;
       }

@@ -1,9 +1,17 @@
--- A looper's desk keeps the looper's number, and a message that is sent on goes to a looper of a greater one.
-use Rattle.std.proofs.Common.{◌≡◌, ℕ, ◌+◌, ◌<◌, Bool, true, false, cond, List, [], ◌∷◌, length, Option, None, Some, refl, sym, ap, ◌∙◌, arith, eqb-true}
+-- A looper's desk keeps the looper's number, and a message that is sent on goes to a looper of a greater one, with as many of its specifiers popped or more.
+use Rattle.std.proofs.Common.{◌≡◌, ℕ, ◌+◌, ◌<◌, ◌≤◌, Bool, true, false, cond, List, [], ◌∷◌, length, Option, None, Some, refl, sym, ap, ◌∙◌, arith, eqb-true}
+use Rattle.ak_message.specs.declared.address.Target.{Target}
+use Rattle.ak_message.specs.Message.{MessageData}
 use Rattle.ak_flatten.specs.Item.{ItemData, message_of}
+use Rattle.ak_filter.specs.declared.filter.Filter.{Filter}
+use Rattle.ak_handler.specs.Handlers.{HandlersData}
+use Rattle.ak_property.specs.HandlerRow.{RowData}
 use Rattle.ak_route.specs.declared.outcome.Route.TheVariants as route
-use Rattle.ak_route.specs.Handlers.{handlers_seen}
-use Rattle.ak_route.specs.Laws.{ForwardIsLater}
+use Rattle.ak_route.specs.Filtering.{Origin, Passing, passing_after, settle}
+use Rattle.ak_route.specs.Handlers.{first_target, handlers_seen}
+use Rattle.ak_route.specs.Laws.{ForwardIsLater, ResolvingOnlyPops}
+use Rattle.ak_route.specs.Resolving.{Destination, at_handler, at_looper, nowhere, resolve}
+use Rattle.ak_route.specs.Routing.{delivered, filtered, from_target}
 use Rattle.ak_action.specs.declared.answer.AnswerWord.{AnswerWord}
 use Rattle.ak_action.specs.declared.state.DeskState.{DeskState}
 use Rattle.ak_action.specs.Row.{row_data}
@@ -53,3 +61,25 @@ goes_up later s item i e =
     let far = later (handlers_seen row_data s.handlers) (loopers_of s) (record { local = is_local s item; dropped = item.dropped }) s.common (message_of item) item.target i e in
     let first = own_first s (is_own s) i refl far.1 in
     omega (arith, first, far.0)
+
+-- ---- what is popped
+module _ (s : HandlersData RowData) (loopers : List (List ℕ)) where
+  passing_pops : (m : MessageData) (p : Option Passing) → (delivered s loopers m p).message.popped ≡ m.popped
+  passing_pops m None = refl
+  passing_pops m (Some p) = refl
+
+  place_pops : (o : Origin) (common : List Filter) (m : MessageData) (place : Destination) → (filtered s loopers o common (record { place = place; message = m })).message.popped ≡ m.popped
+  place_pops o common m (at_handler token) = passing_pops m (passing_after (settle s o common (record { target = token; what = m.what })))
+  place_pops o common m (at_looper i) = refl
+  place_pops o common m nowhere = refl
+
+  target_pops : ResolvingOnlyPops → (o : Origin) (common : List Filter) (m : MessageData) (t : Target) (first : Option ℕ) → m.popped ≤ (from_target s loopers o common m t first).message.popped
+  target_pops law o common m t None = omega arith
+  target_pops law o common m t (Some first) =
+      let to = resolve s loopers m t first in
+      omega (arith, (law s loopers m t first).at_least, place_pops o common to.message to.place)
+
+pub pops_more : ResolvingOnlyPops → (s : DeskState) (item : ItemData) → item.popped ≤ (routed_of s item).message.popped
+pops_more law s item =
+    target_pops (handlers_seen row_data s.handlers) (loopers_of s) law (record { local = is_local s item; dropped = item.dropped }) s.common (message_of item) item.target
+    (first_target (handlers_seen row_data s.handlers) item.target)

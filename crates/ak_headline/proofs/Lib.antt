@@ -1,4 +1,6 @@
 pub mod Accounts
+pub mod Asked
+pub mod Asking
 pub mod Counting
 pub mod Counts
 pub mod Filling
@@ -14,6 +16,8 @@ pub mod OwnWants
 pub mod Paying
 pub mod Replies
 pub mod Resting
+pub mod Senders
+pub mod SendsTold
 pub mod SentOn
 pub mod Shares
 pub mod Sums

@@ -1,19 +1,15 @@
 -- The loopers of a run, one after another: their ports and desks, and what the diaries tell of them.
-use Rattle.std.proofs.Common.{◌≡◌, ℕ, zero, suc, ◌+◌, ◌<◌, List, [], ◌∷◌, ◌++◌, length, Some, option_map, slice_get, unwrap_or, refl, sym, ap, ◌∙◌, subst, arith}
+use Rattle.std.proofs.Common.{◌≡◌, ℕ, zero, suc, ◌+◌, List, [], ◌∷◌, length, Some, option_map, slice_get, unwrap_or, refl, sym, ap, ◌∙◌, subst, arith}
 use Rattle.std.proofs.lemmas.Option.{slice_get_within}
 use Rattle.ak_roster.specs.declared.head.AppHead.{AppHead}
 use Rattle.ak_port.specs.declared.port_entry.PortEntry.{PortEntry}
 use Rattle.ak_port.specs.PortCalls.{PortData}
-use Rattle.ak_action.specs.declared.answer.AnswerWord.{AnswerWord}
-use Rattle.ak_action.specs.declared.state.DeskState.{DeskState}
-use Rattle.ak_desk.specs.declared.entry.DeskEvent.TheVariants as desk_event
-use Rattle.ak_desk.specs.declared.entry.EntryRoute.{EntryRoute}
 use Rattle.ak_desk.specs.Desk.{DeskData}
 use Rattle.ak_desk.specs.Entry.{EntryData}
 use Rattle.ak_diary.specs.declared.histories.Histories.{Histories}
 use Rattle.ak_diary.specs.Laws.{AcceptedIsDispatchedThenLeft, EachIsDispatchedByRule, IsAccountedFor, IsDispatchedSo}
 use Rattle.ak_headline.specs.Headline.{Each, IsAccounted, IsByRule, RunsAreAccounted, RunsGoByRule}
-use Rattle.ak_headline.specs.Run.{HasLooper, IsRun, desk_list, port_list}
+use Rattle.ak_headline.specs.Run.{HasLooper, desk_list, port_list}
 
 -- what holds of the port and the desk at each place holds of each
 module _ (P : ℕ → PortData → DeskData → Type 0) where

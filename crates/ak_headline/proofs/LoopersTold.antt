@@ -48,7 +48,7 @@ middle_enters looper x true = own_step looper x []
 middle_enters looper x false = own_step looper x []
 
 module _ (l : LooperFacts) (so_far turn : List Step) (d : IsDispatch l so_far turn) where
-  abbrev middle : List Step
+  abbrev pub middle : List Step
   middle = at_desk l.number d.noted ∷ lacked_if d.made.no_memory
 
   -- a dispatch makes one entry there
@@ -95,11 +95,11 @@ module _ (l : LooperFacts) (steps : List Step) (port : List PortEntry) (desk : L
 
 -- ---- counted
 -- an entry that has to be among the looper's own
-abbrev IsOwn : DeskEvent → Bool → Type 0
+abbrev pub IsOwn : DeskEvent → Bool → Type 0
 IsOwn (event.Dispatched position r words quit) b = b ≡ true
 IsOwn (event.Edited edit answer) b = Unit {0}
 
-is_own : (looper by : ℕ) (e : DeskEvent) → IsBy looper by e → IsOwn e (by == looper_thread looper)
+pub is_own : (looper by : ℕ) (e : DeskEvent) → IsBy looper by e → IsOwn e (by == looper_thread looper)
 is_own looper by (event.Dispatched position r words quit) own = eq-eqb by (looper_thread looper) own
 is_own looper by (event.Edited edit answer) own = tt
 
@@ -140,7 +140,7 @@ module _ (later : ForwardIsLater) (l : LooperFacts) (number_is : l.desk.looper �
   abbrev TurnAdds : List EntryData → List Step → Type 0
   TurnAdds entries steps = Adds Below n (sent_on_in n entries) (kept_in n entries) steps
 
-  sent_later : (taken : Taken) (x : Noted EntryData) (s : DeskState) (i : ℕ) → IsHistory l.desk x.before s → (routed_of s taken.item).route ≡ route.Forward i → s.first + i ≤ l.number → ⊥
+  pub sent_later : (taken : Taken) (x : Noted EntryData) (s : DeskState) (i : ℕ) → IsHistory l.desk x.before s → (routed_of s taken.item).route ≡ route.Forward i → s.first + i ≤ l.number → ⊥
   sent_later taken x s i history e below =
       let same = number_stays l.desk.looper 0 l.desk x.before s history.replays in
       let far = goes_up later s taken.item i e in
@@ -151,14 +151,14 @@ module _ (later : ForwardIsLater) (l : LooperFacts) (number_is : l.desk.looper �
       subst (λ (k : List Step). TurnAdds (desk_list l k) k) (sym t.is) (add_port Below n l.number t.noted (ap (writes_owing n) t.event_is))
 
   module _ (so_far turn : List Step) (d : IsDispatch l so_far turn) where
-    entry_alone : desk_list l turn ≡ d.noted.entry ∷ []
+    pub entry_alone : desk_list l turn ≡ d.noted.entry ∷ []
     entry_alone = ap (map entry_of) (turn_enters l so_far turn d)
 
-    middle_adds : (b : Bool) → Adds Below n 0 0 (at_desk l.number d.noted ∷ lacked_if b)
+    pub middle_adds : (b : Bool) → Adds Below n 0 0 (at_desk l.number d.noted ∷ lacked_if b)
     middle_adds true =
-        add_both Below n 0 0 0 0 (at_desk l.number d.noted ∷ []) (lacked ∷ []) (add_counted Below n (at_desk l.number d.noted ∷ []) 0 0 0 (count_one n (at_desk l.number d.noted)) (omega arith))
-        (add_counted Below n (lacked ∷ []) 0 0 0 (count_one n lacked) (omega arith))
-    middle_adds false = add_counted Below n (at_desk l.number d.noted ∷ []) 0 0 0 (count_one n (at_desk l.number d.noted)) (omega arith)
+        add_both Below n 0 0 0 0 (at_desk l.number d.noted ∷ []) (lacked ∷ []) (add_counted Below n (at_desk l.number d.noted ∷ []) 0 0 (count_one n (at_desk l.number d.noted)) (omega arith))
+        (add_counted Below n (lacked ∷ []) 0 0 (count_one n lacked) (omega arith))
+    middle_adds false = add_counted Below n (at_desk l.number d.noted ∷ []) 0 0 (count_one n (at_desk l.number d.noted)) (omega arith)
 
     -- by what it came to: so often sent on, and so much due
     parts_add : (sent due : ℕ) → Adds Below n sent 0 d.served → Adds Below n 0 due d.settled → Adds Below n sent due turn
@@ -178,8 +178,8 @@ module _ (later : ForwardIsLater) (l : LooperFacts) (number_is : l.desk.looper �
         ap (kept_in n) entry_alone ∙ many_one (λ (x : EntryData). owes_entry n x && not (was_sent_on x)) d.noted.entry
         ∙ (λ i. bit (entry_is_of l.desk d.taken d.asked d.heard d.made d.noted n d.comes i && not (is i)))
 
-    goes_adds : Goes Below n d.taken.item (was_sent_on d.noted.entry) d.made.reply d.served → TurnAdds (desk_list l turn) turn
-    goes_adds (on is none served) =
+    goes_adds : Goes Below n d.taken.item d.noted.entry.plain.event d.made.reply d.served → TurnAdds (desk_list l turn) turn
+    goes_adds (on is none served wrote) =
         add_so Below n (bit (owes n d.taken.item.duty)) 0 (sent_on_in n (desk_list l turn)) (kept_in n (desk_list l turn)) turn
         (sym (sent_so true is ∙ on_bit (owes n d.taken.item.duty))) (sym (kept_so true is ∙ off_bit (owes n d.taken.item.duty)))
         (parts_add (bit (owes n d.taken.item.duty)) 0 served
@@ -205,7 +205,7 @@ module _ (later : ForwardIsLater) (l : LooperFacts) (number_is : l.desk.looper �
       (sym (ap (kept_in n) all ∙ many_both (λ (x : EntryData). owes_entry n x && not (was_sent_on x)) (desk_list l so_far) (desk_list l turn)))
       (add_both Below n (sent_on_in n (desk_list l so_far)) (kept_in n (desk_list l so_far)) (sent_on_in n (desk_list l turn)) (kept_in n (desk_list l turn)) so_far turn so more)
 
-  end_adds : (so_far turn : List Step) (e : IsEnd l so_far turn) → Adds Below n 0 (owing_in n (left_at l so_far e.noted)) turn
+  pub end_adds : (so_far turn : List Step) (e : IsEnd l so_far turn) → Adds Below n 0 (owing_in n (left_at l so_far e.noted)) turn
   end_adds so_far turn e =
       add_before Below n 0 (owing_in n (left_at l so_far e.noted)) (at_port l.number e.noted ∷ []) e.answers turn (add_port Below n l.number e.noted (ap (writes_owing n) e.event_is))
       (add_leaves_all Below n (left_at l so_far e.noted) e.answers e.leaves) e.is

@@ -51,12 +51,12 @@ module _ (n : ℕ) where
   act_adds steps (asks_in_vain to e may w) = add_withdraws NoLooper n to e steps (idle_refusal n e may) w
   act_adds steps (enters_port looper e may enters) = add_enters NoLooper n looper e steps (idle_event n e may) enters
   act_adds steps (finds_shut looper f) =
-      one_step (saw_port looper f.seen) steps f.is (add_counted NoLooper n (saw_port looper f.seen ∷ []) 0 0 0 (count_one n (saw_port looper f.seen)) (omega arith))
-  act_adds steps (edits looper e) = one_step (at_desk looper e.noted) steps e.is (add_counted NoLooper n (at_desk looper e.noted ∷ []) 0 0 0 (count_one n (at_desk looper e.noted)) (omega arith))
+      one_step (saw_port looper f.seen) steps f.is (add_counted NoLooper n (saw_port looper f.seen ∷ []) 0 0 (count_one n (saw_port looper f.seen)) (omega arith))
+  act_adds steps (edits looper e) = one_step (at_desk looper e.noted) steps e.is (add_counted NoLooper n (at_desk looper e.noted ∷ []) 0 0 (count_one n (at_desk looper e.noted)) (omega arith))
   act_adds steps (enters_roster noted may is) = add_roster NoLooper n noted steps is
-  act_adds steps (finds_gone seen is) = one_step (saw_roster seen) steps is (add_counted NoLooper n (saw_roster seen ∷ []) 0 0 0 (count_one n (saw_roster seen)) (omega arith))
+  act_adds steps (finds_gone seen is) = one_step (saw_roster seen) steps is (add_counted NoLooper n (saw_roster seen ∷ []) 0 0 (count_one n (saw_roster seen)) (omega arith))
 
-  diary_adds : (steps : List Step) → IsMainDiary steps → Adds NoLooper n 0 0 steps
+  pub diary_adds : (steps : List Step) → IsMainDiary steps → Adds NoLooper n 0 0 steps
   diary_adds _ begun = add_none NoLooper n
   diary_adds _ (went_on so_far act works does) = add_both NoLooper n 0 0 0 0 so_far act (diary_adds so_far works) (act_adds act does)
 

@@ -1,5 +1,5 @@
 -- Each accepted waiting send got one reply.
-use Rattle.std.proofs.Common.{◌≡◌, ◌⊎◌, ℕ, ◌<◌, ◌≤◌, ◌==◌, Bool, true, cond, List, [], ◌∷◌, length, map, filter, Contains, slice_get, refl, sym, ap, ◌∙◌, subst, inl, inr, ⊎_elim, arith, eq-eqb, eqb-true}
+use Rattle.std.proofs.Common.{◌≡◌, ◌⊎◌, ℕ, ◌<◌, ◌≤◌, ◌==◌, Bool, true, cond, List, [], ◌∷◌, length, map, filter, All, Contains, slice_get, refl, sym, ap, ◌∙◌, subst, inl, inr, ⊎_elim, arith, eq-eqb, eqb-true}
 use Rattle.std.proofs.lemmas.Bool.{cases_lt}
 use Rattle.ak_base.specs.Thread.{looper_thread, main_thread}
 use Rattle.ak_flatten.specs.declared.item.Taken.{Taken}
@@ -18,15 +18,18 @@ use Rattle.ak_port.specs.ReplySeats as books
 use Rattle.ak_desk.specs.Laws.{ForwardTellsReply, StateIsOne}
 use Rattle.ak_diary.specs.declared.histories.Histories.{Histories}
 use Rattle.ak_diary.specs.Laws.{AcceptedIsDispatchedThenLeft, EachIsDispatchedByRule, left_in}
+use Rattle.ak_diary.specs.Looper.{thread_of}
 use Rattle.ak_diary.specs.Step.{Step, book_entries}
-use Rattle.ak_headline.specs.Answers.{GotOneReply, IsAccepted, WasSentOn, cancels, doing, opens, owes}
+use Rattle.ak_headline.specs.Answers.{GotOneReply, IsAccepted, WasSentOn, WentOn, cancels, doing, opens, owes}
 use Rattle.ak_headline.specs.Headline.{RunsAnswer}
-use Rattle.ak_headline.specs.Run.{HasDone, HasLooper, IsRun, desk_list, port_list}
-use Rattle.ak_headline.specs.Diaries.{LoopersPay, LoopersSendUp, LoopersTally, MainTallies}
-use Rattle.ak_headline.specs.Tally.{SendsUp, how_many, writes_owing}
-use Rattle.ak_headline.proofs.Accounts.{Account, IsEachOnce, IsToldBy, account_none, each_once, no_port}
+use Rattle.ak_headline.specs.Run.{HasDone, HasLooper, IsOfRun, IsRun, desk_list, port_list}
+use Rattle.ak_headline.specs.Diaries.{LoopersPay, LoopersSendSo, LoopersSendUp, LoopersTally, MainAsksSo, MainTallies}
+use Rattle.ak_headline.specs.Sends.{SendsSo}
+use Rattle.ak_headline.specs.Tally.{SendsUp, at_slot, how_many, writes_owing}
+use Rattle.ak_headline.proofs.Accounts.{Account, IsEachOnce, IsToldBy, account_none, each_once, no_port, who_took}
+use Rattle.ak_headline.proofs.Asked.{TheAsk, came, least, same, the_ask, went_on}
 use Rattle.ak_headline.proofs.Counts.{filter_both, first_meets, found_of, none_of, one_among, one_of, there_counts}
-use Rattle.ak_headline.proofs.Replies.{IsPaid, became, paid}
+use Rattle.ak_headline.proofs.Replies.{HasGone, IsPaid, became, off, paid}
 use Rattle.ak_headline.proofs.Resting.{RestsAt, rests_counts, rests_once}
 use Rattle.ak_headline.proofs.Written.{accepted_owing, written_owing}
 
@@ -37,7 +40,9 @@ form_of_fill n (slot.Cancelled m) is = absurd (cc is)
 form_of_fill n (slot.Taken m) is = absurd (cc is)
 
 -- ---- from the accounts of all threads
-module _ (h : Histories) (short : List ℕ) (n : ℕ) (accounts : (k : ℕ) → Account h short n k) (once : IsEachOnce h short n accounts) where
+module _ (h : Histories) (short : List ℕ) (n : ℕ) (accounts : (k : ℕ) → Account h short n k) (once : IsEachOnce h short n accounts) (main : List Step) (main_told : IsToldBy h main_thread main) (main_sends : SendsSo n 0 [] main)
+    (port_makers : (looper : ℕ) → All (λ (entry : PortEntry). IsOfRun h entry.by.0) (port_list h looper))
+    (took : (1 ≤ how_many (at_slot (takes n)) main) ⊎ ((k : ℕ) × (1 ≤ how_many (at_slot (takes n)) (accounts k).steps))) where
   abbrev looper : ℕ
   looper = once.looper
 
@@ -99,8 +104,20 @@ module _ (h : Histories) (short : List ℕ) (n : ℕ) (accounts : (k : ℕ) → 
 
   others : (number at : ℕ) (other : ItemData) → IsAccepted h n number at other → ((number ≡ looper) × (at ≡ was_paid.position)) ⊎ WasSentOn h number at other
   others number at other is =
-      ⊎_elim (λ (rests : RestsAt n (desk_list h number) (accounts number).left at). inl (where_it_rests number at other is rests)) (λ (sent : WasSentOn h number at other). inr sent)
+      ⊎_elim (λ (rests : RestsAt n (desk_list h number) (accounts number).left at). inl (where_it_rests number at other is rests)) (λ (gone : HasGone h n number at other). inr gone.was)
       ((accounts number).became at other is)
+
+  goes_on : (number at : ℕ) (other : ItemData) → IsAccepted h n number at other → ((number ≡ looper) × (at ≡ was_paid.position)) ⊎ WentOn h n number at other
+  goes_on number at other is =
+      ⊎_elim (λ (rests : RestsAt n (desk_list h number) (accounts number).left at). inl (where_it_rests number at other is rests))
+      (λ (gone : HasGone h n number at other). inr (went_on h short n accounts number at other is gone)) ((accounts number).became at other is)
+
+  -- the ask
+  abbrev Asked : Type 0
+  Asked = TheAsk h short n accounts main main_told main_sends port_makers opened.0 opened.1
+
+  ask : Asked
+  ask = the_ask h short n accounts main main_told main_sends port_makers opened.0 opened.1 took
 
   pub got_one_reply : GotOneReply h short n
   got_one_reply = record {
@@ -121,10 +138,19 @@ module _ (h : Histories) (short : List ℕ) (n : ℕ) (accounts : (k : ℕ) → 
     text_is = filled_with.1;
     by_rule = was_paid.by_rule;
     others = others;
+    went_on = goes_on;
+    asked_looper = ask.number;
+    asked_position = ask.at;
+    asked = ask.item;
+    first = ask.accepted;
+    by_asker = ask.written;
+    came = came h short n accounts main main_told main_sends port_makers opened.0 opened.1 ask;
+    least = least h short n accounts main main_told main_sends port_makers opened.0 opened.1 ask;
+    same = same h short n accounts main main_told main_sends port_makers opened.0 opened.1 ask;
   }
 
 -- ---- of a run
-module _ (all : AcceptedIsDispatchedThenLeft) (law : EachIsDispatchedByRule) (one : StateIsOne) (forward : ForwardTellsReply) (tally : LoopersTally) (up : LoopersSendUp) (pay : LoopersPay) (of_main : MainTallies) where
+module _ (all : AcceptedIsDispatchedThenLeft) (law : EachIsDispatchedByRule) (one : StateIsOne) (forward : ForwardTellsReply) (tally : LoopersTally) (up : LoopersSendUp) (pay : LoopersPay) (of_main : MainTallies) (so : LoopersSendSo) (main_so : MainAsksSo) where
   module _ (heads : List AppHead) (short : List ℕ) (h : Histories) (run : IsRun heads short h) (n : ℕ) where
     told_by : (thread : ℕ) (steps : List Step) → HasDone h thread steps → IsToldBy h thread steps
     told_by thread steps done = record { at_book = done.at_book; at_ports = done.at_ports; book_seen = done.book_seen }
@@ -140,6 +166,9 @@ module _ (all : AcceptedIsDispatchedThenLeft) (law : EachIsDispatchedByRule) (on
           tally = tally l has.steps (port_list h k) (desk_list h k) has.diary n;
           accepted = accepted_owing n (port_list h k) (desk_list h k) left (all l has.steps (port_list h k) (desk_list h k) has.diary).accepted;
           up = subst (λ (number : ℕ). SendsUp n number (desk_list h k) has.steps) has.number_is (up l has.steps (port_list h k) (desk_list h k) has.diary n);
+          sends = subst (λ (number : ℕ). SendsSo n number (desk_list h k) has.steps) has.number_is (so l has.steps (port_list h k) (desk_list h k) has.diary n);
+          off = off all law one forward pay heads short h k has n;
+          legal = (thread_of l, has.diary.port_legal.steps);
           became = became all law one forward pay heads short h k has n;
           paid = paid all law one forward pay heads short h k has n;
         }
@@ -160,8 +189,11 @@ module _ (all : AcceptedIsDispatchedThenLeft) (law : EachIsDispatchedByRule) (on
 
     pub one_reply : (k at : ℕ) (item : ItemData) → IsAccepted h n k at item → GotOneReply h short n
     one_reply k at item is =
-        got_one_reply h short n accounts
-        (each_once h short n accounts run.main (told_by main_thread run.main run.main_done) (of_main run.main run.main_diary n) run.book_makers run.port_makers run.histories.book k (some_written k at item is))
+        let told = told_by main_thread run.main run.main_done in
+        let some = some_written k at item is in
+        let tally_of_main = of_main run.main run.main_diary n in
+        got_one_reply h short n accounts (each_once h short n accounts run.main told tally_of_main run.book_makers run.port_makers run.histories.book k some) run.main told
+        (main_so run.main run.main_diary n) run.port_makers (who_took h short n accounts run.main told tally_of_main run.book_makers run.port_makers run.histories.book k some)
 
   pub runs_answer : RunsAnswer
   runs_answer heads short h run n looper position item is = one_reply heads short h run n looper position item is

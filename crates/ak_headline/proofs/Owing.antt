@@ -23,7 +23,7 @@ use Rattle.ak_diary.specs.Wants as wants
 use Rattle.ak_diary.specs.Wants.{Through}
 use Rattle.ak_headline.specs.Answers.{owes}
 use Rattle.ak_headline.specs.Tally.{at_slot, how_many, owing_in, writes_owing}
-use Rattle.ak_headline.proofs.Counting.{Adds, add_as, add_before, add_behind, add_both, add_counted, add_empty, add_idle, add_none, add_so, bit, count_book, count_one, many_both, many_one}
+use Rattle.ak_headline.proofs.Counting.{Adds, add_as, add_before, add_behind, add_both, add_counted, add_empty, add_idle, add_none, add_so, asked_none, bit, count_book, count_one, many_both, many_one, wrote_some}
 use Rattle.ak_headline.proofs.OwnWants.{IsReplied}
 use Rattle.ak_headline.proofs.Wanting.{add_enters, add_opens, add_roster}
 
@@ -36,7 +36,7 @@ module _ (Below : ℕ → Type 0) (n : ℕ) where
   add_step step steps is a = add_as Below n 0 0 steps (step ∷ []) is a
 
   add_lack : (steps : List Step) → steps ≡ lacked ∷ [] → Nothing steps
-  add_lack steps is = add_step lacked steps is (add_counted Below n (lacked ∷ []) 0 0 0 (count_one n lacked) (omega arith))
+  add_lack steps is = add_step lacked steps is (add_counted Below n (lacked ∷ []) 0 0 (count_one n lacked) (omega arith))
 
   -- ---- a slot is filled, or found to be settled
   add_fill : (m : ℕ) (text : List ℕ) (steps : List Step) → turns.EntersFill m text steps → Adds Below n 0 (bit (m == n)) steps
@@ -51,6 +51,8 @@ module _ (Below : ℕ → Type 0) (n : ℕ) where
         most = omega (arith, c.filled_are);
         settled = inl c.filled_are;
         up = λ looper below. c.to_one looper;
+        wrote = wrote_some n 0 (at_book f.noted ∷ []) c.to_one;
+        asked = asked_none n (at_book f.noted ∷ []) c.took_are;
       })
 
   settled_if : (b : Bool) (m : ℕ) (seen : List ReplyEntry) → (m == n) ≡ b → IsSettled m seen → (how_many (at_slot (fills n)) (saw_book seen ∷ []) ≡ bit b) ⊎ Any (IsSettled n) (book_sights (saw_book seen ∷ []))
@@ -69,6 +71,8 @@ module _ (Below : ℕ → Type 0) (n : ℕ) where
         most = omega (arith, c.filled_are);
         settled = settled_if (m == n) m f.seen refl f.settled;
         up = λ looper below. c.to_one looper;
+        wrote = wrote_some n 0 (saw_book f.seen ∷ []) c.to_one;
+        asked = asked_none n (saw_book f.seen ∷ []) c.took_are;
       })
 
   pub add_fills : (m : ℕ) (text : List ℕ) (steps : List Step) → Fills m text steps → Adds Below n 0 (bit (m == n)) steps
@@ -78,7 +82,7 @@ module _ (Below : ℕ → Type 0) (n : ℕ) where
   add_shuts : (looper : ℕ) (steps : List Step) → Shuts looper steps → Nothing steps
   add_shuts looper steps s =
       ⊎_elim (λ (t : turns.EntersShut looper steps). add_enters Below n looper event.Shut steps refl (record { noted = t.noted; event_is = t.event_is; is = t.is }))
-      (λ (t : turns.FindsShut looper steps). add_step (saw_port looper t.seen) steps t.is (add_counted Below n (saw_port looper t.seen ∷ []) 0 0 0 (count_one n (saw_port looper t.seen)) (omega arith))) s
+      (λ (t : turns.FindsShut looper steps). add_step (saw_port looper t.seen) steps t.is (add_counted Below n (saw_port looper t.seen ∷ []) 0 0 (count_one n (saw_port looper t.seen)) (omega arith))) s
 
   add_shuts_all : (loopers : List ℕ) (steps : List Step) → ShutsAll loopers steps → Nothing steps
   add_shuts_all [] steps s = add_empty Below n steps s
@@ -87,7 +91,7 @@ module _ (Below : ℕ → Type 0) (n : ℕ) where
   add_leaves_roster : (l : LooperFacts) (own : Bool) (steps : List Step) → LeavesRoster l own steps → Nothing steps
   add_leaves_roster l true steps s =
       ⊎_elim (λ (t : turns.EntersGone l steps). add_roster Below n t.noted steps t.is)
-      (λ (t : turns.FindsGone l steps). add_step (saw_roster t.seen) steps t.is (add_counted Below n (saw_roster t.seen ∷ []) 0 0 0 (count_one n (saw_roster t.seen)) (omega arith))) s
+      (λ (t : turns.FindsGone l steps). add_step (saw_roster t.seen) steps t.is (add_counted Below n (saw_roster t.seen ∷ []) 0 0 (count_one n (saw_roster t.seen)) (omega arith))) s
   add_leaves_roster l false steps s = add_empty Below n steps s
 
   pub add_closes_if : (l : LooperFacts) (due : Bool) (steps : List Step) → ClosesIf l due steps → Nothing steps

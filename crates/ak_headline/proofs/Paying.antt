@@ -20,6 +20,7 @@ use Rattle.ak_action.specs.declared.answer.Answer.{Answer}
 use Rattle.ak_action.specs.declared.answer.AnswerWord.{AnswerWord}
 use Rattle.ak_action.specs.declared.answer.Want.{Want}
 use Rattle.ak_action.specs.declared.state.DeskState.{DeskState}
+use Rattle.ak_desk.specs.declared.entry.DeskEvent.{DeskEvent}
 use Rattle.ak_desk.specs.declared.entry.DeskEvent.TheVariants as event
 use Rattle.ak_desk.specs.declared.entry.EntryRoute.{EntryRoute}
 use Rattle.ak_desk.specs.declared.entry.EntryRoute.TheVariants as went
@@ -153,9 +154,9 @@ module _ (P : ℕ → List ℕ → Type 0) (l : LooperFacts) (so_far : List Step
       ap ran_short s.is
       ∙ short_left (s.text ++ s.closing ++ s.paying) s.late (short_left (s.text ++ s.closing) s.paying (short_left s.text s.closing e))
 
-goes_few : (n : ℕ) (item : ItemData) (b : Bool) (reply : Option MessageData) (served : List Step) → Goes (λ _. ⊥) n item b reply served → how_many (at_slot (fills n)) served ≤ 0
-goes_few n item b reply served (on e none adds) = adds.most
-goes_few n item b reply served (stays e some adds) = adds.most
+goes_few : (n : ℕ) (item : ItemData) (e : DeskEvent) (reply : Option MessageData) (served : List Step) → Goes (λ _. ⊥) n item e reply served → how_many (at_slot (fills n)) served ≤ 0
+goes_few n item e reply served (on is none adds wrote) = adds.most
+goes_few n item e reply served (stays is some adds) = adds.most
 
 -- ---- turn after turn
 module _ (l : LooperFacts) (desk : List EntryData) (short : Bool) where
@@ -173,7 +174,7 @@ module _ (l : LooperFacts) (desk : List EntryData) (short : Bool) where
     abbrev before_it : List Step
     before_it = so_far ++ d.served ++ middle
 
-    goes_at : (n : ℕ) → Goes (λ _. ⊥) n d.taken.item (was_sent_on d.noted.entry) d.made.reply d.served
+    goes_at : (n : ℕ) → Goes (λ _. ⊥) n d.taken.item d.noted.entry.plain.event d.made.reply d.served
     goes_at n = comes_goes (λ _. ⊥) n l so_far d.taken d.asked d.heard d.made d.noted d.served (λ s i history e below. below) d.serves d.comes
 
     paid_for : was_sent_on d.noted.entry ≡ false → IsReplied d.made.reply → (n : ℕ) (m : MessageData) → d.taken.item.duty ≡ duty.Slot n → d.settles.told ≡ Some m → ForDispatch n (spelling m)
@@ -203,15 +204,15 @@ module _ (l : LooperFacts) (desk : List EntryData) (short : Bool) where
               d.settles.writes;
         }
 
-    settled_fills : Goes (λ _. ⊥) 0 d.taken.item (was_sent_on d.noted.entry) d.made.reply d.served → FillsSo ForDispatch d.settled
-    settled_fills (on is none adds) =
+    settled_fills : Goes (λ _. ⊥) 0 d.taken.item d.noted.entry.plain.event d.made.reply d.served → FillsSo ForDispatch d.settled
+    settled_fills (on is none adds wrote) =
         uncounted ForDispatch d.settled (λ n. (settles_none (λ _. ⊥) n l before_it d.taken.item.duty d.made.reply d.settled d.settles none).most)
     settled_fills (stays is some adds) = settles_fill ForDispatch l before_it d.taken.item.duty d.made.reply d.settled d.settles some (paid_for is some)
 
     dispatch_fills : FillsSo ForDispatch turn
     dispatch_fills =
         fills_both ForDispatch (d.served ++ middle) d.settled turn
-        (fills_both ForDispatch d.served middle (d.served ++ middle) (uncounted ForDispatch d.served (λ n. goes_few n d.taken.item (was_sent_on d.noted.entry) d.made.reply d.served (goes_at n)))
+        (fills_both ForDispatch d.served middle (d.served ++ middle) (uncounted ForDispatch d.served (λ n. goes_few n d.taken.item d.noted.entry.plain.event d.made.reply d.served (goes_at n)))
         (fills_none ForDispatch middle (middle_fills d.noted d.made.no_memory)) refl)
         (settled_fills (goes_at 0)) d.is
 

@@ -27,7 +27,7 @@ pub record LeavesAt (n : ℕ) (left : List Taken) (position : ℕ) : Type 0 wher
 abbrev pub RestsAt : ℕ → List EntryData → List Taken → ℕ → Type 0
 RestsAt n desk left position = KeepsAt n desk position ⊎ LeavesAt n left position
 
-get_middle : {X : Type 0} (xs : List X) (y : X) (ys : List X) → slice_get (xs ++ y ∷ ys) (length xs) ≡ Some y
+pub get_middle : {X : Type 0} (xs : List X) (y : X) (ys : List X) → slice_get (xs ++ y ∷ ys) (length xs) ≡ Some y
 get_middle [] y ys = refl
 get_middle (x ∷ xs) y ys = get_middle xs y ys
 

@@ -1,5 +1,5 @@
 -- What a want that is served adds to a diary: an ask takes what it opened, or cancels it, and a post writes nothing for which someone waits.
-use Rattle.std.proofs.Common.{◌≡◌, ℕ, ◌+◌, ◌≤◌, ◌==◌, Bool, true, false, List, [], ◌∷◌, ◌++◌, Option, None, Some, All, refl, sym, subst, arith, ⊎_elim}
+use Rattle.std.proofs.Common.{◌≡◌, ℕ, ◌+◌, ◌≤◌, ◌==◌, Bool, true, false, List, [], ◌∷◌, ◌++◌, Option, None, Some, All, refl, sym, subst, inl, arith, ⊎_elim}
 use Rattle.std.proofs.lemmas.List.Elements.{All-head, All-tail}
 use Rattle.ak_base.specs.declared.app_word.AppWord.{AppWord}
 use Rattle.ak_message.specs.declared.address.Address.{Address}
@@ -21,6 +21,7 @@ use Rattle.ak_diary.specs.Wants as wants
 use Rattle.ak_diary.specs.Wants.{AsksInVain, AsksSo, Cancels, Converses, EntersPort, IsRefusedBy, LooksUp, Opens, OpensFor, PostsSo, Serves, ServesAll, ServesFind, Through, ThroughDoor, Withdraws}
 use Rattle.ak_headline.specs.Answers.{owes}
 use Rattle.ak_headline.specs.Tally.{writes_owing}
+use Rattle.ak_headline.proofs.Asking.{converses_asks, converses_wrote}
 use Rattle.ak_headline.proofs.Counting.{Adds, Counts, add_as, add_counted, add_empty, add_idle, bit, count_book, count_both, count_none, count_one, count_port}
 
 -- an event that writes nothing that owes the slot, if there is one
@@ -61,16 +62,20 @@ module _ (n : ℕ) where
       (λ (t : wants.FindsFilled m steps).
       record { cancelled = 0; counts = subst (λ (s : List Step). Counts n s 0 0 0 0 0) (sym t.is) (count_one n (saw_book t.seen)); few = omega arith }) c
 
+bit_some : (b : Bool) → 1 ≤ bit b → b ≡ true
+bit_some true some = refl
+bit_some false some = absurd (omega (arith, some))
+
 -- ---- what each act adds
 module _ (Below : ℕ → Type 0) (n : ℕ) where
   abbrev Nothing : List Step → Type 0
   Nothing steps = Adds Below n 0 0 steps
 
   pub add_roster : (x : Noted RosterEntry) (steps : List Step) → steps ≡ at_roster x ∷ [] → Nothing steps
-  add_roster x steps is = add_as Below n 0 0 steps (at_roster x ∷ []) is (add_counted Below n (at_roster x ∷ []) 0 0 0 (count_one n (at_roster x)) (omega arith))
+  add_roster x steps is = add_as Below n 0 0 steps (at_roster x ∷ []) is (add_counted Below n (at_roster x ∷ []) 0 0 (count_one n (at_roster x)) (omega arith))
 
   pub add_enters : (looper : ℕ) (e : PortEvent) (steps : List Step) → writes_owing n e ≡ false → EntersPort looper e steps → Nothing steps
-  add_enters looper e steps idle enters = add_counted Below n steps 0 0 0 (count_enters n looper e steps idle enters) (omega arith)
+  add_enters looper e steps idle enters = add_counted Below n steps 0 0 (count_enters n looper e steps idle enters) (omega arith)
 
   -- where the slot is this one, it is opened, written for and taken from; else nothing
   pub add_converses : (to : Address) (item : ItemData) (flat : List ℕ) (steps : List Step) → Converses to item flat steps → Nothing steps
@@ -82,15 +87,17 @@ module _ (Below : ℕ → Type 0) (n : ℕ) where
       let behind = count_both n (at_port to.looper c.written ∷ []) (at_book c.taken ∷ []) mine 0 0 0 0 0 0 0 mine 0 second third in
       let all = count_both n (at_book c.opened ∷ []) (at_port to.looper c.written ∷ at_book c.taken ∷ []) 0 mine 0 0 0 (mine + 0) (0 + 0) (0 + 0) (0 + mine) (0 + 0) first behind in
       add_as Below n 0 0 steps (at_book c.opened ∷ at_port to.looper c.written ∷ at_book c.taken ∷ []) c.is
-      (add_counted Below n (at_book c.opened ∷ at_port to.looper c.written ∷ at_book c.taken ∷ []) mine mine 0
       (record {
+        asks = mine;
         sent_are = omega (arith, all.sent_are);
-        opened_are = omega (arith, all.opened_are);
-        cancelled_are = all.cancelled_are;
-        took_are = omega (arith, all.took_are);
-        filled_are = all.filled_are;
-        to_one = λ looper. omega (arith, all.to_one looper);
-      }) (omega arith))
+        opened = omega (arith, all.opened_are, all.cancelled_are);
+        took = omega (arith, all.took_are);
+        most = omega (arith, all.filled_are);
+        settled = inl (omega (arith, all.filled_are));
+        up = λ looper below. omega (arith, all.to_one looper);
+        wrote = λ looper x there owed. inl (converses_wrote n to item flat steps c looper x there owed);
+        asked = λ some. (to.looper, c.written, converses_asks n to item flat steps c (bit_some (c.slot == n) (omega (arith, some, all.took_are))));
+      })
 
   pub add_withdraws : (to : Address) (e : Option PortEvent) (steps : List Step) → Keeps n e → Withdraws to e steps → Nothing steps
   add_withdraws to e steps idle w =
@@ -102,7 +109,7 @@ module _ (Below : ℕ → Type 0) (n : ℕ) where
       let all = count_both n (at_book w.opened ∷ []) (w.refused ++ w.closing) 0 mine 0 0 0 (0 + 0) (0 + 0) (0 + last.cancelled) (0 + 0) (0 + 0) first behind in
       let few = last.few in
       add_as Below n 0 0 steps (at_book w.opened ∷ w.refused ++ w.closing) w.is
-      (add_counted Below n (at_book w.opened ∷ w.refused ++ w.closing) 0 mine last.cancelled
+      (add_counted Below n (at_book w.opened ∷ w.refused ++ w.closing) mine last.cancelled
       (record {
         sent_are = all.sent_are;
         opened_are = omega (arith, all.opened_are);

@@ -6,6 +6,7 @@ use Rattle.ak_diary.specs.Laws.{HasDiary, left_in}
 use Rattle.ak_diary.specs.Looper.{LooperFacts}
 use Rattle.ak_diary.specs.Step.{Step}
 use Rattle.ak_headline.specs.Main.{IsMainDiary}
+use Rattle.ak_headline.specs.Sends.{SendsSo}
 use Rattle.ak_headline.specs.Tally.{PaysByRule, SendsUp, Tally}
 
 -- a looper's thread asked, sent on, filled and took as its desk's list and the items that it left say
@@ -16,6 +17,10 @@ LoopersTally = (l : LooperFacts) (steps : List Step) (port : List PortEntry) (de
 abbrev pub LoopersSendUp : Type 0
 LoopersSendUp = (l : LooperFacts) (steps : List Step) (port : List PortEntry) (desk : List EntryData) → HasDiary l steps port desk → (n : ℕ) → SendsUp n l.number desk steps
 
+-- each item that it wrote for which someone waits it asked, or sent on
+abbrev pub LoopersSendSo : Type 0
+LoopersSendSo = (l : LooperFacts) (steps : List Step) (port : List PortEntry) (desk : List EntryData) → HasDiary l steps port desk → (n : ℕ) → SendsSo n l.number desk steps
+
 -- each slot that it filled it filled as the rules say
 abbrev pub LoopersPay : Type 0
 LoopersPay = (l : LooperFacts) (steps : List Step) (port : List PortEntry) (desk : List EntryData) (has : HasDiary l steps port desk) → PaysByRule l.desk desk (left_in l steps has.legal) steps
@@ -23,3 +28,7 @@ LoopersPay = (l : LooperFacts) (steps : List Step) (port : List PortEntry) (desk
 -- main asked and took, and neither sent on nor filled
 abbrev pub MainTallies : Type 0
 MainTallies = (steps : List Step) → IsMainDiary steps → (n : ℕ) → Tally n [] [] steps
+
+-- each item that it wrote for which someone waits it asked
+abbrev pub MainAsksSo : Type 0
+MainAsksSo = (steps : List Step) → IsMainDiary steps → (n : ℕ) → SendsSo n 0 [] steps

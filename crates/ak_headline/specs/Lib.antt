@@ -3,4 +3,5 @@ pub mod Diaries
 pub mod Headline
 pub mod Main
 pub mod Run
+pub mod Sends
 pub mod Tally

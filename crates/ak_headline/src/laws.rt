@@ -2,7 +2,9 @@
 
 ghost use Rattle.ak_headline.specs.Headline as headline;
 
-use crate::tallies::{loopers_pay, loopers_send_up, loopers_tally, main_tallies};
+use crate::tallies::{
+    loopers_pay, loopers_send_so, loopers_send_up, loopers_tally, main_asks_so, main_tallies,
+};
 
 /// The messages that each looper dispatched, followed by those that it left, are exactly what its port accepted, in
 /// order and each once.
@@ -29,7 +31,8 @@ fn tallies_tell_replies()
     ak_desk::an_entry_tells_its_reply();
 }
 
-/// Each accepted waiting send got one reply, the one that the rules make for it.
+/// Each accepted waiting send got one reply, the one that the rules make for it, by the looper to which it came last; it
+/// took the reply who had asked, and each looper on the way got the message that was asked.
 pub fn each_waiting_send_got_one_reply()
     ensures { headline.RunsAnswer }
 {
@@ -38,4 +41,6 @@ pub fn each_waiting_send_got_one_reply()
     loopers_send_up();
     loopers_pay();
     main_tallies();
+    loopers_send_so();
+    main_asks_so();
 }

@@ -29,3 +29,17 @@ pub fn loopers_send_up()
 pub fn loopers_pay()
     ensures { diaries.LoopersPay }
 {}
+
+/// Each item that a looper wrote for which someone waits it asked, or sent on for a dispatch of its desk, as it was but
+/// for its target and what is popped of it; and each dispatch that was sent on has such a write.
+pub fn loopers_send_so()
+    ensures { diaries.LoopersSendSo }
+{
+    ak_route::forwards_are_to_later_loopers();
+    ak_route::following_only_pops();
+}
+
+/// Each item that main wrote for which someone waits it asked.
+pub fn main_asks_so()
+    ensures { diaries.MainAsksSo }
+{}
