@@ -18,7 +18,7 @@ use Rattle.ak_describe.specs.Whole.{heads_of}
 use Rattle.ak_diary.specs.declared.histories.Histories.{Histories}
 use Rattle.ak_diary.specs.Laws.{AcceptedIsDispatchedThenLeft, EachIsDispatchedByRule, HasDiary}
 use Rattle.ak_headline.specs.Headline.{EachLooper, IsAccounted, IsByRule}
-use Rattle.ak_headline.specs.Run.{HasLooper, desk_list, port_list}
+use Rattle.ak_headline.specs.Run.{desk_list, port_list}
 use Rattle.ak_looper.specs.declared.kept_door.KeptDoor.{KeptDoor}
 use Rattle.ak_looper.specs.Rosters as rosters
 use Rattle.ak_looper.specs.Rosters.{Object, RosterSeat}

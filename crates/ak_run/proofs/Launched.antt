@@ -1,5 +1,5 @@
 -- The launch of each looper's team stands in the roster that was kept.
-use Rattle.std.proofs.Common.{◌≡◌, ℕ, ◌+◌, true, List, All, Any, Some, sym, ap, ◌∙◌, subst}
+use Rattle.std.proofs.Common.{◌≡◌, ℕ, true, List, Any, Some, sym, ◌∙◌, subst}
 use Rattle.std.specs.Prelude.{slice_get}
 use Rattle.ak_action.specs.declared.state.DeskState.{DeskState}
 use Rattle.ak_roster.specs.declared.entry.EntryWithObjects.{EntryWithObjects}
@@ -7,7 +7,6 @@ use Rattle.ak_roster.specs.declared.head.AppHead.{AppHead}
 use Rattle.ak_roster.specs.Roster.{RosterData}
 use Rattle.ak_port.specs.ReplySeats.{ReplySeat}
 use Rattle.ak_diary.specs.Looper.{LooperFacts, is_of_team}
-use Rattle.ak_looper.specs.declared.job.LooperJob.{LooperJob}
 use Rattle.ak_looper.specs.declared.kept_door.KeptDoor.{KeptDoor}
 use Rattle.ak_looper.specs.Job.{facts_of}
 use Rattle.ak_looper.specs.Rosters.{Object, RosterSeat}

@@ -1,10 +1,10 @@
 -- Who made the entries of the lists that were kept: main and the loopers.
-use Rattle.std.proofs.Common.{◌≡◌, ◌≢◌, ◌⊎◌, ◌<◌, ◌≤◌, ◌==◌, ◌&&◌, ℕ, suc, ◌+◌, Bool, true, false, cond, List, [], ◌∷◌, length, map, All, Any, Contains, Option, None, Some, is_some, inl, inr, ⊎_elim, refl, sym, ap, ◌∙◌, subst, leb-true, ltb-true, eq-eqb, arith}
+use Rattle.std.proofs.Common.{◌≡◌, ◌≢◌, ◌<◌, ◌≤◌, ◌==◌, ◌&&◌, ℕ, ◌+◌, Bool, true, false, cond, List, [], ◌∷◌, length, All, Contains, Option, None, Some, is_some, inl, inr, ⊎_elim, refl, sym, ap, ◌∙◌, subst, leb-true, ltb-true, eq-eqb, arith}
 use Rattle.std.specs.Prelude.{IfSome, IsSomeAnd, get_or, option_map, slice_get, unwrap_or}
 use Rattle.std.proofs.lemmas.List.{get_or-map, length-map}
 use Rattle.std.proofs.lemmas.List.Elements.{All-cons, All-contains, All-map, All-nil, All-weaker}
 use Rattle.std.proofs.lemmas.Option.{slice_get_cases, slice_get_within}
-use Rattle.ak_base.specs.Thread.{keeper_thread, looper_thread, main_thread}
+use Rattle.ak_base.specs.Thread.{keeper_thread, main_thread}
 use Rattle.ak_turn.specs.Entries.{made_by}
 use Rattle.ak_turn.specs.Seats.{part_of}
 use Rattle.ak_turn.proofs.Surface.{known_is_made}
@@ -24,15 +24,12 @@ use Rattle.ak_port.specs.PortCalls.{PortData}
 use Rattle.ak_port.specs.ReplySeats as books
 use Rattle.ak_port.specs.ReplySeats.{ReplySeat}
 use Rattle.ak_diary.specs.declared.histories.Histories.{Histories}
-use Rattle.ak_diary.specs.Looper.{LooperFacts, is_of_team}
 use Rattle.ak_headline.specs.Run.{IsOfRun, port_list}
 use Rattle.ak_looper.specs.declared.kept_door.KeptDoor.{KeptDoor}
-use Rattle.ak_looper.specs.Job.{facts_of}
 use Rattle.ak_looper.specs.Rosters as rosters
 use Rattle.ak_looper.specs.Rosters.{Object, RosterSeat}
-use Rattle.ak_looper.specs.Stands.{StartsTeam}
 use Rattle.ak_run.specs.declared.gathering.Joined.{Joined}
-use Rattle.ak_run.specs.Gathering.{AreBooksOf, AreGaining, AreHeadsIn, AreTakenIn, IsBookOf, IsHeadFor, IsJoined, IsPortOf, TookIn}
+use Rattle.ak_run.specs.Gathering.{AreBooksOf, AreGaining, AreHeadsIn, AreTakenIn, IsBookOf, IsHeadFor, IsPortOf}
 use Rattle.ak_run.specs.Running.{AreBelow, IsBelow}
 use Rattle.ak_run.proofs.Books.{as_many_ports}
 use Rattle.ak_run.proofs.Counting.{threads}
@@ -40,7 +37,7 @@ use Rattle.ak_run.proofs.Knowing.{part_known}
 use Rattle.ak_run.proofs.Launched.{all_launched}
 use Rattle.ak_run.proofs.Paired.{AllAreJoined, all_started, door_count, roster_heads}
 use Rattle.ak_run.proofs.Placed.{books_at, heads_at, kept_at}
-use Rattle.ak_run.proofs.Taking.{all_at, and_there, at_place}
+use Rattle.ak_run.proofs.Taking.{and_there, at_place}
 
 -- the lists that were kept; main's doors took in all that other seats know
 pub record IsGathered (js later : List Joined) (roster : RosterData KeptDoor Object) (at_book : ReplySeat) (book : List ReplyEntry) (h : Histories) : Type 0 where

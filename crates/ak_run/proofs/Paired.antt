@@ -7,14 +7,13 @@ use Rattle.std.proofs.lemmas.List.{length-map}
 use Rattle.std.proofs.lemmas.List.Elements.{All-weaker}
 use Rattle.std.proofs.lemmas.Option.{slice_get-map, slice_get_within}
 use Rattle.ak_base.specs.Thread.{main_thread}
-use Rattle.ak_turn.specs.Entries.{AreByOthers, StartsWith, made_by}
+use Rattle.ak_turn.specs.Entries.{AreByOthers, made_by}
 use Rattle.ak_turn.specs.Seats.{LockId}
 use Rattle.ak_roster.specs.declared.entry.EntryWithObjects.{EntryWithObjects}
 use Rattle.ak_roster.specs.declared.head.AppHead.{AppHead}
 use Rattle.ak_roster.specs.Machine.{state_of}
 use Rattle.ak_roster.specs.Roster.{RosterData, objects_of, plain_entries}
 use Rattle.ak_port.specs.ReplySeats.{ReplySeat}
-use Rattle.ak_looper.specs.declared.door.Door.{Door}
 use Rattle.ak_looper.specs.declared.kept_door.KeptDoor.{KeptDoor}
 use Rattle.ak_looper.specs.Doors.{door_object}
 use Rattle.ak_looper.specs.Rosters as rosters

@@ -1,6 +1,6 @@
 -- What stands at a place: loopers in the order of their numbers, their ports and desks, and the doors that the roster kept.
-use Rattle.std.proofs.Common.{◌≡◌, ◌≢◌, ◌⊎◌, ◌<◌, ◌≤◌, ◌==◌, ◌||◌, ℕ, zero, suc, ◌+◌, Bool, true, false, cond, List, [], ◌∷◌, ◌++◌, length, map, All, Contains, Option, None, Some, is_some, inl, inr, refl, sym, ap, ◌∙◌, subst, eq-eqb, eqb-true, ne_eqb, true≢false, arith}
-use Rattle.std.specs.Prelude.{IsSomeAnd, IfSome, filter, get_or, slice_get}
+use Rattle.std.proofs.Common.{◌≡◌, ◌≢◌, ◌⊎◌, ◌<◌, ◌==◌, ◌||◌, ℕ, zero, suc, ◌+◌, Bool, true, false, cond, List, [], ◌∷◌, length, map, All, Contains, Option, Some, inl, inr, refl, sym, ap, ◌∙◌, subst, eq-eqb, eqb-true, ne_eqb, true≢false, arith}
+use Rattle.std.specs.Prelude.{IsSomeAnd, filter, get_or, slice_get}
 use Rattle.std.specs.List.{list_any, range_with_len}
 use Rattle.std.proofs.lemmas.List.{get_or-map}
 use Rattle.std.proofs.lemmas.List.Elements.{All-cons, All-nil}
@@ -12,7 +12,6 @@ use Rattle.ak_port.specs.PortCalls.{PortData}
 use Rattle.ak_desk.specs.Desk.{DeskData}
 use Rattle.ak_headline.specs.Headline.{Each}
 use Rattle.ak_looper.specs.declared.door.Door.{Door}
-use Rattle.ak_looper.specs.declared.job.EndKind.{EndKind}
 use Rattle.ak_looper.specs.declared.kept_door.KeptDoor.{KeptDoor}
 use Rattle.ak_run.specs.declared.gathering.Joined.{Joined}
 use Rattle.ak_run.proofs.GoingOn.{some_same}

@@ -1,19 +1,19 @@
 -- Main's doors take in what other seats know, one after another.
-use Rattle.std.proofs.Common.{◌≡◌, ◌≢◌, ◌⊎◌, ◌≤◌, ◌<◌, ◌==◌, ℕ, zero, suc, ◌+◌, List, [], ◌∷◌, ◌++◌, map, Bool, length, length-set, set, All, Contains, Option, None, Some, is_some, true, false, true≢false, eq-eqb, eqb-true, inl, inr, ⊎_elim, refl, sym, ap, ◌∙◌, subst, arith}
+use Rattle.std.proofs.Common.{◌≡◌, ◌≢◌, ◌⊎◌, ◌<◌, ◌==◌, ℕ, zero, suc, List, [], ◌∷◌, ◌++◌, map, Bool, length, length-set, set, All, Option, None, Some, is_some, true, false, true≢false, eq-eqb, eqb-true, inl, inr, ⊎_elim, refl, sym, ap, ◌∙◌, subst, arith}
 use Rattle.std.specs.Prelude.{IsSomeAnd, filter, slice_get}
 use Rattle.std.specs.Prelude.{Vec}
 use Rattle.std.specs.declared.alloc.Global.{Global}
 use Rattle.std.proofs.lemmas.List.Elements.{All-map, All-weaker, filter-append}
 use Rattle.std.proofs.lemmas.List.{get_or-map, length-map, map-append}
 use Rattle.std.proofs.lemmas.Option.{get_or_from_slice_get, slice_get_within}
-use Rattle.ak_turn.specs.Seats.{LockId, SeatData, joined_seat, part_of}
+use Rattle.ak_turn.specs.Seats.{LockId, part_of}
 use Rattle.ak_turn.specs.Steps.{either_names}
 use Rattle.ak_port.specs.PortCalls.{PortSeat}
 use Rattle.ak_desk.specs.Shared.{DeskSeat}
 use Rattle.ak_looper.specs.declared.door.Door.{Door}
 use Rattle.ak_looper.specs.declared.kept_door.KeptDoor.{KeptDoor}
 use Rattle.ak_run.specs.declared.gathering.Joined.{Joined}
-use Rattle.ak_run.specs.Gathering.{AreGaining, AreHeadsIn, AreKeptIn, AreTakenIn, AreWaysIn, GoesOnKnowing, HasTakenAt, IsAt, IsGaining, IsHeadFor, IsNoHead, IsTakenIn, IsWayIn, TookIn, is_short, short_of}
+use Rattle.ak_run.specs.Gathering.{AreGaining, AreHeadsIn, AreKeptIn, AreTakenIn, AreWaysIn, GoesOnKnowing, HasTakenAt, IsAt, IsGaining, IsHeadFor, IsTakenIn, IsWayIn, TookIn, is_short, short_of}
 use Rattle.ak_run.proofs.GoingOn.{some_same}
 use Rattle.ak_run.proofs.Joining.{goes_on_knowing, knows_as_before, knows_further, took}
 

@@ -1,21 +1,21 @@
 -- What the kept lists tell of each looper, and of the run.
-use Rattle.std.proofs.Common.{◌≡◌, ◌≢◌, ◌⊎◌, ◌<◌, ◌≤◌, ◌==◌, ℕ, Bool, true, false, cond, List, [], ◌∷◌, ◌++◌, length, map, All, Any, Contains, Option, None, Some, inl, inr, ⊎_elim, refl, sym, ap, ◌∙◌, subst, eqb-true, eq-eqb, length-append, arith}
-use Rattle.std.specs.Prelude.{IsSomeAnd, get_or, option_map, slice_get, unwrap_or}
-use Rattle.std.specs.List.{list_any, range_with_len}
+use Rattle.std.proofs.Common.{◌≡◌, ◌≢◌, ◌<◌, ◌≤◌, ◌==◌, ℕ, Bool, true, false, cond, List, [], ◌∷◌, ◌++◌, length, map, All, Any, Contains, Option, None, Some, ⊎_elim, refl, sym, ap, ◌∙◌, subst, eqb-true, eq-eqb, arith}
+use Rattle.std.specs.Prelude.{option_map, slice_get, unwrap_or}
+use Rattle.std.specs.List.{list_any}
 use Rattle.std.proofs.lemmas.List.{get_or-map, length-map}
 use Rattle.std.proofs.lemmas.List.Elements.{All-cons, All-contains, All-map, All-weaker}
 use Rattle.std.proofs.lemmas.Option.{slice_get_cases, slice_get_within}
-use Rattle.ak_base.specs.Thread.{looper_thread, main_thread}
+use Rattle.ak_base.specs.Thread.{looper_thread}
 use Rattle.ak_base.specs.declared.thread.ThreadId.{ThreadId}
-use Rattle.ak_turn.specs.Entries.{AreByOthers, StartsWith, made_by}
-use Rattle.ak_turn.specs.Noted.{Noted, noted}
+use Rattle.ak_turn.specs.Entries.{AreByOthers, StartsWith}
+use Rattle.ak_turn.specs.Noted.{noted}
 use Rattle.ak_turn.specs.Seats.{part_of}
 use Rattle.ak_turn.proofs.Surface.{known_is_made, noted-others}
 use Rattle.ak_roster.specs.declared.entry.EntryWithObjects.{EntryWithObjects}
 use Rattle.ak_roster.specs.declared.entry.RosterEntry.{RosterEntry}
 use Rattle.ak_roster.specs.declared.head.AppHead.{AppHead}
 use Rattle.ak_roster.specs.Laws.{EntriesTellPlain, HoldersAreTold, LaunchesHaveLoopers, OwnsStayInTeams, StrangersAreTold}
-use Rattle.ak_roster.specs.Machine.{IsHistory, LooperData, holders, state_of}
+use Rattle.ak_roster.specs.Machine.{IsHistory, holders, state_of}
 use Rattle.ak_roster.specs.Roster.{IsStranger, RosterData, plain_entries}
 use Rattle.ak_port.specs.declared.port_entry.PortEntry.{PortEntry}
 use Rattle.ak_port.specs.declared.reply_entry.ReplyEntry.{ReplyEntry}
@@ -31,10 +31,10 @@ use Rattle.ak_desk.specs.Entry.{EntryData}
 use Rattle.ak_desk.specs.Shared as desks
 use Rattle.ak_desk.specs.Shared.{LeadsOn}
 use Rattle.ak_diary.specs.declared.histories.Histories.{Histories}
-use Rattle.ak_diary.specs.Diary.{Ending, by_quit, by_team, ending_of, without_memory}
+use Rattle.ak_diary.specs.Diary.{by_quit, by_team, without_memory}
 use Rattle.ak_diary.specs.Laws.{HasDiary}
 use Rattle.ak_diary.specs.Looper.{LooperFacts, desk_list, doors_got, last_quits}
-use Rattle.ak_diary.specs.Step.{Step, book_entries, book_sights, desk_entries, port_entries, ran_short, roster_entries}
+use Rattle.ak_diary.specs.Step.{book_entries, book_sights, desk_entries, port_entries, ran_short, roster_entries}
 use Rattle.ak_headline.specs.Run as headline
 use Rattle.ak_headline.specs.Run.{HasDone, HasLooper, StartedTeam, port_list}
 use Rattle.ak_looper.specs.declared.door.Door.{Door}
@@ -45,16 +45,16 @@ use Rattle.ak_looper.specs.Job.{facts_of}
 use Rattle.ak_looper.specs.Living.{kind_of}
 use Rattle.ak_looper.specs.Rosters as rosters
 use Rattle.ak_looper.specs.Rosters.{Object, RosterSeat}
-use Rattle.ak_looper.specs.Stands.{DoorStands, IsAtOneOf, StartsTeam, doors_kept}
+use Rattle.ak_looper.specs.Stands.{DoorStands, StartsTeam, doors_kept}
 use Rattle.ak_looper.proofs.Surface.{is_stranger, no_entries}
 use Rattle.ak_run.specs.declared.gathering.Joined.{Joined}
 use Rattle.ak_run.specs.Ending.{IsRunOfLoopers}
-use Rattle.ak_run.specs.Gathering.{IsDeskOf, IsGaining, IsJoined, IsPortOf, IsTakenIn, IsWayIn, TookIn, is_short, short_of}
+use Rattle.ak_run.specs.Gathering.{IsGaining, IsJoined, IsTakenIn, IsWayIn, TookIn, is_short, short_of}
 use Rattle.ak_run.specs.Running.{AreBelow}
 use Rattle.ak_run.proofs.Books.{all_desks, all_ports, as_many_desks, as_many_ports}
 use Rattle.ak_run.proofs.Knowing.{known_told, part_known, plain_told}
 use Rattle.ak_run.proofs.Launched.{launched_whole}
-use Rattle.ak_run.proofs.Makers.{IsGathered, MadeByHolders, PortOf, as_many, book_makers, history, made_by_holders, port_makers, port_of}
+use Rattle.ak_run.proofs.Makers.{IsGathered, as_many, book_makers, history, made_by_holders, port_makers, port_of}
 use Rattle.ak_run.proofs.Paired.{AllAreJoined, all_started, ways_lead}
 use Rattle.ak_run.proofs.Placed.{BooksAt, books_at, number_at, short_at, way_to}
 use Rattle.ak_run.proofs.Standing.{starts_then_starts}

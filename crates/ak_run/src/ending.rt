@@ -1,6 +1,8 @@
 //! The end of a run.
 
-use crate::gathering::{AllJoined, join_all, keep_all, keep_book, keep_roster, take_all_ways, take_kept};
+use crate::gathering::{
+    AllJoined, join_all, keep_all, keep_book, keep_roster, take_all_ways, take_kept,
+};
 use crate::new_looper::Shared;
 use crate::run::Run;
 use ak_base::Items;
