@@ -2,8 +2,8 @@
 use Rattle.std.proofs.Common.{List, subst}
 use Rattle.ak_roster.specs.declared.head.AppHead.{AppHead}
 use Rattle.ak_describe.specs.Whole.{heads_of}
-use Rattle.ak_run.specs.Ending.{HasEnded}
-use Rattle.ak_run.proofs.Ended.{accounted, by_rule, runs_on, same_heads_of}
+use Rattle.ak_run.specs.Ending.{IsRunOfLoopers}
+use Rattle.ak_run.proofs.Endings.{accounted, by_rule, runs_on, same_heads_of}
 use Rattle.ak_run.proofs.run.Run.end.Goals as goal
 
 pub gathered-requires : goal.gathered-requires
@@ -11,10 +11,10 @@ gathered-requires g c = record { running = runs_on c.args.self c.leave_all.new.s
 
 pub returns : goal.returns
 returns g c =
-    let h = c.gathered.result in
-    let ended = c.gathered.ensures.ended in
+    let ended = c.gathered.result in
+    let run = c.gathered.ensures.run in
     record {
-      ended = subst (λ (heads : List AppHead). HasEnded heads h) (same_heads_of c.args.self c.leave_all.new.self c.leave_all.ensures) ended;
-      accepted = accounted c.accepted_is_dispatched_then_left.ensures (heads_of c.leave_all.new.self.apps.items) h ended;
-      dispatched = by_rule c.each_is_dispatched_by_rule.ensures (heads_of c.leave_all.new.self.apps.items) h ended;
+      run = subst (λ (heads : List AppHead). IsRunOfLoopers heads ended.short ended.histories) (same_heads_of c.args.self c.leave_all.new.self c.leave_all.ensures) run;
+      accepted = accounted c.accepted_is_dispatched_then_left.ensures (heads_of c.leave_all.new.self.apps.items) ended.short ended.histories run;
+      dispatched = by_rule c.each_is_dispatched_by_rule.ensures (heads_of c.leave_all.new.self.apps.items) ended.short ended.histories run;
     }
