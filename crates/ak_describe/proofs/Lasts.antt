@@ -9,7 +9,7 @@ use Rattle.ak_describe.specs.Pass.{last_item, with_item, on_item, on_last}
 use Rattle.ak_describe.specs.Words.{texts, behind_first, last_of}
 
 -- ---- the last word
-last_of-push : (words : List (List ℕ)) (w : List ℕ) → last_of (words ++ w ∷ []) ≡ Some (w, words)
+pub last_of-push : (words : List (List ℕ)) (w : List ℕ) → last_of (words ++ w ∷ []) ≡ Some (w, words)
 last_of-push [] w = refl
 last_of-push (v ∷ words) w = ap (behind_first v) (last_of-push words w)
 

@@ -15,7 +15,7 @@ use Rattle.ak_port.specs.declared.port_entry.PortEntry.{PortEntry}
 use Rattle.ak_port.specs.declared.port_entry.PortEvent.{PortEvent}
 use Rattle.ak_port.specs.declared.port_entry.PortEvent.TheVariants as event
 use Rattle.ak_port.specs.PortMachine.{handed_out, state_of}
-use Rattle.ak_port.specs.TakerLaws.{handed_at, handed_by, takes_items}
+use Rattle.ak_port.specs.TakerLaws.{IsNoTake, handed_at, handed_by, takes_items}
 use Rattle.ak_action.specs.declared.answer.Answer.{Answer}
 use Rattle.ak_action.specs.declared.answer.Answer.TheVariants as answer
 use Rattle.ak_action.specs.declared.answer.Want.{Want}
@@ -77,16 +77,11 @@ converses_serving to item flat steps c =
     (All-cons IsServing (at_book c.opened) (at_port to.looper c.written ∷ at_book c.taken ∷ []) tt
     (All-cons IsServing (at_port to.looper c.written) (at_book c.taken ∷ []) (ap takes_items c.written_is) (All-cons IsServing (at_book c.taken) [] tt (All-nil IsServing))))
 
--- an event that takes nothing, if there is one
-abbrev TakesNothing : Option PortEvent → Type 0
-TakesNothing None = Unit {0}
-TakesNothing (Some e) = takes_items e ≡ false
-
-refused_serving : (looper : ℕ) (e : Option PortEvent) (steps : List Step) → TakesNothing e → IsRefusedBy looper e steps → All IsServing steps
+refused_serving : (looper : ℕ) (e : Option PortEvent) (steps : List Step) → IsNoTake e → IsRefusedBy looper e steps → All IsServing steps
 refused_serving looper None steps quiet r = none IsServing steps r
 refused_serving looper (Some e) steps quiet r = port_serving looper e steps quiet r
 
-withdraws_serving : (to : Address) (e : Option PortEvent) (steps : List Step) → TakesNothing e → Withdraws to e steps → All IsServing steps
+withdraws_serving : (to : Address) (e : Option PortEvent) (steps : List Step) → IsNoTake e → Withdraws to e steps → All IsServing steps
 withdraws_serving to e steps quiet w =
     both IsServing (at_book w.opened ∷ w.refused) w.closing steps (All-cons IsServing (at_book w.opened) w.refused tt (refused_serving to.looper e w.refused quiet w.refused_is))
     (cancels_serving w.slot w.closing w.closes) w.is

@@ -1,6 +1,6 @@
 -- The taker takes the rest once.
-use Rattle.std.proofs.Common.{◌≡◌, ℕ, ◌+◌, Bool, true, false, List, [], ◌∷◌, ◌++◌, length, All, refl, sym, ap, ◌∙◌, subst, arith, append_assoc}
-use Rattle.std.proofs.lemmas.Bool.{false≢true}
+use Rattle.std.proofs.Common.{◌≡◌, ℕ, ◌+◌, true, false, List, [], ◌∷◌, ◌++◌, length, All, refl, sym, ap, ◌∙◌, subst, arith, append_assoc}
+use Rattle.std.proofs.lemmas.Bool.{false_from_ne_true, false≢true}
 use Rattle.std.proofs.lemmas.List.Elements.{All-cons, All-nil}
 use Rattle.ak_turn.specs.Noted.{Noted, noted}
 use Rattle.ak_port.specs.declared.port_entry.PortEntry.{PortEntry}
@@ -47,15 +47,11 @@ rests s (event.Took k) is = absurd (false≢true is)
 rests s (event.Rest k) is = refl
 rests s event.Shut is = absurd (false≢true is)
 
-unless : (b : Bool) → (b ≡ true → ⊥) → b ≡ false
-unless true not = absurd (not refl)
-unless false not = refl
-
 -- where the rest is not taken, no entry took it
 none_so_far : (s : PortState) (xs : List PortEntry) → (replayed s xs).rested ≡ false → All IsNoRest xs
 none_so_far s [] unrested = All-nil IsNoRest
 none_so_far s (x ∷ xs) unrested =
-    All-cons IsNoRest x xs (unless (IsRest x.event) (λ is. false≢true (sym unrested ∙ stays_rested (state_after s x.event) xs (rests s x.event is)))) (none_so_far (state_after s x.event) xs unrested)
+    All-cons IsNoRest x xs (false_from_ne_true (IsRest x.event) (λ is. false≢true (sym unrested ∙ stays_rested (state_after s x.event) xs (rests s x.event is)))) (none_so_far (state_after s x.event) xs unrested)
 
 -- where it is taken, none takes it again
 no_rest : (taker by : ℕ) (s : PortState) (e : PortEvent) → s.rested ≡ true → IsAllowed taker by s e → IsRest e ≡ false

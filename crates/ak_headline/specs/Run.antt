@@ -1,5 +1,5 @@
 -- A run that ended: its lists, and the diaries of all threads that made them.
-use Rattle.std.specs.Prelude.{◌≡◌, ◌<◌, ◌==◌, ◌⊎◌, ℕ, List, [], ◌∷◌, length, All, Any, Some, option_map, slice_get, unwrap_or}
+use Rattle.std.specs.Prelude.{◌≡◌, ◌<◌, ◌==◌, ◌⊎◌, ℕ, List, [], length, All, Any, Some, option_map, slice_get, unwrap_or}
 use Rattle.std.specs.List.{list_any}
 use Rattle.ak_base.specs.Thread.{looper_thread, main_thread}
 use Rattle.ak_base.specs.declared.app_word.AppWord.{AppWord}

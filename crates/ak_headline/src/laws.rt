@@ -2,6 +2,10 @@
 
 ghost use Rattle.ak_headline.specs.Headline as headline;
 
+use crate::tallies::{
+    loopers_pay, loopers_send_so, loopers_send_up, loopers_tally, main_asks_so, main_tallies,
+};
+
 /// The messages that each looper dispatched, followed by those that it left, are exactly what its port accepted, in
 /// order and each once.
 pub fn runs_are_accounted()
@@ -17,10 +21,26 @@ pub fn runs_go_by_rule()
     ak_diary::each_is_dispatched_by_rule();
 }
 
-/// Each accepted waiting send got one reply, the one that the rules make for it.
-pub fn each_waiting_send_got_one_reply()
-    ensures { headline.RunsAnswer }
+/// By what the diaries tell of each slot, each accepted waiting send got one reply.
+fn tallies_tell_replies()
+    ensures { headline.TalliesTellReplies }
 {
     ak_diary::accepted_is_dispatched_then_left();
     ak_diary::each_is_dispatched_by_rule();
+    ak_desk::the_list_tells_the_handlers();
+    ak_desk::an_entry_tells_its_reply();
+}
+
+/// Each accepted waiting send got one reply, the one that the rules make for it, by the looper to which it came last; it
+/// took the reply who had asked, and each looper on the way got the message that was asked.
+pub fn each_waiting_send_got_one_reply()
+    ensures { headline.RunsAnswer }
+{
+    tallies_tell_replies();
+    loopers_tally();
+    loopers_send_up();
+    loopers_pay();
+    main_tallies();
+    loopers_send_so();
+    main_asks_so();
 }

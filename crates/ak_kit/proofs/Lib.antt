@@ -1,5 +1,4 @@
 pub mod Answered
-pub mod Answers
 pub mod Command
 pub mod Complete
 pub mod Dispatching

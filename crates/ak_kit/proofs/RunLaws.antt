@@ -1,13 +1,11 @@
 -- The laws of a script's steps.
-use Rattle.std.proofs.Common.{◌≡◌, ℕ, zero, suc, ◌+◌, ◌==◌, List, [], ◌∷◌, ◌++◌, ℤ, length, Option, Some, None, refl, sym, ap, subst, ◌∙◌, arith, true, false, cond, if◌then◌else◌, ◌/◌, ◌%◌, ◌≤◌, pos, negsuc}
-use Rattle.std.specs.Prelude.{codes, count_by, option_map, unwrap_or}
+use Rattle.std.proofs.Common.{◌≡◌, ℕ, ◌+◌, List, [], ◌∷◌, ◌++◌, ℤ, length, Option, Some, None, refl, sym, ap, subst, ◌∙◌, arith, true, false}
+use Rattle.std.specs.Prelude.{codes, option_map, unwrap_or}
 use Rattle.std.specs.List.{flat_map, list_all}
-use Rattle.std.specs.Fmt.{signed_decimal, digits, digits_onto, digit_glyph}
-use Rattle.std.proofs.lemmas.Bool.{ne_eqb, and_parts}
-use Rattle.std.proofs.lemmas.Bool.Decides.{nat_tests}
+use Rattle.std.specs.Fmt.{signed_decimal, digits}
+use Rattle.std.proofs.lemmas.Bool.{and_parts}
 use Rattle.std.proofs.lemmas.List.{append-nil}
 use Rattle.std.proofs.lemmas.List.Elements.{All-nil}
-use Rattle.std.proofs.lemmas.List.Sums.{sum_by-append}
 use Rattle.ak_base.specs.Code.{code_text}
 use Rattle.ak_message.specs.Message.{MessageData}
 use Rattle.ak_flatten.specs.Item.{ItemData}
@@ -24,6 +22,7 @@ use Rattle.ak_desk.specs.Dispatch.{Dispatch, entry_route, fitting}
 use Rattle.ak_desk.specs.Entry.{EntryData}
 use Rattle.ak_desk.specs.Machine.{DeskStep, DispatchStep, Dispatches, IsHistory, Replays, StampsRise}
 use Rattle.ak_desk.specs.Place.{routed_of}
+use Rattle.ak_print.proofs.Surface.{line_ends, line_ends-append, signed_end}
 use Rattle.ak_kit.specs.Dispatched.{IsQuiet}
 use Rattle.ak_kit.specs.FirstInput.{is_askable}
 use Rattle.ak_kit.specs.Laws.{AreLines, StepsMatch, entry_at, lines_from, lines_told, reply_words, route_to}
@@ -156,30 +155,6 @@ hey_text rows s slot (word ∷ asked) opens askable =
 
 -- ---- line ends
 
-line_ends : List ℕ → ℕ
-line_ends text = count_by (λ b. b == 10) text
-
-line_ends-append : (xs ys : List ℕ) → line_ends (xs ++ ys) ≡ line_ends xs + line_ends ys
-unfolding line_ends
-line_ends-append xs ys = sum_by-append (λ b. cond (b == 10) 1 0) xs ys
-
-line_ends_skip : (b : ℕ) (text : List ℕ) → 11 ≤ b → line_ends (b ∷ text) ≡ line_ends text
-unfolding line_ends
-line_ends_skip b text large = rw (ne_eqb b 10 (λ e. omega (arith, e, large))) (omega arith)
-
-line_ends_digits : (k n : ℕ) (acc : List ℕ) → line_ends (digits_onto k 10 false n acc) ≡ line_ends acc
-line_ends_digits zero n acc = refl
-line_ends_digits (suc k) n acc =
-    let digit : ℕ = digit_glyph false (n % 10) in
-    let large : 11 ≤ digit = grind (arith, nat_tests) in
-    let more : line_ends (digit ∷ acc) ≡ line_ends acc = line_ends_skip digit acc large in
-    elim (n / 10 == 0) as (λ t. line_ends (if t then digit ∷ acc else digits_onto k 10 false (n / 10) (digit ∷ acc)) ≡ line_ends acc) [ true ↦ more | false ↦ line_ends_digits k (n / 10) (digit ∷ acc) ∙ more ]
-
-line_ends_number : (n : ℤ) → line_ends (signed_decimal n) ≡ 0
-unfolding digits line_ends
-line_ends_number (pos n) = line_ends_digits 64 n []
-line_ends_number (negsuc n) = line_ends_skip 45 (digits 10 false (suc n)) (omega arith) ∙ line_ends_digits 64 (suc n) []
-
 reply_line_ends : (value : Option ℤ) → line_ends (codes "reply " ++ reply_words value ++ 10 ∷ []) ≡ 1
 unfolding line_ends
 reply_line_ends None = refl
@@ -187,7 +162,7 @@ reply_line_ends (Some n) =
     let front : List ℕ = codes "reply 'RPLY' result=LONG:" in
     let back : List ℕ = codes " error=LONG:0" in
     let number : List ℕ = signed_decimal n in
-    let none : line_ends (number ++ back) ≡ 0 = line_ends-append number back ∙ rw (line_ends_number n) refl in
+    let none : line_ends (number ++ back) ≡ 0 = line_ends-append number back ∙ rw (signed_end n) refl in
     line_ends-append front ((number ++ back) ++ 10 ∷ []) ∙ rw (line_ends-append (number ++ back) (10 ∷ []), none) refl
 
 hey_line_ends : (rows : List (List ℕ × ℤ)) (asked : List (List ℕ)) → line_ends (flat_map (λ word. codes "reply " ++ reply_words (value_of_row rows word) ++ 10 ∷ []) asked) ≡ length asked

@@ -1,5 +1,5 @@
 -- What a step sends, and the line that it adds.
-use Rattle.std.proofs.Common.{◌≡◌, inl, inr, ℕ, ℤ, ◌+◌, ◌-◌, ◌≤◌, List, [], ◌∷◌, ◌++◌, length, Option, Some, None, Result, Ok, Err, OnOk, OnErr, refl, sym, ap, subst, ◌∙◌, arith, true}
+use Rattle.std.proofs.Common.{◌≡◌, ℕ, ◌+◌, ◌-◌, ◌≤◌, List, [], ◌∷◌, ◌++◌, length, Result, Ok, Err, OnOk, OnErr, sym, ap, subst, ◌∙◌, arith, true}
 use Rattle.std.specs.Prelude.{IfOk}
 use Rattle.ak_message.specs.Message.{MessageData}
 use Rattle.ak_flatten.specs.declared.item.Duty.TheVariants as duty
@@ -9,14 +9,12 @@ use Rattle.ak_action.specs.declared.state.DeskState.{DeskState}
 use Rattle.ak_desk.specs.Entry.{EntryData}
 use Rattle.ak_kit.specs.Dispatched.{IsQuiet}
 use Rattle.ak_kit.specs.FirstInput.{is_askable}
-use Rattle.ak_kit.specs.Messages.{answer, get_of, ready_to_run}
+use Rattle.ak_kit.specs.Messages.{get_of, ready_to_run}
 use Rattle.ak_kit.specs.Opening.{IsOpening}
-use Rattle.ak_kit.specs.Reply.{IsAnswer}
-use Rattle.ak_kit.specs.Rows.{value_of_row}
 use Rattle.ak_kit.specs.Run.{get_item, hey_step, item_of, line_of, ready_item, reply_of, reply_text_line}
 use Rattle.ak_kit.specs.Steps.{AddsLine}
 use Rattle.ak_kit.proofs.Items.{askable_word, get_is_short, ready_is_short}
-use Rattle.ak_kit.proofs.RunLaws.{launch_quiet, word_quiet, word_reply}
+use Rattle.ak_kit.proofs.RunLaws.{launch_quiet, word_quiet}
 
 -- ---- a word
 pub word_short : (m : MessageData) (word : List ℕ) → m ≡ get_of word → is_askable word ≡ true → length (spelling m) ≤ 4096
@@ -28,15 +26,6 @@ word_item m word item slot is made = made ∙ ap (λ (x : MessageData). item_of 
 
 pub word_is_quiet : (s : DeskState) (slot : ℕ) (word : List ℕ) (item : ItemData) → item ≡ get_item slot word → IsOpening s → is_askable word ≡ true → IsQuiet s item
 word_is_quiet s slot word item is opens askable = subst (λ (x : ItemData). IsQuiet s x) (sym is) (word_quiet s slot word opens askable)
-
-an_answer : (value : Option ℤ) → IsAnswer (answer value)
-an_answer None = inr (inr refl)
-an_answer (Some n) = inl (n, refl)
-
-pub word_is_answered : (s : DeskState) (slot : ℕ) (word : List ℕ) (item : ItemData) (reply : MessageData) → reply ≡ reply_of s item → item ≡ get_item slot word → IsOpening s → is_askable word ≡ true → IsAnswer reply
-word_is_answered s slot word item reply is made (rows, opens) askable =
-    let same : reply ≡ answer (value_of_row rows word) = is ∙ ap (λ (x : ItemData). reply_of s x) made ∙ word_reply rows s slot word opens askable in
-    subst IsAnswer (sym same) (an_answer (value_of_row rows word))
 
 pub word_line : (s : DeskState) (time slot : ℕ) (word : List ℕ) (item : ItemData) (old new : List EntryData) → 1 ≤ time → slot ≡ time - 1 → item ≡ get_item slot word → new ≡ old ++ line_of s time item ∷ [] → AddsLine (hey_step s (time - 1) word) old new
 word_line s time slot word item old new begun is made added =

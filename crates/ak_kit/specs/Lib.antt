@@ -6,7 +6,6 @@ pub mod Limits
 pub mod Messages
 pub mod Opening
 pub mod Reading
-pub mod Reply
 pub mod Rows
 pub mod Run
 pub mod Seen

@@ -9,7 +9,6 @@ mod laws;
 mod looper;
 mod messages;
 mod reading;
-mod reply;
 mod run;
 mod script;
 mod stopped;

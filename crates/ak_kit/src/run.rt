@@ -9,19 +9,18 @@ ghost use Rattle.ak_flatten.specs.Limits.{flat_limit};
 ghost use Rattle.ak_kit.specs.Dispatched.{IsQuiet, IsResting};
 ghost use Rattle.ak_kit.specs.FirstInput.{is_askable};
 ghost use Rattle.ak_kit.specs.Opening.{IsOpening};
-ghost use Rattle.ak_kit.specs.Reply.{IsAnswer};
 ghost use Rattle.ak_kit.specs.Run.{hey_step, item_of, launch_step, line_of, reply_of, reply_text_line, steps_of};
 ghost use Rattle.ak_kit.specs.Steps.{AddsLine, DoesStep, Carries};
 ghost use Rattle.ak_kit.specs.Limits.{hey_limit};
 
 use crate::messages::{get_message, ready_message};
-use crate::reply::print_reply;
 use crate::stopped::Stopped;
 use ak_base::{Bytes, NoMemory, Text};
 use ak_desk::Desk;
 use ak_flatten::{Duty, FlattenFault, Item, Taken};
 use ak_message::{Message, Target};
 use ak_outside::{Sink, write_all};
+use ak_print::print_message;
 use ak_turn::{Book, Clock};
 use std::alloc::Global;
 
@@ -29,12 +28,11 @@ use std::alloc::Global;
 const LAUNCHED: &[u8] = b"launch team 1\n";
 
 fn reply_line(alloc: Global, reply: &Message) -> Result<Bytes, NoMemory>
-    requires { IsAnswer reply.now }
     ensures { IfOk result (λ line. line ≡ reply_text_line reply.now) }
 {
     let mut line = Bytes::new(alloc);
     line.extend(b"reply ")?;
-    print_reply(reply, &mut line)?;
+    print_message(alloc, reply, &mut line)?;
     line.push(b'\n')?;
     Ok(line)
 }

@@ -21,7 +21,7 @@ use Rattle.ak_looper.specs.declared.job.LooperJob.{LooperJob}
 use Rattle.ak_looper.specs.Job.{BeginsSo, EndsSo, HasLived, IsReady, facts_of}
 use Rattle.ak_looper.specs.Living.{HasRestedSo, Later, kind_of}
 use Rattle.ak_looper.specs.Rosters.{RosterSeat}
-use Rattle.ak_looper.specs.Stands.{BookStands, DeskStands, DoorStands, GoesOn, PortStands, RosterStands, Stands}
+use Rattle.ak_looper.specs.Stands.{BookStands, DeskStands, DoorStands, GoesOn, IsAtOneOf, PortStands, RosterStands, Stands}
 use Rattle.ak_looper.specs.Ways.{KeepsPlaces}
 use Rattle.ak_looper.proofs.Going.{keeps_seat_on}
 use Rattle.ak_diary.proofs.Surface.{IsServing, are_quiet, quiet_at_no_desk, serving_not_short}
@@ -169,4 +169,7 @@ module _ (job : LooperJob) (first life : Life) (k : EndKind) (end : LooperEnd) (
         (subst (All (λ (door : ℕ × Door). door.1.port_seat.thread ≡ e.reach.hands.clock.thread.0)) (sym (ap vec_items e.doors)) e.reach.doors_thread);
     ways =
         ap (λ (doors : List (ℕ × Door)). map (λ (door : ℕ × Door). door.0) doors) (ap vec_items e.doors) ∙ stands.ways ∙ sym (ap (λ ns. ns ++ doors_got steps) ready.doors);
+    at_ways =
+        subst (λ (n : ℕ). All (IsAtOneOf (n ∷ map (λ (door : ℕ × Door). door.0) end.doors.items)) steps) (sym (e.number ∙ keeps.number ∙ b.number))
+        (subst (λ (doors : List (ℕ × Door)). All (IsAtOneOf (job.number ∷ map (λ (door : ℕ × Door). door.0) doors)) steps) (sym (ap vec_items e.doors)) stands.at_ways);
   }

@@ -55,7 +55,7 @@ module _ (ways : List ℕ) (looper : ℕ) (none : Contains ways looper → ⊥) 
   no_sight (saw_book list) there = refl
   no_sight lacked there = refl
 
-  no_entries : (steps : List Step) → All (IsAtOneOf ways) steps → port_entries looper steps ≡ []
+  pub no_entries : (steps : List Step) → All (IsAtOneOf ways) steps → port_entries looper steps ≡ []
   no_entries [] there = refl
   no_entries (step ∷ steps) there =
       ap (λ l. l ++ port_entries looper steps) (no_entry step (All-head (IsAtOneOf ways) step steps there)) ∙ no_entries steps (All-tail (IsAtOneOf ways) step steps there)

@@ -93,7 +93,18 @@ none_of_four owns l thread looper entries history launched of within is other no
       not_keeper = λ e. omega (arith, is, e, team.1, within);
     }
 
--- ---- so it may get the door
+-- ---- so it has no part of what that door leads to
+pub is_stranger : OwnsStayInTeams → StrangersAreTold → EntriesTellPlain Object → (l : LooperFacts) (steps : List Step) (seat : RosterSeat) (looper : ℕ) (entries : List (EntryWithObjects Object)) → IsHistory l.heads (plain_entries entries)
+    → Any (StartsTeam l) entries → is_of_team l l.number ≡ true → l.first + l.loopers ≤ looper_limit → noted maker_of seat.thread (plain_of seat) ≡ roster_entries steps
+    → made_by by_number seat.thread entries ≡ made_by by_number seat.thread seat.front → seat.thread ≡ looper_thread l.number → looper ≢ l.number → All (λ number. number ≢ looper) (doors_kept l ++ doors_got steps)
+    → IsStranger seat.thread looper (slice_get (state_of l.heads (plain_entries entries)).loopers looper)
+is_stranger owns strangers tell l steps seat looper entries history launched of within is made thread here ways =
+    let mine = own_entries tell looper seat entries (roster_entries steps) is made (none_of_door looper steps (All-right (λ number. number ≢ looper) (doors_kept l) (doors_got steps) ways)) in
+    let kept : Contains (doors_kept l) looper → ⊥ = λ there. All-contains (λ number. number ≢ looper) (doors_kept l) looper (All-left (λ number. number ≢ looper) (doors_kept l) (doors_got steps) ways) there refl in
+    let four = none_of_four owns l seat.thread looper entries history launched of within thread here kept (slice_get (state_of l.heads (plain_entries entries)).loopers looper) refl in
+    strangers l.heads (plain_entries entries) seat.thread looper history four mine
+
+-- and may get the door
 pub may_get_door : OwnsStayInTeams → StrangersAreTold → EntriesTellPlain Object → (l : LooperFacts) (start : ℕ) (steps : List Step) (r : Reach) (looper : ℕ) → Stands l start steps r → r.roster_seat.thread ≡ looper_thread r.number
     → looper ≢ r.number → All (λ number. number ≢ looper) (numbers_of r) → MayGetDoor looper r.roster_seat
 may_get_door owns strangers tell l start steps r looper stands thread other none = λ heads front opening starts made history.
@@ -103,8 +114,5 @@ may_get_door owns strangers tell l start steps r looper stands thread other none
     let ways : All (λ number. number ≢ looper) (doors_kept l ++ doors_got steps) = subst (λ (ns : List ℕ). All (λ number. number ≢ looper) ns) stands.ways none in
     let launched : Any (StartsTeam l) front = subst (λ (es : List (EntryWithObjects Object)). Any (StartsTeam l) es) (sym starts.1) (any_still (StartsTeam l) seat.front starts.0 stands.launched) in
     let history' : IsHistory l.heads (plain_entries front) = subst (λ (hs : List AppHead). IsHistory hs (plain_entries front)) (sym same) history in
-    let mine = own_entries tell looper seat front (roster_entries steps) stands.roster.noted_is made (none_of_door looper steps (All-right (λ number. number ≢ looper) (doors_kept l) (doors_got steps) ways)) in
-    let kept : Contains (doors_kept l) looper → ⊥ = λ there. All-contains (λ number. number ≢ looper) (doors_kept l) looper (All-left (λ number. number ≢ looper) (doors_kept l) (doors_got steps) ways) there refl in
-    let four = none_of_four owns l seat.thread looper front history' launched stands.of_team stands.within (thread ∙ ap looper_thread stands.number) here kept (slice_get (state_of l.heads (plain_entries front)).loopers looper) refl in
     subst (λ (hs : List AppHead). IsStranger seat.thread looper (slice_get (state_of hs (plain_entries front)).loopers looper)) same
-    (strangers l.heads (plain_entries front) seat.thread looper history' four mine)
+    (is_stranger owns strangers tell l steps seat looper front history' launched stands.of_team stands.within stands.roster.noted_is made (thread ∙ ap looper_thread stands.number) here ways)

@@ -1,5 +1,5 @@
 -- What a looper's thread is started with, and what its life comes to.
-use Rattle.std.specs.Prelude.{◌≡◌, ◌+◌, ◌≤◌, ℕ, ◌-◌, true, List, [], ◌++◌, map, All, Any, Some}
+use Rattle.std.specs.Prelude.{◌≡◌, ◌+◌, ◌≤◌, ℕ, ◌-◌, true, List, [], ◌∷◌, ◌++◌, map, All, Any, Some}
 use Rattle.std.specs.VecDeque.{deque_len, deque_capacity}
 use Rattle.ak_base.specs.Limits.{looper_limit}
 use Rattle.ak_roster.specs.declared.head.AppHead.{AppHead}
@@ -18,7 +18,7 @@ use Rattle.ak_looper.specs.declared.job.LooperEnd.{LooperEnd}
 use Rattle.ak_looper.specs.Living.{kind_of}
 use Rattle.ak_looper.specs.Rosters.{maker_of, plain_of}
 use Rattle.ak_looper.specs.declared.reach.Reach.{Reach}
-use Rattle.ak_looper.specs.Stands.{BookStands, DeskStands, DoorStands, GoesOn, PortStands, RosterStands, Stands, StartsTeam, doors_kept}
+use Rattle.ak_looper.specs.Stands.{BookStands, DeskStands, DoorStands, GoesOn, IsAtOneOf, PortStands, RosterStands, Stands, StartsTeam, doors_kept}
 use Rattle.ak_looper.specs.Ways.{KeepsReach}
 use Rattle.ak_diary.specs.Turns.{LeavesAll}
 use Rattle.ak_diary.specs.Diary.{IsDiary, ending_of}
@@ -52,7 +52,7 @@ pub record IsReady (job : LooperJob) : Type 0 where
 
 -- What the thread made at all its seats is one diary that the rules allow, from the clock's time on; how it ended is as that tells. Each
 -- seat is one at the same lock as before; the doors are those that it had and those that the diary got, each of which leads to what the
--- roster pairs with its looper
+-- roster pairs with its looper. A step at a port is at its own or behind one of these doors
 pub record HasLived (job : LooperJob) (end : LooperEnd) : Type 0 where
   pub heads : List AppHead
   pub heads_are : job.roster_seat.opening ≡ Some heads
@@ -77,6 +77,7 @@ pub record HasLived (job : LooperJob) (end : LooperEnd) : Type 0 where
   pub doors : All (DoorStands steps end.roster_seat) end.doors.items
   pub doors_thread : All (λ (door : ℕ × Door). door.1.port_seat.thread ≡ end.hands.clock.thread.0) end.doors.items
   pub ways : map (λ (door : ℕ × Door). door.0) end.doors.items ≡ map (λ (door : ℕ × Door). door.0) job.doors.items ++ doors_got steps
+  pub at_ways : All (IsAtOneOf (end.number ∷ map (λ (door : ℕ × Door). door.0) end.doors.items)) steps
 
 -- the thread as it begins: with all that the job has
 pub record BeginsSo (job : LooperJob) (life : Life) : Type 0 where

@@ -1,6 +1,7 @@
 //! Doors that the roster keeps.
 ghost use Rattle.std.specs.Prelude.{◌≡◌, ℕ, [], true, false, is_some};
 ghost use Rattle.std.specs.Arc.{arc_value};
+ghost use Rattle.ak_base.specs.Thread.{keeper_thread};
 ghost use Rattle.ak_turn.specs.Entries.{made_by};
 ghost use Rattle.ak_turn.specs.Steps.{IsNewName};
 ghost use Rattle.ak_port.specs.PortCalls as ports;
@@ -15,7 +16,7 @@ use ak_turn::{Seat, TurnLock};
 use std::sync::Arc;
 
 /// The door to a looper that the roster keeps, with the seats of the keeper. These are the heads at the port and at the
-/// desk, which know the threads that have had a seat there: no other thread has made an entry.
+/// desk, which know the threads that have had a seat there: no other thread has made an entry. The keeper makes none.
 #[derive(Drop)]
 pub struct KeptDoor {
     /// The looper's port, shared.
@@ -32,6 +33,8 @@ pub struct KeptDoor {
     ghost desk_idle: { desk_seat.turn ≡ false },
     ghost names: { desk_seat.names ≡ port_seat.names },
     ghost head: { is_some port_seat.names ≡ true },
+    ghost keeper: { port_seat.thread ≡ keeper_thread },
+    ghost keeper_idle: { made_by ports.by_number keeper_thread port_seat.front ≡ [] },
     ghost port_known: { (thread : ℕ) → IsNewName port_seat.names thread → made_by ports.by_number thread port_seat.front ≡ [] },
     ghost desk_known: { (thread : ℕ) → IsNewName desk_seat.names thread → made_by desks.by_number thread desk_seat.front ≡ [] },
 }

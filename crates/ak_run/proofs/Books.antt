@@ -1,12 +1,10 @@
 -- The ports and the desks of the loopers, one after another.
-use Rattle.std.proofs.Common.{◌≡◌, ℕ, suc, ◌+◌, List, [], ◌∷◌, ◌++◌, length, map, All, refl, sym, ap, ◌∙◌, subst, append_assoc, append-nil, arith}
-use Rattle.std.specs.List.{range_with_len}
-use Rattle.std.proofs.lemmas.List.Elements.{All-cons, All-head, All-nil, All-tail}
+use Rattle.std.proofs.Common.{◌≡◌, suc, List, [], ◌∷◌, ◌++◌, length, All, refl, sym, ap, subst, append_assoc, append-nil}
+use Rattle.std.proofs.lemmas.List.Elements.{All-cons, All-nil}
 use Rattle.ak_port.specs.PortCalls.{IsPortBook, PortData}
 use Rattle.ak_desk.specs.Desk.{DeskData}
 use Rattle.ak_diary.specs.Histories.{IsDeskBook}
 use Rattle.ak_run.specs.declared.gathering.Joined.{Joined}
-use Rattle.ak_run.specs.Ending.{Each}
 use Rattle.ak_run.specs.Gathering.{AreBooksOf, IsDeskOf, IsPortOf}
 
 -- ---- these ports and desks, and any that are those of the rest, are those of all
@@ -62,26 +60,3 @@ all_desks [] [] (desk ∷ desks) books = absurd books
 all_desks [] (port ∷ ports) desks books = absurd books
 all_desks (j ∷ js) [] desks books = absurd books
 all_desks (j ∷ js) (port ∷ ports) [] books = absurd books
-
--- ---- looper after looper, by their numbers
-module _ (P : Joined → Type 0) (Q : ℕ → PortData → DeskData → Type 0) (tells : (j : Joined) (port : PortData) (desk : DeskData) → P j → IsPortOf j.door.port_seat port → IsDeskOf j.door.desk_seat desk → Q j.number port desk) where
-  pub each_from : (n : ℕ) (js : List Joined) (ports : List PortData) (desks : List DeskData) → All P js → map (λ (j : Joined). j.number) js ≡ range_with_len n (length js) → AreBooksOf js ports desks → Each Q n ports desks
-  each_from n [] [] [] all numbers books = tt
-  each_from n (j ∷ js) (port ∷ ports) (desk ∷ desks) all numbers books =
-      let here : j.number ≡ n = cc numbers in
-      let behind : map (λ (j : Joined). j.number) js ≡ range_with_len (n + 1) (length js) = cc numbers in
-      let next : n + 1 ≡ suc n = omega arith in (
-        subst (λ (m : ℕ). Q m port desk) here (tells j port desk (All-head P j js all) books.0.0 books.0.1),
-        each_from (suc n) js ports desks (All-tail P j js all) (behind ∙ ap (λ (m : ℕ). range_with_len m (length js)) next) books.1,
-      )
-  each_from n [] [] (desk ∷ desks) all numbers books = absurd books
-  each_from n [] (port ∷ ports) desks all numbers books = absurd books
-  each_from n (j ∷ js) [] desks all numbers books = absurd books
-  each_from n (j ∷ js) (port ∷ ports) [] all numbers books = absurd books
-
--- what holds of each, where more did
-pub each_weaker : (P Q : ℕ → PortData → DeskData → Type 0) → ((n : ℕ) (port : PortData) (desk : DeskData) → P n port desk → Q n port desk) → (n : ℕ) (ports : List PortData) (desks : List DeskData) → Each P n ports desks → Each Q n ports desks
-each_weaker P Q tells n [] [] each = tt
-each_weaker P Q tells n (port ∷ ports) (desk ∷ desks) each = (tells n port desk each.0, each_weaker P Q tells (suc n) ports desks each.1)
-each_weaker P Q tells n [] (desk ∷ desks) each = absurd each
-each_weaker P Q tells n (port ∷ ports) [] each = absurd each

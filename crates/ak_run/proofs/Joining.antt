@@ -1,17 +1,21 @@
 -- A looper whose thread was joined.
-use Rattle.std.proofs.Common.{◌≡◌, List, ◌∷◌, All, Contains, refl, sym, ap, ◌∙◌, subst, arith}
+use Rattle.std.proofs.Common.{◌≡◌, ℕ, List, ◌∷◌, All, Contains, Option, None, Some, refl, sym, ap, ◌∙◌, subst, arith}
+use Rattle.std.specs.Prelude.{slice_get}
 use Rattle.std.proofs.lemmas.List.Elements.{All-weaker, Contains-append_left, Contains-append_right}
 use Rattle.ak_base.specs.Thread.{looper_thread}
 use Rattle.ak_turn.specs.Entries.{StartsWith}
-use Rattle.ak_turn.specs.Seats.{SeatData, joined_seat, part_of}
+use Rattle.ak_turn.specs.Seats.{LockId, SeatData, joined_seat, part_of}
+use Rattle.ak_turn.specs.Steps.{either_names}
 use Rattle.ak_roster.specs.declared.entry.EntryWithObjects.{EntryWithObjects}
 use Rattle.ak_roster.specs.declared.head.AppHead.{AppHead}
+use Rattle.ak_roster.specs.Roster.{objects_of}
 use Rattle.ak_port.specs.PortCalls.{PortSeat}
 use Rattle.ak_port.specs.ReplySeats.{ReplySeat}
 use Rattle.ak_desk.specs.Shared.{DeskSeat}
 use Rattle.ak_looper.specs.declared.job.LooperEnd.{LooperEnd}
 use Rattle.ak_looper.specs.declared.job.LooperJob.{LooperJob}
 use Rattle.ak_looper.specs.Job.{HasLived, IsReady}
+use Rattle.ak_looper.specs.Doors.{door_object}
 use Rattle.ak_looper.specs.Rosters.{Object, RosterSeat}
 use Rattle.ak_run.specs.declared.gathering.Joined.{Joined}
 use Rattle.ak_run.specs.declared.member.Member.{Member}
@@ -32,10 +36,11 @@ module _ {O L : Type 0} where
     turn = ap (λ (s : SeatData O L). s.turn) is;
     front = ap (λ (s : SeatData O L). s.front) is;
     parts = λ part there. subst (λ (s : SeatData O L). Contains s.joined part) (sym is) (Contains-append_left seat.joined (part_of other ∷ other.joined) part there);
+    head = λ names at. ap (λ (s : SeatData O L). s.names) is ∙ ap (λ (ns : Option (List ℕ)). either_names ns other.names) at;
   }
 
   pub knows_as_before : (seat : SeatData O L) → GoesOnKnowing seat seat
-  knows_as_before seat = record { lock = refl; opening = refl; thread = refl; turn = refl; front = refl; parts = λ part there. there }
+  knows_as_before seat = record { lock = refl; opening = refl; thread = refl; turn = refl; front = refl; parts = λ part there. there; head = λ names at. at }
 
   pub knows_further : (a b c : SeatData O L) → GoesOnKnowing a b → GoesOnKnowing b c → GoesOnKnowing a c
   knows_further a b c one two = record {
@@ -45,6 +50,7 @@ module _ {O L : Type 0} where
     turn = two.turn ∙ one.turn;
     front = two.front ∙ one.front;
     parts = λ part there. two.parts part (one.parts part there);
+    head = λ names at. two.head names (one.head names at);
   }
 
 -- ---- while others are joined
@@ -55,6 +61,9 @@ member_still heads shared roster roster' m on is =
       ready = is.ready;
       at_port = is.at_port;
       at_desk = is.at_desk;
+      leads = ap (λ (front : List (EntryWithObjects Object)). slice_get (objects_of front) m.number) on.front ∙ is.leads;
+      no_head = is.no_head;
+      own_no_head = is.own_no_head;
       at_book = is.at_book;
       at_roster = is.at_roster;
       heads_are = is.heads_are;
@@ -88,6 +97,8 @@ joined_still heads roster roster' book book' j on_roster on_book is =
       desk_opening = is.desk_opening;
       job_desk = is.job_desk;
       by_main = is.by_main;
+      leads = ap (λ (front : List (EntryWithObjects Object)). slice_get (objects_of front) j.number) on_roster.front ∙ is.leads;
+      kind = is.kind;
     }
 
 pub all_joined_still : (heads : List AppHead) (roster roster' : RosterSeat) (book book' : ReplySeat) (js : List Joined) → GoesOnKnowing roster roster' → GoesOnKnowing book book'
@@ -97,11 +108,11 @@ all_joined_still heads roster roster' book book' js on_roster on_book all =
 
 -- ---- its thread gave this back, and main's seats took in what the thread's knew
 pub is_joined : (heads : List AppHead) (shared : Shared) (roster roster' : RosterSeat) (book book' : ReplySeat) (m : Member) (end : LooperEnd) (j : Joined)
-    → IsMember heads shared roster m → HasLived m.job.value end → j.number ≡ m.number → j.job.value ≡ m.job.value → j.end.value ≡ end
+    → IsMember heads shared roster m → HasLived m.job.value end → j.number ≡ m.number → j.job.value ≡ m.job.value → j.end.value ≡ end → j.kind ≡ end.kind
     → roster' ≡ joined_seat roster end.roster_seat → book' ≡ joined_seat book end.hands.book_seat
     → j.door.port_seat ≡ joined_seat m.door.port_seat end.own.port_seat → j.door.desk_seat ≡ joined_seat m.door.desk_seat end.own.desk_seat
     → IsJoined heads roster' book' j
-is_joined heads shared roster roster' book book' m end j is lived number job gave at_roster at_book at_port at_desk =
+is_joined heads shared roster roster' book book' m end j is lived number job gave kind at_roster at_book at_port at_desk =
     record {
       number = ap (λ (job : LooperJob). job.number) job ∙ is.number ∙ sym number;
       ready = subst IsReady (sym job) is.ready;
@@ -119,4 +130,15 @@ is_joined heads shared roster roster' book book' m end j is lived number job gav
       desk_opening = ap (λ (s : DeskSeat). s.opening) at_desk ∙ is.desk_opening;
       job_desk = ap (λ (job : LooperJob). job.own.desk_seat.opening) job ∙ is.job_desk;
       by_main = ap (λ (s : PortSeat). s.thread) at_port ∙ is.by_main;
+      leads =
+          ap (λ (s : RosterSeat). slice_get (objects_of s.front) j.number) at_roster ∙ ap (slice_get (objects_of roster.front)) number ∙ is.leads
+          ∙ ap (λ (lock : LockId). Some (door_object lock m.door.desk_seat.lock)) (sym (ap (λ (s : PortSeat). s.lock) at_port))
+          ∙ ap (λ (lock : LockId). Some (door_object j.door.port_seat.lock lock)) (sym (ap (λ (s : DeskSeat). s.lock) at_desk));
+      kind = kind ∙ ap (λ (e : LooperEnd). e.kind) (sym gave);
     }
+
+-- neither main's seat at its port nor the thread's was the head
+pub still_no_head : (heads : List AppHead) (shared : Shared) (roster : RosterSeat) (m : Member) (end : LooperEnd) (seat : PortSeat) → IsMember heads shared roster m → HasLived m.job.value end
+    → seat ≡ joined_seat m.door.port_seat end.own.port_seat → seat.names ≡ None
+still_no_head heads shared roster m end seat is lived joined =
+    ap (λ (s : PortSeat). s.names) joined ∙ ap (λ (ns : Option (List ℕ)). either_names ns end.own.port_seat.names) is.no_head ∙ lived.port_kept.names ∙ is.own_no_head

@@ -1,5 +1,6 @@
 -- What the whole list has by a thread is what was known of it.
-use Rattle.std.proofs.Common.{◌≡◌, ℕ, suc, ◌==◌, cond, List, [], ◌∷◌, ◌++◌, map, All, sym, refl, ap, ◌∙◌, subst, ◌≢◌}
+use Rattle.std.proofs.Common.{◌≡◌, ℕ, suc, ◌==◌, cond, List, [], ◌∷◌, ◌++◌, map, All, Contains, Option, Some, sym, refl, ap, ◌∙◌, subst, ◌≢◌}
+use Rattle.std.specs.Prelude.{IfSome}
 use Rattle.std.proofs.lemmas.List.{map-append}
 use Rattle.std.proofs.lemmas.List.Elements.{All-contains, All-map}
 use Rattle.ak_turn.specs.declared.view.Part.{Part}
@@ -28,6 +29,12 @@ module _ {O L : Type 0} (by : L → ℕ) where
   pub knows_all : (seat given : SeatData O L) (entries : List L) → IsGiven by seat given → KnowsWhole by given → entries ≡ given.front → KnowsAll by seat entries
   knows_all seat given entries seen whole list =
       subst (λ (es : List L). All (IsKnown by es) seat.joined) (sym list) (subst (All (IsKnown by given.front)) (ap (λ (s : SeatData O L). s.joined) seen.after) whole.joined)
+
+  -- of a head, each entry is by one of the names
+  pub named_all : (seat given : SeatData O L) (entries : List L) → IsGiven by seat given → KnowsWhole by given → entries ≡ given.front → (names : List ℕ) → seat.names ≡ Some names → All (λ (entry : L). Contains names (by entry)) entries
+  named_all seat given entries seen whole list names at =
+      let P : Option (List ℕ) → Type 0 = λ (ns : Option (List ℕ)). IfSome ns (λ (all : List ℕ). All (λ (entry : L). Contains all (by entry)) given.front) in
+      subst (All (λ (entry : L). Contains names (by entry))) (sym list) (subst P (ap (λ (s : SeatData O L). s.names) seen.after ∙ at) whole.names)
 
 -- ---- the roster's entries as the journal shows them
 plain_both : (xs ys : List (EntryWithObjects Object)) → plain_entries (xs ++ ys) ≡ plain_entries xs ++ plain_entries ys

@@ -28,7 +28,7 @@ use Rattle.ak_run.proofs.GoingOn.{some_same}
 use Rattle.ak_run.proofs.Recorded.{ports_made, record_on, team_made, turn_acts}
 use Rattle.ak_run.proofs.RosterTurn.{RosterOn, goes_on, sees_all, started_at_turn}
 use Rattle.ak_run.proofs.Standing.{BookOn, same_loopers, stands_on}
-use Rattle.ak_run.proofs.Ways.{object, own_ways}
+use Rattle.ak_run.proofs.Ways.{all_paired, object, own_ways}
 
 -- whatever it comes to, main entered one entry or none
 pub comes_entered : (apps : List AppText) (shared : Shared) (book book' : Book) (l : Launch) → ComesTo apps shared book book' l → (n : ℕ) × HasEntered n book book'
@@ -116,6 +116,7 @@ module _ (r r' : Run) (is : IsRunning r) (keeps : KeepsRest r r') (members : r'.
           within = h.within;
           launched = λ desk. subst (Any (StartsTeam (facts_in is.heads t.team t.team.first desk))) (sym (whole n entered)) (subst (λ hs. Any (StartsTeam (facts_in hs t.team t.team.first desk)) book'.entries) heads_same (h.launched desk));
           ways_are = λ desk. own_ways h.plans t.team.number t.team.first r.shared t.new h.kept n (objects_of book.entries) r'.roster_seat is.heads desk h.new all h.before objects;
+          paired = all_paired h.plans t.team.number t.team.first r.shared t.new h.kept (objects_of book.entries) r'.roster_seat h.new h.before objects;
         },
         omega (arith, h.count, h.few),
         started n entered,

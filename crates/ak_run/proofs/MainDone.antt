@@ -1,7 +1,7 @@
 -- At the end main's diary has all that main did.
-use Rattle.std.proofs.Common.{◌≡◌, ◌≢◌, ℕ, zero, suc, List, [], ◌∷◌, ◌++◌, map, All, sym, refl, ap, ◌∙◌, subst, append-nil}
+use Rattle.std.proofs.Common.{◌≡◌, ◌≢◌, ℕ, zero, suc, List, [], ◌∷◌, ◌++◌, map, All, sym, refl, ap, ◌∙◌, subst, append-nil, arith}
 use Rattle.std.proofs.lemmas.List.{map-append}
-use Rattle.std.proofs.lemmas.List.Elements.{All-head, All-map, All-tail}
+use Rattle.std.proofs.lemmas.List.Elements.{All-cons, All-head, All-map, All-tail, All-weaker}
 use Rattle.std.specs.Prelude.{option_map, slice_get, unwrap_or}
 use Rattle.ak_base.specs.Thread.{main_thread}
 use Rattle.ak_turn.specs.Entries.{AreByOthers}
@@ -26,7 +26,7 @@ use Rattle.ak_looper.specs.declared.kept_door.KeptDoor.{KeptDoor}
 use Rattle.ak_looper.specs.Rosters.{Object, RosterSeat, by_number, maker_of, plain_of}
 use Rattle.ak_run.specs.declared.gathering.Joined.{Joined}
 use Rattle.ak_run.specs.declared.run.Run.{Run}
-use Rattle.ak_run.specs.Gathering.{AreBooksOf, GoesOnKnowing, IsJoined, IsRosterOf, joined_front}
+use Rattle.ak_run.specs.Gathering.{AreBooksOf, AreGaining, GoesOnKnowing, IsGaining, IsJoined, IsRosterOf, joined_front}
 use Rattle.ak_run.specs.Recording.{EndsByOthers, Fronts, HasMainDiary, HasRecord, IsRecorded, PortsEndByOthers, fronts_of, list_at, member_front}
 use Rattle.ak_run.proofs.Acts.{seen_still}
 
@@ -61,15 +61,29 @@ main_done steps f h is roster book ports = record {
 }
 
 -- ---- of what was gathered
-ports_end : (heads : List AppHead) (roster : RosterSeat) (book : ReplySeat) (js : List Joined) (ports : List PortData) (desks : List DeskData) → All (IsJoined heads roster book) js → AreBooksOf js ports desks → PortsEndByOthers (map joined_front js) ports
-ports_end heads roster book [] [] [] all kept = tt
-ports_end heads roster book (j ∷ js) (port ∷ ports) (desk ∷ desks) all kept =
-    let is = All-head (IsJoined heads roster book) j js all in
-    (kept.0.0.ends is.by_main, ports_end heads roster book js ports desks (All-tail (IsJoined heads roster book) j js all) kept.1)
-ports_end heads roster book [] [] (desk ∷ desks) all kept = absurd kept
-ports_end heads roster book [] (port ∷ ports) desks all kept = absurd kept
-ports_end heads roster book (j ∷ js) [] desks all kept = absurd kept
-ports_end heads roster book (j ∷ js) (port ∷ ports) [] all kept = absurd kept
+abbrev IsMains : Joined → Type 0
+IsMains j = j.door.port_seat.thread ≡ main_thread
+
+-- while its doors take in what other seats know they are at what they were
+gaining_tail : (j j' : Joined) (js js' : List Joined) → AreGaining (j ∷ js) (j' ∷ js') → AreGaining js js'
+gaining_tail j j' js js' gains = record { count = omega (arith, gains.count); each = λ place x there. gains.each (suc place) x there }
+
+fronts_still : (js js' : List Joined) → AreGaining js js' → (map joined_front js' ≡ map joined_front js) × (All IsMains js → All IsMains js')
+fronts_still [] [] gains = (refl, λ all. all)
+fronts_still [] (j' ∷ js') gains = absurd (omega (arith, gains.count))
+fronts_still (j ∷ js) [] gains = absurd (omega (arith, gains.count))
+fronts_still (j ∷ js) (j' ∷ js') gains =
+    let first : IsGaining j j' = gains.each 0 j refl in
+    let rest = fronts_still js js' (gaining_tail j j' js js' gains) in
+    (ap (λ front. front ∷ map joined_front js') first.port.front ∙ ap (λ l. joined_front j ∷ l) rest.0, λ all. All-cons IsMains j' js' (first.port.thread ∙ All-head IsMains j js all) (rest.1 (All-tail IsMains j js all)))
+
+ports_end : (js : List Joined) (ports : List PortData) (desks : List DeskData) → All IsMains js → AreBooksOf js ports desks → PortsEndByOthers (map joined_front js) ports
+ports_end [] [] [] all kept = tt
+ports_end (j ∷ js) (port ∷ ports) (desk ∷ desks) all kept = (kept.0.0.ends (All-head IsMains j js all), ports_end js ports desks (All-tail IsMains j js all) kept.1)
+ports_end [] [] (desk ∷ desks) all kept = absurd kept
+ports_end [] (port ∷ ports) desks all kept = absurd kept
+ports_end (j ∷ js) [] desks all kept = absurd kept
+ports_end (j ∷ js) (port ∷ ports) [] all kept = absurd kept
 
 roster_ends : (seat : RosterSeat) (roster : RosterData KeptDoor Object) → seat.thread ≡ main_thread → IsRosterOf seat roster → EndsByOthers maker_of (plain_of seat) (plain_entries roster.entries)
 roster_ends seat roster main of = record {
@@ -79,16 +93,18 @@ roster_ends seat roster main of = record {
 }
 
 -- main's seats saw nothing more while the threads were joined
-pub run_done : (r : Run) → HasRecord (fronts_of r) → (heads : List AppHead) (main : RosterSeat) (at_book : ReplySeat) (roster : RosterData KeptDoor Object) (book : List ReplyEntry) (js : List Joined) (h : Histories) → GoesOnKnowing r.roster_seat main → GoesOnKnowing r.hands.book_seat at_book
-    → All (IsJoined heads main at_book) js → map joined_front js ≡ map member_front r.members.items → AreBooksOf js h.ports.items h.desks.items → IsRosterOf main roster → (at_book.thread ≡ main_thread → EndsByOthers at_books.maker_of at_book.front book)
+pub run_done : (r : Run) → HasRecord (fronts_of r) → (heads : List AppHead) (main : RosterSeat) (at_book : ReplySeat) (roster : RosterData KeptDoor Object) (book : List ReplyEntry) (js last : List Joined) (h : Histories) → GoesOnKnowing r.roster_seat main → GoesOnKnowing r.hands.book_seat at_book
+    → All (IsJoined heads main at_book) js → map joined_front js ≡ map member_front r.members.items → AreGaining js last → AreBooksOf last h.ports.items h.desks.items → IsRosterOf main roster → (at_book.thread ≡ main_thread → EndsByOthers at_books.maker_of at_book.front book)
     → h.roster.items ≡ plain_entries roster.entries → h.book ≡ book → HasMainDiary h
-run_done r has heads main at_book roster book js h roster_on book_on joined same kept of ends h_roster h_book =
+run_done r has heads main at_book roster book js last h roster_on book_on joined same gains kept of ends h_roster h_book =
     let by_main : main.thread ≡ main_thread = roster_on.thread ∙ r.roster_thread ∙ r.main in
     let at_roster : EndsByOthers maker_of (plain_of r.roster_seat) h.roster.items =
     subst (EndsByOthers maker_of (plain_of r.roster_seat)) (sym h_roster)
     (subst (λ (l : List (EntryWithObjects Object)). EndsByOthers maker_of (plain_entries l) (plain_entries roster.entries)) roster_on.front (roster_ends main roster by_main of)) in
     let at_the_book : EndsByOthers at_books.maker_of r.hands.book_seat.front h.book =
     subst (EndsByOthers at_books.maker_of r.hands.book_seat.front) (sym h_book) (subst (λ (l : List ReplyEntry). EndsByOthers at_books.maker_of l book) book_on.front (ends (book_on.thread ∙ r.hands.thread ∙ r.main))) in
+    let still = fronts_still js last gains in
+    let mains : All IsMains last = still.1 (All-weaker (IsJoined heads main at_book) IsMains (λ j is. is.by_main) js joined) in
     let at_all : PortsEndByOthers (map member_front r.members.items ++ []) h.ports.items =
-    subst (λ (l : List (List PortEntry)). PortsEndByOthers l h.ports.items) (same ∙ sym (append-nil (map member_front r.members.items))) (ports_end heads main at_book js h.ports.items h.desks.items joined kept) in
+    subst (λ (l : List (List PortEntry)). PortsEndByOthers l h.ports.items) (still.0 ∙ same ∙ sym (append-nil (map member_front r.members.items))) (ports_end last h.ports.items h.desks.items mains kept) in
     record { main = has.did; main_diary = has.recorded.diary; main_done = main_done has.did (fronts_of r) h has.recorded at_roster at_the_book at_all }

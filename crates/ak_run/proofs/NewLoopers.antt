@@ -1,5 +1,5 @@
 -- A looper that is about to start, and the doors to it.
-use Rattle.std.proofs.Common.{◌≡◌, ◌≢◌, ℕ, ◌+◌, ◌-◌, ◌<◌, List, [], ◌∷◌, Option, Some, sym, ap, ◌∙◌, subst, arith, All}
+use Rattle.std.proofs.Common.{◌≡◌, ◌≢◌, ℕ, ◌+◌, ◌-◌, ◌<◌, List, [], ◌∷◌, Option, None, Some, sym, ap, ◌∙◌, subst, arith, All}
 use Rattle.std.specs.VecDeque.{deque_len, deque_capacity}
 use Rattle.std.proofs.lemmas.List.Elements.{All-cons, All-nil}
 use Rattle.ak_base.specs.Limits.{looper_limit}
@@ -86,8 +86,8 @@ module _ (plans : List PlanParts) (team first : ℕ) where
     pub first_below : first < looper_limit
     first_below = omega (arith, at.opened.within)
 
-    pub new_looper : (shared : Shared) (n : NewLooper) → n.number ≡ o.number → n.queue ≡ o.queue → AreSame n.shared shared → IsPartOf (looper_thread o.number) o.door n.own → LeadsAsBefore o.door n.door → IsNewLooper plans team first shared k n
-    new_looper shared n number queue same part leads =
+    pub new_looper : (shared : Shared) (n : NewLooper) → n.number ≡ o.number → n.queue ≡ o.queue → AreSame n.shared shared → IsPartOf (looper_thread o.number) o.door n.own → LeadsAsBefore o.door n.door → n.door.port_seat.names ≡ None → IsNewLooper plans team first shared k n
+    new_looper shared n number queue same part leads no_head =
         let p = at.opened in
         record {
           number = number ∙ p.number;
@@ -111,6 +111,7 @@ module _ (plans : List PlanParts) (team first : ℕ) where
           port_opening = leads.port_opening ∙ p.takes.taker;
           desk_opening = leads.desk_opening ∙ p.desk_is;
           made = subst (AddsAtPort []) (sym leads.port_front) p.made;
+          no_head = no_head;
         }
 
     -- a call at its port leaves it opened

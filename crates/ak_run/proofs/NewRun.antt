@@ -1,6 +1,6 @@
 -- A run in which nothing was done.
 use Rattle.std.specs.List.{range_with_len}
-use Rattle.std.proofs.Common.{◌≡◌, ℕ, ◌+◌, ◌≤◌, ◌<◌, List, [], ◌∷◌, ◌++◌, length, map, take, refl, sym, ap, ◌∙◌, subst, arith, All, vec_capacity, Some}
+use Rattle.std.proofs.Common.{◌≡◌, ℕ, ◌+◌, ◌≤◌, ◌<◌, List, [], ◌∷◌, ◌++◌, length, map, take, refl, sym, ap, ◌∙◌, subst, arith, inl, All, vec_capacity, Some}
 use Rattle.std.specs.Prelude.{get_or}
 use Rattle.std.proofs.lemmas.List.{map_more}
 use Rattle.std.proofs.lemmas.List.Elements.{All-cons, All-nil}
@@ -21,7 +21,7 @@ use Rattle.ak_run.specs.declared.member.Member.{Member}
 use Rattle.ak_run.specs.declared.run.Run.{Run}
 use Rattle.ak_run.specs.Counting.{started_by_main}
 use Rattle.ak_run.proofs.Recorded.{nothing_yet}
-use Rattle.ak_run.specs.Running.{AreBelow, HasRoomToEnd, IsMember, IsOpenedAs, IsRunning, Stands}
+use Rattle.ak_run.specs.Running.{AreBelow, HasRoomToEnd, IsBelow, IsMember, IsOpenedAs, IsRunning, Stands}
 
 -- the heads of one application more
 pub heads_more : (apps : List AppText) (index : ℕ) (app : AppText) (head : AppHead) (heads heads' : List AppHead) → index < length apps → app ≡ get_or apps index app → head ≡ head_of app
@@ -43,9 +43,9 @@ begins heads roster book r whole heads_are roster_is book_is none room ready =
         heads_are = heads_are;
         opening = ap (λ (s : RosterSeat). s.opening) roster_is;
         roster_known = subst (KnowsWhole rosters.by_number) (sym roster_is) (first_knows rosters.by_number roster heads [] main_thread (All-nil (λ (entry : EntryWithObjects Object). rosters.by_number entry ≡ main_thread)));
-        roster_names = subst (λ (s : RosterSeat). AreBelow (looper_thread (length r.members.items)) s.names) (sym roster_is) (main_below (length r.members.items));
+        roster_names = subst (λ (s : RosterSeat). AreBelow (length r.members.items) s.names) (sym roster_is) (main_below (length r.members.items));
         book_known = subst (KnowsWhole books.maker_of) (sym book_is) (first_knows books.maker_of book tt [] main_thread (All-nil (λ (entry : ReplyEntry). books.maker_of entry ≡ main_thread)));
-        book_names = subst (λ (s : ReplySeat). AreBelow (looper_thread (length r.members.items)) s.names) (sym book_is) (main_below (length r.members.items));
+        book_names = subst (λ (s : ReplySeat). AreBelow (length r.members.items) s.names) (sym book_is) (main_below (length r.members.items));
         numbers = subst (λ (ms : List Member). map (λ (m : Member). m.number) ms ≡ range_with_len 0 (length ms)) (sym none) refl;
         each = subst (All (IsMember heads r.shared r.roster_seat)) (sym none) (All-nil (IsMember heads r.shared r.roster_seat));
         opened = subst (All (IsOpenedAs r.apps.items)) (sym none) (All-nil (IsOpenedAs r.apps.items));
@@ -57,5 +57,5 @@ begins heads roster book r whole heads_are roster_is book_is none room ready =
       recorded = nothing_yet r (ap (λ (s : RosterSeat). s.front) roster_is) (ap (λ (s : ReplySeat). s.front) book_is) none;
     }
   where
-    main_below : (n : ℕ) → AreBelow (looper_thread n) (Some (main_thread ∷ []))
-    main_below n = All-cons (λ name. name < looper_thread n) main_thread [] (omega arith) (All-nil (λ name. name < looper_thread n))
+    main_below : (n : ℕ) → AreBelow n (Some (main_thread ∷ []))
+    main_below n = All-cons (IsBelow n) main_thread [] (inl refl) (All-nil (IsBelow n))

@@ -1,5 +1,5 @@
 -- A looper starts: its thread's seats are split from main's.
-use Rattle.std.proofs.Common.{◌≡◌, ◌≢◌, ℕ, zero, suc, ◌+◌, ◌≤◌, ◌<◌, List, [], ◌∷◌, ◌++◌, length, map, Option, None, Some, refl, sym, ap, ◌∙◌, subst, append-nil, arith, All, Contains, vec_capacity}
+use Rattle.std.proofs.Common.{◌≡◌, ◌≢◌, ℕ, zero, suc, ◌+◌, ◌≤◌, ◌<◌, List, [], ◌∷◌, ◌++◌, length, map, Option, None, Some, refl, sym, ap, ◌∙◌, subst, append-nil, arith, inl, inr, ⊎_elim, All, Contains, vec_capacity}
 use Rattle.std.specs.Prelude.{slice_get}
 use Rattle.std.specs.Arc.{arc_value}
 use Rattle.std.specs.List.{range_with_len}
@@ -26,32 +26,33 @@ use Rattle.ak_looper.specs.declared.door.Door.{Door}
 use Rattle.ak_looper.specs.declared.job.LooperJob.{LooperJob}
 use Rattle.ak_looper.specs.Job.{IsReady}
 use Rattle.ak_looper.specs.Rosters as rosters
-use Rattle.ak_looper.specs.Rosters.{Object, RosterSeat, maker_of}
+use Rattle.ak_looper.specs.Rosters.{LeadsTo, Object, RosterSeat, maker_of}
 use Rattle.ak_run.specs.declared.launching.Team.{Team}
 use Rattle.ak_run.specs.declared.member.Member.{Member}
 use Rattle.ak_run.specs.declared.new_looper.NewLooper.{NewLooper}
 use Rattle.ak_run.specs.declared.new_looper.Shared.{Shared}
 use Rattle.ak_run.specs.declared.run.Run.{Run}
 use Rattle.ak_run.specs.Counting.{started_by_main}
+use Rattle.ak_run.specs.Gathering.{HasRoomFor, HoldsNothing}
 use Rattle.ak_run.specs.Jobs.{CanStart, HasWays, IsJobOf, facts_in}
 use Rattle.ak_run.specs.Members.{IsLifeOf, StillLeads}
 use Rattle.ak_run.specs.NewLooper.{IsNewLooper}
 use Rattle.ak_run.specs.Opening.{names_in}
-use Rattle.ak_run.specs.Running.{AreBelow, IsMember, IsOpenedAs, KeepsRest, Stands}
+use Rattle.ak_run.specs.Running.{AreBelow, IsBelow, IsMember, IsOpenedAs, KeepsRest, Stands}
 use Rattle.ak_run.specs.Starting.{GoesOn, GoesOnWith, HasSplit, MayStart}
 use Rattle.ak_run.proofs.GoingOn.{some_same}
 use Rattle.ak_run.proofs.Heads.{by_others, nothing_by_new}
-use Rattle.ak_run.proofs.Standing.{member_sees, starts_then_starts}
+use Rattle.ak_run.proofs.Standing.{leads_still, member_sees, starts_then_starts}
 
 -- ---- names
-pub new_name : (number : ℕ) (names : Option (List ℕ)) → AreBelow (looper_thread number) names → IsNewName names (looper_thread number)
+pub new_name : (number : ℕ) (names : Option (List ℕ)) → AreBelow number names → IsNewName names (looper_thread number)
 new_name number None below = absurd below
-new_name number (Some ns) below = λ i d lt same. omega (arith, below i d lt, same)
+new_name number (Some ns) below = λ i d lt same. ⊎_elim (λ main. omega (arith, main, same)) (λ looper. omega (arith, looper.1, looper.2, same)) (below i d lt)
 
-names_on : (number : ℕ) (names : Option (List ℕ)) → AreBelow (looper_thread number) names → AreBelow (looper_thread (number + 1)) (names_with names (looper_thread number))
+names_on : (number : ℕ) (names : Option (List ℕ)) → AreBelow number names → AreBelow (number + 1) (names_with names (looper_thread number))
 names_on number None below = absurd below
 names_on number (Some ns) below =
-    All-push (λ name. name < looper_thread (number + 1)) ns (looper_thread number) (All-weaker (λ name. name < looper_thread number) (λ name. name < looper_thread (number + 1)) (λ name lt. omega (arith, lt)) ns below) (omega arith)
+    All-push (IsBelow (number + 1)) ns (looper_thread number) (All-weaker (IsBelow number) (IsBelow (number + 1)) (λ name is. ⊎_elim (λ main. inl main) (λ looper. inr (looper.0, omega (arith, looper.1), looper.2)) is) ns below) (inr (number, omega arith, refl))
 
 -- ---- numbers in order
 range_next : (a n : ℕ) → range_with_len a (suc n) ≡ range_with_len a n ++ (a + n) ∷ []
@@ -122,6 +123,7 @@ module _ (heads : List AppHead) (plans : List PlanParts) (k : ℕ) (t : Team) (n
     port_opening = m.new.port_opening;
     desk_opening = m.new.desk_opening;
     made = m.new.made;
+    no_head = m.new.no_head;
   }
 
   ready_seats : CanStart heads plans k t n ways book_seat roster_seat
@@ -157,9 +159,9 @@ module _ (heads : List AppHead) (plans : List PlanParts) (k : ℕ) (t : Team) (n
       heads_are = m.stands.heads_are ∙ ap (λ v. heads_of v.items) (sym split.rest.apps);
       opening = ap (λ (x : RosterSeat). x.opening) split.roster_seat ∙ m.stands.opening;
       roster_known = split.roster_known m.stands.roster_known;
-      roster_names = subst (AreBelow (looper_thread (count + 1))) (sym (ap (λ (x : RosterSeat). x.names) split.roster_seat)) (subst (λ x. AreBelow (looper_thread (count + 1)) (names_with r.roster_seat.names (looper_thread x))) (sym number_is) (names_on count r.roster_seat.names m.stands.roster_names));
+      roster_names = subst (AreBelow (count + 1)) (sym (ap (λ (x : RosterSeat). x.names) split.roster_seat)) (subst (λ x. AreBelow (count + 1) (names_with r.roster_seat.names (looper_thread x))) (sym number_is) (names_on count r.roster_seat.names m.stands.roster_names));
       book_known = split.book_known m.stands.book_known;
-      book_names = subst (AreBelow (looper_thread (count + 1))) (sym (ap (λ (x : ReplySeat). x.names) split.book_seat)) (subst (λ x. AreBelow (looper_thread (count + 1)) (names_with r.hands.book_seat.names (looper_thread x))) (sym number_is) (names_on count r.hands.book_seat.names m.stands.book_names));
+      book_names = subst (AreBelow (count + 1)) (sym (ap (λ (x : ReplySeat). x.names) split.book_seat)) (subst (λ x. AreBelow (count + 1) (names_with r.hands.book_seat.names (looper_thread x))) (sym number_is) (names_on count r.hands.book_seat.names m.stands.book_names));
       numbers = subst (λ v. map (λ (x : Member). x.number) v.items ≡ range_with_len 0 (length v.items)) (sym split.members) m.stands.numbers;
       each = subst (λ v. All (IsMember heads s.shared s.roster_seat) v.items) (sym split.members) (subst (λ h. All (IsMember heads h s.roster_seat) r.members.items) (sym split.rest.shared)
           (All-weaker (IsMember heads r.shared r.roster_seat) (IsMember heads r.shared s.roster_seat) (member_sees heads r.shared r.roster_seat s.roster_seat on) r.members.items m.stands.each));
@@ -167,10 +169,10 @@ module _ (heads : List AppHead) (plans : List PlanParts) (k : ℕ) (t : Team) (n
       few = subst (λ v. length v.items ≤ looper_limit) (sym split.members) m.stands.few;
       room = subst (λ v. looper_limit ≤ vec_capacity v) (sym split.members) m.stands.room;
       ready = record {
-        joined = ap (λ v. v.items) split.rest.joined ∙ m.stands.ready.joined;
+        joined = subst HoldsNothing (sym split.rest.joined) m.stands.ready.joined;
         ports = ap (λ v. v.items) split.rest.ports ∙ m.stands.ready.ports;
         desks = ap (λ v. v.items) split.rest.desks ∙ m.stands.ready.desks;
-        for_joined = subst (λ v. looper_limit ≤ vec_capacity v) (sym split.rest.joined) m.stands.ready.for_joined;
+        for_joined = subst (HasRoomFor looper_limit) (sym split.rest.joined) m.stands.ready.for_joined;
         for_ports = subst (λ v. looper_limit ≤ vec_capacity v) (sym split.rest.ports) m.stands.ready.for_ports;
         for_desks = subst (λ v. looper_limit ≤ vec_capacity v) (sym split.rest.desks) m.stands.ready.for_desks;
       };
@@ -194,12 +196,25 @@ module _ (heads : List AppHead) (plans : List PlanParts) (k : ℕ) (t : Team) (n
       own_is : x.job.value.own ≡ n.own
       own_is = ap (λ (j : LooperJob). j.own) x_job ∙ job_is.own
 
+      -- main's door to it leads to what the roster pairs with it
+      leads_there : LeadsTo u.roster_seat x.number x.door.port_seat.lock x.door.desk_seat.lock
+      leads_there =
+          let port : arc_value n.door.port ≡ x.door.port_seat.lock = sym n.door.port_of ∙ sym leads.port_kept.lock ∙ ap (λ (d : Door). d.port_seat.lock) (sym x_door) in
+          let desk : arc_value n.door.desk ≡ x.door.desk_seat.lock = sym n.door.desk_of ∙ ap (λ s. s.lock) (sym leads.desk_seat) ∙ ap (λ (d : Door). d.desk_seat.lock) (sym x_door) in
+          subst (λ number. LeadsTo u.roster_seat number x.door.port_seat.lock x.door.desk_seat.lock) (sym x_number)
+          (subst (λ lock. LeadsTo u.roster_seat n.number x.door.port_seat.lock lock) desk
+          (subst (λ lock. LeadsTo u.roster_seat n.number lock (arc_value n.door.desk)) port
+          (leads_still n.number (arc_value n.door.port) (arc_value n.door.desk) r.roster_seat u.roster_seat (starts_then_starts r.roster_seat.front s.roster_seat.front u.roster_seat.front on goes.on) m.paired)))
+
       new_member : IsMember heads u.shared u.roster_seat x
       new_member = record {
         number = ap (λ (j : LooperJob). j.number) x_job ∙ job_is.number ∙ sym x_number;
         ready = subst IsReady (sym x_job) ready;
         at_port = ap (λ (d : Door). d.port_seat.lock) own_is ∙ n.own.port_of ∙ m.new.port_is ∙ sym n.door.port_of ∙ sym leads.port_kept.lock ∙ ap (λ (d : Door). d.port_seat.lock) (sym x_door);
         at_desk = ap (λ (d : Door). d.desk_seat.lock) own_is ∙ n.own.desk_of ∙ m.new.desk_is ∙ sym n.door.desk_of ∙ ap (λ s. s.lock) (sym leads.desk_seat) ∙ ap (λ (d : Door). d.desk_seat.lock) (sym x_door);
+        leads = leads_there;
+        no_head = ap (λ (d : Door). d.port_seat.names) x_door ∙ leads.port_kept.names ∙ m.new.no_head;
+        own_no_head = ap (λ (d : Door). d.port_seat.names) own_is ∙ m.new.new.no_head;
         at_book = ap (λ (j : LooperJob). j.hands.book_seat.lock) x_job ∙ ap (λ (b : ReplySeat). b.lock) (job_is.book_seat ∙ book_so) ∙ r.hands.of ∙ r.book ∙ ap (λ (h : Shared). arc_value h.book) (sym split.rest.shared ∙ sym goes.shared);
         at_roster = ap (λ (j : LooperJob). j.roster_seat.lock) x_job ∙ ap (λ (b : RosterSeat). b.lock) (job_is.roster_seat ∙ roster_so) ∙ r.roster_of ∙ ap (λ (h : Shared). arc_value h.roster) (sym split.rest.shared ∙ sym goes.shared);
         heads_are = ap (λ (j : LooperJob). j.roster_seat.opening) x_job ∙ ap (λ (b : RosterSeat). b.opening) (job_is.roster_seat ∙ roster_so) ∙ m.stands.opening;
@@ -255,9 +270,9 @@ module _ (heads : List AppHead) (plans : List PlanParts) (k : ℕ) (t : Team) (n
         heads_are = stood.heads_are ∙ ap (λ w. heads_of w.items) (sym kept.apps);
         opening = ap (λ (y : RosterSeat). y.opening) v_roster ∙ stood.opening;
         roster_known = subst (KnowsWhole rosters.by_number) (sym v_roster) stood.roster_known;
-        roster_names = subst (λ c. AreBelow (looper_thread c) v.roster_seat.names) (sym count_v) (subst (λ (y : RosterSeat). AreBelow (looper_thread (count + 1)) y.names) (sym v_roster) stood.roster_names);
+        roster_names = subst (λ c. AreBelow c v.roster_seat.names) (sym count_v) (subst (λ (y : RosterSeat). AreBelow (count + 1) y.names) (sym v_roster) stood.roster_names);
         book_known = subst (λ h. KnowsWhole books.maker_of h.book_seat) (sym v_hands) stood.book_known;
-        book_names = subst (λ c. AreBelow (looper_thread c) v.hands.book_seat.names) (sym count_v) (subst (λ h. AreBelow (looper_thread (count + 1)) h.book_seat.names) (sym v_hands) stood.book_names);
+        book_names = subst (λ c. AreBelow c v.hands.book_seat.names) (sym count_v) (subst (λ h. AreBelow (count + 1) h.book_seat.names) (sym v_hands) stood.book_names);
         numbers = ap (map (λ (y : Member). y.number)) v_items ∙ map-append (λ (y : Member). y.number) u.members.items (x ∷ []) ∙ numbers_on u.members.items x (length v.members.items) stood.numbers (x_number ∙ number_is ∙ sym count_u) (count_v ∙ ap (λ c. c + 1) (sym count_u));
         each = subst (All (IsMember heads v.shared v.roster_seat)) (sym v_items) (subst (λ h. All (IsMember heads h v.roster_seat) (u.members.items ++ x ∷ [])) (sym kept.shared)
             (subst (λ y. All (IsMember heads u.shared y) (u.members.items ++ x ∷ [])) (sym v_roster) (All-push (IsMember heads u.shared u.roster_seat) u.members.items x stood.each new_member)));
@@ -265,10 +280,10 @@ module _ (heads : List AppHead) (plans : List PlanParts) (k : ℕ) (t : Team) (n
         few = omega (arith, count_v, m.new.within, m.next);
         room = subst (λ c. looper_limit ≤ c) (sym v_room) stood.room;
         ready = record {
-          joined = ap (λ w. w.items) kept.joined ∙ stood.ready.joined;
+          joined = subst HoldsNothing (sym kept.joined) stood.ready.joined;
           ports = ap (λ w. w.items) kept.ports ∙ stood.ready.ports;
           desks = ap (λ w. w.items) kept.desks ∙ stood.ready.desks;
-          for_joined = subst (λ w. looper_limit ≤ vec_capacity w) (sym kept.joined) stood.ready.for_joined;
+          for_joined = subst (HasRoomFor looper_limit) (sym kept.joined) stood.ready.for_joined;
           for_ports = subst (λ w. looper_limit ≤ vec_capacity w) (sym kept.ports) stood.ready.for_ports;
           for_desks = subst (λ w. looper_limit ≤ vec_capacity w) (sym kept.desks) stood.ready.for_desks;
         };

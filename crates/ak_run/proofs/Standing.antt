@@ -1,6 +1,6 @@
 -- A run stands on, whatever main's call changes.
 use Rattle.std.proofs.Common.{◌≡◌, ℕ, ◌+◌, ◌<◌, ◌≤◌, zero, suc, List, [], ◌∷◌, ◌++◌, length, map, refl, sym, ap, ◌∙◌, subst, append_assoc, append-nil, arith, All, vec_len, vec_capacity, Option, None, Some}
-use Rattle.std.specs.Prelude.{get_or, set}
+use Rattle.std.specs.Prelude.{get_or, set, slice_get}
 use Rattle.std.proofs.lemmas.List.Elements.{All-get_or, All-set, All-weaker}
 use Rattle.std.proofs.lemmas.List.{length-set}
 use Rattle.std.proofs.Math.Seq.{map-set_same}
@@ -9,24 +9,34 @@ use Rattle.ak_base.specs.Limits.{looper_limit}
 use Rattle.ak_base.specs.Thread.{looper_thread, main_thread}
 use Rattle.ak_turn.specs.Called.{KeepsSeat}
 use Rattle.ak_turn.specs.Entries.{StartsWith}
-use Rattle.ak_turn.specs.Seats.{KnowsWhole, SeatData}
+use Rattle.ak_turn.specs.Seats.{KnowsWhole, LockId, SeatData}
+use Rattle.ak_roster.specs.declared.entry.EntryWithObjects.{EntryWithObjects}
+use Rattle.ak_roster.specs.Roster.{objects_of}
 use Rattle.ak_roster.specs.declared.head.AppHead.{AppHead}
 use Rattle.ak_port.specs.ReplySeats as books
 use Rattle.ak_describe.specs.Whole.{IsWholeApp, heads_of}
 use Rattle.ak_looper.specs.declared.door.Door.{Door}
 use Rattle.ak_looper.specs.Rosters as rosters
-use Rattle.ak_looper.specs.Rosters.{RosterSeat}
+use Rattle.ak_looper.specs.Rosters.{LeadsTo, Object, RosterSeat}
+use Rattle.ak_looper.specs.Doors.{door_object}
+use Rattle.ak_looper.proofs.Surface.{leads_on}
 use Rattle.ak_run.specs.declared.member.Member.{Member}
 use Rattle.ak_run.specs.declared.new_looper.Shared.{Shared}
 use Rattle.ak_run.specs.declared.run.Run.{Run}
 use Rattle.ak_run.specs.Counting.{started_by_main}
 use Rattle.ak_run.specs.Doors.{KeepsSeats}
+use Rattle.ak_run.specs.Gathering.{HasRoomFor, HoldsNothing}
 use Rattle.ak_run.specs.Running.{AreBelow, HasRoomToEnd, IsMember, IsOpenedAs, KeepsRest, Stands}
 use Rattle.ak_run.proofs.RosterTurn.{RosterOn}
 
 -- ---- one looper
 pub starts_then_starts : {L : Type 0} (xs ys zs : List L) → StartsWith ys xs → StartsWith zs ys → StartsWith zs xs
 starts_then_starts xs ys zs one two = (one.0 ++ two.0, two.1 ∙ ap (λ l. l ++ two.0) one.1 ∙ append_assoc xs one.0 two.0)
+
+-- what the roster pairs with a looper it goes on pairing with it
+pub leads_still : (looper : ℕ) (port desk : LockId) (seat seat' : RosterSeat) → StartsWith seat'.front seat.front → LeadsTo seat looper port desk → LeadsTo seat' looper port desk
+leads_still looper port desk seat seat' on leads =
+    ap (λ (front : List (EntryWithObjects Object)). slice_get (objects_of front) looper) on.1 ∙ leads_on seat.front on.0 looper (door_object port desk) leads
 
 -- main has seen more at the roster
 pub member_sees : (heads : List AppHead) (shared : Shared) (seat seat' : RosterSeat) → StartsWith seat'.front seat.front → (m : Member) → IsMember heads shared seat m → IsMember heads shared seat' m
@@ -35,6 +45,9 @@ member_sees heads shared seat seat' on m is = record {
   ready = is.ready;
   at_port = is.at_port;
   at_desk = is.at_desk;
+  leads = leads_still m.number m.door.port_seat.lock m.door.desk_seat.lock seat seat' on is.leads;
+  no_head = is.no_head;
+  own_no_head = is.own_no_head;
   at_book = is.at_book;
   at_roster = is.at_roster;
   heads_are = is.heads_are;
@@ -59,6 +72,11 @@ member_calls heads shared seat m door keeps is = record {
   ready = is.ready;
   at_port = is.at_port ∙ sym keeps.port.lock;
   at_desk = is.at_desk ∙ sym keeps.desk.lock;
+  leads =
+      is.leads ∙ ap (λ (lock : LockId). Some (door_object lock m.door.desk_seat.lock)) (sym keeps.port.lock)
+      ∙ ap (λ (lock : LockId). Some (door_object door.port_seat.lock lock)) (sym keeps.desk.lock);
+  no_head = keeps.port.names ∙ is.no_head;
+  own_no_head = is.own_no_head;
   at_book = is.at_book;
   at_roster = is.at_roster;
   heads_are = is.heads_are;
@@ -79,10 +97,10 @@ keeps_same seat seat' same = record { lock = ap (λ s. s.lock) same; opening = a
 -- ---- the run
 room_still : (r r' : Run) → KeepsRest r r' → HasRoomToEnd r → HasRoomToEnd r'
 room_still r r' keeps has = record {
-  joined = ap (λ v. v.items) keeps.joined ∙ has.joined;
+  joined = subst HoldsNothing (sym keeps.joined) has.joined;
   ports = ap (λ v. v.items) keeps.ports ∙ has.ports;
   desks = ap (λ v. v.items) keeps.desks ∙ has.desks;
-  for_joined = subst (λ v. looper_limit ≤ vec_capacity v) (sym keeps.joined) has.for_joined;
+  for_joined = subst (HasRoomFor looper_limit) (sym keeps.joined) has.for_joined;
   for_ports = subst (λ v. looper_limit ≤ vec_capacity v) (sym keeps.ports) has.for_ports;
   for_desks = subst (λ v. looper_limit ≤ vec_capacity v) (sym keeps.desks) has.for_desks;
 }
@@ -106,9 +124,9 @@ stands_on next heads more r r' keeps roster book same stands = record {
   heads_are = stands.heads_are ∙ ap (λ v. heads_of v.items) (sym keeps.apps);
   opening = roster.keeps.opening ∙ stands.opening;
   roster_known = roster.known;
-  roster_names = subst (AreBelow (looper_thread next)) (sym roster.keeps.names) stands.roster_names;
+  roster_names = subst (AreBelow next) (sym roster.keeps.names) stands.roster_names;
   book_known = book.known stands.book_known;
-  book_names = subst (AreBelow (looper_thread next)) (sym book.keeps.names) stands.book_names;
+  book_names = subst (AreBelow next) (sym book.keeps.names) stands.book_names;
   numbers = same.numbers ∙ stands.numbers ∙ ap (range_with_len 0) (sym same.count);
   each = subst (λ shared. All (IsMember heads shared r'.roster_seat) r'.members.items) (sym keeps.shared) (All-weaker (IsMember heads r.shared r.roster_seat) (IsMember heads r.shared r'.roster_seat) (member_sees heads r.shared r.roster_seat r'.roster_seat roster.on) r'.members.items same.each);
   opened = subst (λ v. All (IsOpenedAs v.items) r'.members.items) (sym keeps.apps) same.opened;

@@ -1,9 +1,10 @@
 -- The loopers of a team start, one after another.
 use Rattle.std.proofs.Common.{◌≡◌, ℕ, zero, suc, ◌+◌, ◌-◌, ◌≤◌, ◌<◌, List, [], ◌∷◌, ◌++◌, length, length-append, map, refl, sym, ap, ◌∙◌, subst, ne_eqb, arith, All}
 use Rattle.std.specs.Prelude.{if◌then◌else◌, slice_index_or}
+use Rattle.std.specs.Arc.{arc_value}
 use Rattle.std.specs.List.{Any, range_with_len}
 use Rattle.std.proofs.lemmas.List.{get_or_append_left}
-use Rattle.std.proofs.lemmas.List.Elements.{All-nil}
+use Rattle.std.proofs.lemmas.List.Elements.{All-head, All-nil, All-tail, All-weaker}
 use Rattle.ak_base.specs.Thread.{looper_thread}
 use Rattle.ak_turn.specs.Entries.{StartsWith}
 use Rattle.ak_roster.specs.declared.head.AppHead.{AppHead}
@@ -22,8 +23,9 @@ use Rattle.ak_run.specs.declared.new_team.NewTeam.{NewTeam}
 use Rattle.ak_run.specs.declared.run.Run.{Run}
 use Rattle.ak_run.specs.Jobs.{HasWays, IsStartedIn, facts_in}
 use Rattle.ak_run.specs.NewTeam.{AreOthers, IsOneOf}
-use Rattle.ak_run.specs.Starting.{GoesOnWith, IsStarting, MayStart, MayStartTeam}
+use Rattle.ak_run.specs.Starting.{GoesOnWith, IsPaired, IsStarting, MayStart, MayStartTeam}
 use Rattle.ak_run.proofs.GoingOn.{with_then_with}
+use Rattle.ak_run.proofs.Standing.{leads_still}
 
 -- the own looper is the first
 pub own_may_start : (heads : List AppHead) (plans : List PlanParts) (kept : List KeptDoor) (t : Team) (new : NewTeam) (r : Run) → MayStartTeam heads plans kept t new r → MayStart heads plans 0 t new.own new.ways.items r
@@ -38,6 +40,7 @@ own_may_start heads plans kept t new r may =
       within = may.within;
       launched = may.launched;
       ways_are = λ desk. subst (λ n. HasWays (facts_in heads t n desk) r.roster_seat new.ways.items) number (may.ways_are desk);
+      paired = All-head (IsPaired r.roster_seat) new.own new.others.items may.paired;
     }
   where
     first_is : (first number : ℕ) → number ≡ first + 0 → first ≡ number
@@ -47,11 +50,14 @@ own_may_start heads plans kept t new r may =
     next_is first count is = omega (arith, is)
 
 -- what was launched before is among more
-any_more : {X : Type 0} (P : X → Type 0) (xs ys : List X) → Any P xs → Any P (xs ++ ys)
+pub any_more : {X : Type 0} (P : X → Type 0) (xs ys : List X) → Any P xs → Any P (xs ++ ys)
 any_more P xs ys any = (any.0, any.1, omega (arith, any.2, length-append xs ys), get_or_append_left xs ys any.1 any.0 any.2 ∙ any.3, any.4)
 
 pub launched_still : (heads : List AppHead) (t : Team) (desk : DeskState) (seat seat' : RosterSeat) → StartsWith seat'.front seat.front → IsStartedIn heads t desk seat → IsStartedIn heads t desk seat'
 launched_still heads t desk seat seat' on launched = subst (Any (StartsTeam (facts_in heads t t.first desk))) (sym on.1) (any_more (StartsTeam (facts_in heads t t.first desk)) seat.front on.0 launched)
+
+paired_still : (seat seat' : RosterSeat) (ns : List NewLooper) → StartsWith seat'.front seat.front → All (IsPaired seat) ns → All (IsPaired seat') ns
+paired_still seat seat' ns on all = All-weaker (IsPaired seat) (IsPaired seat') (λ n is. leads_still n.number (arc_value n.door.port) (arc_value n.door.desk) seat seat' on is) ns all
 
 -- then the others follow
 pub others_follow : (heads : List AppHead) (plans : List PlanParts) (kept : List KeptDoor) (t : Team) (new : NewTeam) (r s : Run) → MayStartTeam heads plans kept t new r → GoesOnWith 1 r s → IsStarting t r s new.others.items
@@ -70,6 +76,7 @@ others_follow heads plans kept t new r s may goes = record {
   all = all_is t.loopers (length plans) (length new.others.items) may.loopers may.all;
   within = may.within;
   launched = λ desk. launched_still heads t desk r.roster_seat s.roster_seat goes.on (may.launched desk);
+  paired = paired_still r.roster_seat s.roster_seat new.others.items goes.on (All-tail (IsPaired r.roster_seat) new.own new.others.items may.paired);
   goes = goes;
 }
   where
@@ -103,6 +110,7 @@ next_may_start t r s x xs is = by_lists is.ways is.kept is.others
       within = is.within;
       launched = is.launched;
       ways_are = λ desk. no_ways is.heads t x.number is.so_far desk s.roster_seat others.0.looper.number is.some;
+      paired = All-head (IsPaired s.roster_seat) x xs is.paired;
     }
     by_lists [] kept others = absurd others
     by_lists (w ∷ ws) [] others = absurd others
@@ -135,6 +143,7 @@ next_started t r s u x xs is goes = by_lists is.ways is.kept is.others
       all = all_is is.so_far (length xs) t.loopers is.all;
       within = is.within;
       launched = λ desk. launched_still is.heads t desk s.roster_seat u.roster_seat goes.on (is.launched desk);
+      paired = paired_still s.roster_seat u.roster_seat xs goes.on (All-tail (IsPaired s.roster_seat) x xs is.paired);
       goes = with_then_with is.so_far 1 r s u is.goes goes;
     }
     by_lists [] kept others = absurd others

@@ -22,6 +22,7 @@ use Rattle.ak_run.specs.declared.new_team.NewTeam.{NewTeam}
 use Rattle.ak_run.specs.Jobs.{HasWays}
 use Rattle.ak_run.specs.NewLooper.{IsKept, other_threads, own_threads}
 use Rattle.ak_run.specs.NewTeam.{AreOthers, IsNewTeam, IsOther}
+use Rattle.ak_run.specs.Starting.{IsPaired}
 use Rattle.ak_run.proofs.Counting.{threads}
 
 -- ---- the threads that they tell
@@ -118,6 +119,40 @@ module _ (plans : List PlanParts) (team first : ℕ) (shared : Shared) where
   at_next [] x xs (suc n) is = absurd (omega (arith, is))
   at_next (b ∷ before) x xs zero is = absurd (omega (arith, is))
   at_next (b ∷ before) x xs (suc n) is = at_next before x xs n (omega (arith, is))
+
+  -- main's doors lead to what the roster pairs with their loopers
+  one_paired : (roster : RosterSeat) (before rest : List (Option Object)) (n : NewLooper) (d : KeptDoor) → length before ≡ n.number → arc_value d.port ≡ arc_value n.door.port → arc_value d.desk ≡ arc_value n.door.desk
+      → objects_of roster.front ≡ before ++ object d ∷ rest → IsPaired roster n
+  one_paired roster before rest n d many port desk are =
+      ap (λ l. slice_get l n.number) are ∙ at_next before (object d) rest n.number many
+      ∙ ap (λ p. Some (door_object p (arc_value d.desk))) port ∙ ap (λ q. Some (door_object (arc_value n.door.port) q)) desk
+
+  others_paired : (roster : RosterSeat) (k : ℕ) (before : List (Option Object)) (ns : List NewLooper) (ways : List (ℕ × Door)) (keeps : List KeptDoor) → AreOthers plans team first shared k ns ways keeps
+      → length before ≡ first + k → objects_of roster.front ≡ before ++ map object keeps → All (IsPaired roster) ns
+  others_paired roster k before [] [] [] others many are = All-nil (IsPaired roster)
+  others_paired roster k before (n ∷ ns) (w ∷ ws) (d ∷ ds) others many are =
+      let o = others.0 in
+      All-cons (IsPaired roster) n ns (one_paired roster before (map object ds) n d (many ∙ sym o.looper.number) o.kept_is.port o.kept_is.desk are)
+      (others_paired roster (suc k) (before ++ object d ∷ []) ns ws ds others.1 (length-append before (object d ∷ []) ∙ one_more (length before) k many) (are ∙ sym (append_assoc before (object d ∷ []) (map object ds))))
+    where
+      one_more : (n k : ℕ) → n ≡ first + k → n + 1 ≡ first + suc k
+      one_more n k is = omega (arith, is)
+  others_paired roster k before [] [] (d ∷ ds) others many are = absurd others
+  others_paired roster k before [] (w ∷ ws) ds others many are = absurd others
+  others_paired roster k before (n ∷ ns) [] ds others many are = absurd others
+  others_paired roster k before (n ∷ ns) (w ∷ ws) [] others many are = absurd others
+
+  pub all_paired : (t : NewTeam) (kept : List KeptDoor) (before : List (Option Object)) (roster : RosterSeat) → IsNewTeam plans team first shared t kept
+      → length before ≡ first → objects_of roster.front ≡ before ++ map object kept → All (IsPaired roster) (t.own ∷ t.others.items)
+  all_paired t kept before roster new many are =
+      let own = new.own_kept in
+      let list : objects_of roster.front ≡ before ++ map object (own ∷ new.rest) = are ∙ ap (λ ds. before ++ map object ds) new.kept_are in
+      All-cons (IsPaired roster) t.own t.others.items
+      (one_paired roster before (map object new.rest) t.own own (at_first (length before) t.own.number many new.own.number) new.own_kept_is.port new.own_kept_is.desk list)
+      (others_paired roster 1 (before ++ object own ∷ []) t.others.items t.ways.items new.rest new.others (length-append before (object own ∷ []) ∙ ap (λ n. n + 1) many) (list ∙ sym (append_assoc before (object own ∷ []) (map object new.rest))))
+    where
+      at_first : (n number : ℕ) → n ≡ first → number ≡ first + 0 → n ≡ number
+      at_first n number is at = omega (arith, is, at)
 
   module _ (roster : RosterSeat) where
     abbrev Leads : ℕ × Door → Type 0

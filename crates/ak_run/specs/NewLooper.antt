@@ -1,5 +1,5 @@
 -- A looper that is about to start.
-use Rattle.std.specs.Prelude.{◌≡◌, ℕ, ◌+◌, ◌-◌, ◌<◌, List, [], ◌∷◌, Some, slice_get}
+use Rattle.std.specs.Prelude.{◌≡◌, ℕ, ◌+◌, ◌-◌, ◌<◌, List, [], ◌∷◌, None, Some, slice_get}
 use Rattle.std.specs.Arc.{arc_value}
 use Rattle.std.specs.VecDeque.{deque_len, deque_capacity}
 use Rattle.ak_base.specs.Limits.{looper_limit}
@@ -47,6 +47,8 @@ pub record IsNewLooper (plans : List PlanParts) (team first : ℕ) (shared : Sha
   pub desk_opening : n.door.desk_seat.opening ≡ Some desk
   -- and what main made there is what it may make
   pub made : AddsAtPort [] n.door.port_seat.front
+  -- it is no head, since the keeper's is
+  pub no_head : n.door.port_seat.names ≡ None
 
 -- the keeper's door leads to it, and tells those threads
 pub record IsKept (threads : List ℕ) (n : NewLooper) (kept : KeptDoor) : Type 0 where

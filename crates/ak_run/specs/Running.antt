@@ -1,5 +1,5 @@
 -- How a run stands between main's calls.
-use Rattle.std.specs.Prelude.{◌≡◌, ℕ, ◌+◌, ◌≤◌, ◌<◌, List, [], length, map, All, Option, None, Some, vec_len, vec_capacity}
+use Rattle.std.specs.Prelude.{◌≡◌, ◌⊎◌, ℕ, ◌+◌, ◌≤◌, ◌<◌, List, [], length, map, All, Option, None, Some, vec_len, vec_capacity}
 use Rattle.std.specs.Arc.{arc_value}
 use Rattle.std.specs.List.{range_with_len}
 use Rattle.ak_base.specs.Limits.{looper_limit}
@@ -14,21 +14,26 @@ use Rattle.ak_describe.specs.declared.described.AppText.{AppText}
 use Rattle.ak_describe.specs.Whole.{IsWholeApp, heads_of}
 use Rattle.ak_looper.specs.Job.{IsReady}
 use Rattle.ak_looper.specs.Rosters as rosters
+use Rattle.ak_looper.specs.Rosters.{LeadsTo}
 use Rattle.ak_run.specs.declared.member.Member.{Member}
 use Rattle.ak_run.specs.declared.new_looper.Shared.{Shared}
 use Rattle.ak_run.specs.declared.run.Run.{Run}
 use Rattle.ak_run.specs.Counting.{started_by_main}
+use Rattle.ak_run.specs.Gathering.{HasRoomFor, HoldsNothing}
 use Rattle.ak_run.specs.Members.{IsLifeOf, OpensAs}
 use Rattle.ak_run.specs.Recording.{HasRecord, fronts_of}
 
 -- ---- a looper that was started
--- main's door leads to the port and the desk that the thread was started with; its seats at what all share are at those locks, and at the
--- roster it had seen no more than main has
+-- main's door leads to the port and the desk that the thread was started with, which the roster pairs with its number; neither main nor the
+-- thread is the head there; its seats at what all share are at those locks, and at the roster it had seen no more than main has
 pub record IsMember (heads : List AppHead) (shared : Shared) (roster : rosters.RosterSeat) (m : Member) : Type 0 where
   pub number : m.job.value.number ≡ m.number
   pub ready : IsReady m.job.value
   pub at_port : m.job.value.own.port_seat.lock ≡ m.door.port_seat.lock
   pub at_desk : m.job.value.own.desk_seat.lock ≡ m.door.desk_seat.lock
+  pub leads : LeadsTo roster m.number m.door.port_seat.lock m.door.desk_seat.lock
+  pub no_head : m.door.port_seat.names ≡ None
+  pub own_no_head : m.job.value.own.port_seat.names ≡ None
   pub at_book : m.job.value.hands.book_seat.lock ≡ arc_value shared.book
   pub at_roster : m.job.value.roster_seat.lock ≡ arc_value shared.roster
   pub heads_are : m.job.value.roster_seat.opening ≡ Some heads
@@ -49,30 +54,34 @@ pub record IsOpenedAs (apps : List AppText) (m : Member) : Type 0 where
   pub opens : OpensAs apps m.number m.job.value.team m.job.value.first desk
 
 -- ---- main's seats at what all share
--- the head, of which all names are below that number
+-- main, or a looper with a number below that one
+abbrev pub IsBelow : ℕ → ℕ → Type 0
+IsBelow next thread = (thread ≡ main_thread) ⊎ ((looper : ℕ) × (looper < next) × (thread ≡ looper_thread looper))
+
+-- the head, of which all names are such threads
 abbrev pub AreBelow : ℕ → Option (List ℕ) → Type 0
-AreBelow bound None = ⊥
-AreBelow bound (Some names) = All (λ name. name < bound) names
+AreBelow next None = ⊥
+AreBelow next (Some names) = All (IsBelow next) names
 
 -- room for what the end gathers, where nothing was gathered yet
 pub record HasRoomToEnd (r : Run) : Type 0 where
-  pub joined : r.joined.items ≡ []
+  pub joined : HoldsNothing r.joined
   pub ports : r.ports.items ≡ []
   pub desks : r.desks.items ≡ []
-  pub for_joined : looper_limit ≤ vec_capacity r.joined
+  pub for_joined : HasRoomFor looper_limit r.joined
   pub for_ports : looper_limit ≤ vec_capacity r.ports
   pub for_desks : looper_limit ≤ vec_capacity r.desks
 
--- Main's seats are the heads, whose names are below that of the looper with this number. This is so while a looper starts, whose thread has
+-- Main's seats are the heads, whose names are main and the loopers below this number. This is so while a looper starts, whose thread has
 -- had its seats and which is not among the loopers yet
 pub record Stands (next : ℕ) (heads : List AppHead) (r : Run) : Type 0 where
   pub whole : All IsWholeApp r.apps.items
   pub heads_are : heads ≡ heads_of r.apps.items
   pub opening : r.roster_seat.opening ≡ Some heads
   pub roster_known : KnowsWhole rosters.by_number r.roster_seat
-  pub roster_names : AreBelow (looper_thread next) r.roster_seat.names
+  pub roster_names : AreBelow next r.roster_seat.names
   pub book_known : KnowsWhole books.maker_of r.hands.book_seat
-  pub book_names : AreBelow (looper_thread next) r.hands.book_seat.names
+  pub book_names : AreBelow next r.hands.book_seat.names
   pub numbers : map (λ (m : Member). m.number) r.members.items ≡ range_with_len 0 (length r.members.items)
   pub each : All (IsMember heads r.shared r.roster_seat) r.members.items
   pub opened : All (IsOpenedAs r.apps.items) r.members.items

@@ -1,5 +1,6 @@
 -- Loopers that start, one after another.
-use Rattle.std.specs.Prelude.{◌≡◌, ℕ, suc, ◌+◌, ◌≤◌, ◌<◌, List, [], ◌∷◌, length}
+use Rattle.std.specs.Prelude.{◌≡◌, ℕ, suc, ◌+◌, ◌≤◌, ◌<◌, List, [], ◌∷◌, length, All}
+use Rattle.std.specs.Arc.{arc_value}
 use Rattle.ak_base.specs.Limits.{app_looper_limit, looper_limit}
 use Rattle.ak_turn.specs.Entries.{StartsWith}
 use Rattle.ak_turn.specs.Seats.{KnowsWhole, titled_seat}
@@ -9,6 +10,7 @@ use Rattle.ak_action.specs.declared.plan.PlanParts.{PlanParts}
 use Rattle.ak_action.specs.declared.state.DeskState.{DeskState}
 use Rattle.ak_port.specs.ReplySeats as books
 use Rattle.ak_looper.specs.Rosters as rosters
+use Rattle.ak_looper.specs.Rosters.{LeadsTo}
 use Rattle.ak_looper.specs.declared.door.Door.{Door}
 use Rattle.ak_looper.specs.declared.kept_door.KeptDoor.{KeptDoor}
 use Rattle.ak_run.specs.declared.launching.Launch.{Launch}
@@ -44,6 +46,10 @@ pub record GoesOnWith (more : ℕ) (r r' : Run) : Type 0 where
   pub shared : r'.shared ≡ r.shared
   pub apps : r'.apps ≡ r.apps
 
+-- the roster pairs the looper with what main's door to it leads to
+abbrev pub IsPaired : rosters.RosterSeat → NewLooper → Type 0
+IsPaired roster n = LeadsTo roster n.number (arc_value n.door.port) (arc_value n.door.desk)
+
 -- the looper is the next one of a team whose launch main's seat has seen
 pub record MayStart (heads : List AppHead) (plans : List PlanParts) (k : ℕ) (t : Team) (n : NewLooper) (ways : List (ℕ × Door)) (r : Run) : Type 0 where
   pub stands : Stands (length r.members.items) heads r
@@ -54,6 +60,7 @@ pub record MayStart (heads : List AppHead) (plans : List PlanParts) (k : ℕ) (t
   pub within : t.first + t.loopers ≤ looper_limit
   pub launched : (desk : DeskState) → IsStartedIn heads t desk r.roster_seat
   pub ways_are : (desk : DeskState) → HasWays (facts_in heads t n.number desk) r.roster_seat ways
+  pub paired : IsPaired r.roster_seat n
 
 -- so is each looper of it
 pub record MayStartTeam (heads : List AppHead) (plans : List PlanParts) (kept : List KeptDoor) (t : Team) (new : NewTeam) (r : Run) : Type 0 where
@@ -66,6 +73,7 @@ pub record MayStartTeam (heads : List AppHead) (plans : List PlanParts) (kept : 
   pub within : t.first + t.loopers ≤ looper_limit
   pub launched : (desk : DeskState) → IsStartedIn heads t desk r.roster_seat
   pub ways_are : (desk : DeskState) → HasWays (facts_in heads t t.first desk) r.roster_seat new.ways.items
+  pub paired : All (IsPaired r.roster_seat) (new.own ∷ new.others.items)
 
 -- seats of that thread were split from main's, which knows as much as before
 pub record HasSplit (thread : ℕ) (r r' : Run) : Type 0 where
@@ -104,4 +112,5 @@ pub record IsStarting (t : Team) (before now : Run) (rest : List NewLooper) : Ty
   pub all : so_far + length rest ≡ t.loopers
   pub within : t.first + t.loopers ≤ looper_limit
   pub launched : (desk : DeskState) → IsStartedIn heads t desk now.roster_seat
+  pub paired : All (IsPaired now.roster_seat) rest
   pub goes : GoesOnWith so_far before now

@@ -1,41 +1,64 @@
 //! The end of a run.
 
-use crate::gathering::{join_all, keep_all, keep_book, keep_roster};
+use crate::gathering::{
+    AllJoined, join_all, keep_all, keep_book, keep_roster, take_all_ways, take_kept,
+};
 use crate::new_looper::Shared;
 use crate::run::Run;
-use ak_diary::{Histories, accepted_is_dispatched_then_left, each_is_dispatched_by_rule};
+use ak_base::Items;
+use ak_diary::Histories;
+use ak_headline::{each_waiting_send_got_one_reply, runs_are_accounted, runs_go_by_rule};
+use ak_looper::KeptDoor;
 use ak_messenger::Hands;
+use ak_roster::{holders_are_told, loopers_are_of_their_teams, seats_tell_strangers};
 use std::sync::Wait;
 use std::thread::Threads;
 
+/// A run that ended.
+#[derive(Drop)]
+pub struct Ended {
+    /// The history of each of its objects.
+    pub histories: Histories,
+    /// The numbers of the loopers that ended for want of memory.
+    pub short: Items<u32>,
+}
+
 impl Run {
     ghost use Rattle.ak_describe.specs.Whole.{heads_of};
-    ghost use Rattle.ak_run.specs.Ending.{EachLooper, HasEnded, IsAccounted, IsByRule};
+    ghost use Rattle.ak_headline.specs.Headline.{EachGotOneReply, EachLooper, IsAccounted, IsByRule};
+    ghost use Rattle.ak_headline.specs.Run.{IsRun};
+    ghost use Rattle.ak_run.specs.Ending.{IsRunOfLoopers};
     ghost use Rattle.ak_run.specs.Recording.{HasMainDiary};
     ghost use Rattle.ak_run.specs.Running.{IsRunning};
 
-    /// Ends what runs, joins all threads and keeps the histories. For each looper that was started there are a port and a desk. The
-    /// messages that it dispatched, followed by those that it left, are exactly those that its port accepted, in order and each once;
-    /// and each was dispatched as the rules say for the handlers at that moment. What main did is one diary that the rules allow.
-    pub fn end<R: Threads + Wait>(mut self, rt: &R) -> Histories
+    /// Ends what runs, joins all threads and keeps the histories. For each looper that was started there are a port and a desk. Each
+    /// looper's diary has all that its thread did, at whatever object, and main's diary all that main did; at the ports and the reply
+    /// book no other thread made an entry. The messages that a looper dispatched, followed by those that it left, are exactly those that
+    /// its port accepted, in order and each once; each was dispatched as the rules say for the handlers at that moment; and each accepted
+    /// waiting send got one reply, the one that the rules make for it. Takes no memory.
+    pub fn end<R: Threads + Wait>(mut self, rt: &R) -> Ended
         requires running { IsRunning self }
-        ensures ended { HasEnded (heads_of self.apps.items) result }
-        ensures accepted { EachLooper result IsAccounted }
-        ensures dispatched { EachLooper result IsByRule }
-        ensures main { HasMainDiary result }
+        ensures run { IsRun (heads_of self.apps.items) result.short result.histories }
+        ensures accepted { EachLooper result.histories IsAccounted }
+        ensures dispatched { EachLooper result.histories IsByRule }
+        ensures answered { EachGotOneReply result.short result.histories }
     {
-        accepted_is_dispatched_then_left();
-        each_is_dispatched_by_rule();
+        runs_are_accounted();
+        runs_go_by_rule();
+        each_waiting_send_got_one_reply();
         self.leave_all(rt);
         self.gathered(rt)
     }
 
     // Joins all threads and keeps the histories.
-    fn gathered<R: Threads + Wait>(self, rt: &R) -> Histories
+    fn gathered<R: Threads + Wait>(self, rt: &R) -> Ended
         requires running { IsRunning self }
-        ensures ended { HasEnded (heads_of self.apps.items) result }
-        ensures main { HasMainDiary result }
+        ensures run { IsRunOfLoopers (heads_of self.apps.items) result.short result.histories }
+        ensures main { HasMainDiary result.histories }
     {
+        holders_are_told();
+        loopers_are_of_their_teams();
+        seats_tell_strangers::<KeptDoor>();
         let Run {
             apps: _,
             hands,
@@ -61,14 +84,24 @@ impl Run {
             &mut book_seat,
             &mut joined,
         );
-        keep_all(rt, joined, &mut ports, &mut desks);
-        let roster = keep_roster(rt, &roster, roster_seat);
+        let AllJoined {
+            mut loopers,
+            ways,
+            short,
+        } = joined;
+        let mut roster = keep_roster(rt, &roster, roster_seat);
+        take_kept(&mut loopers, roster.take_doors());
+        take_all_ways(&mut loopers, ways);
+        keep_all(rt, loopers, &mut ports, &mut desks);
         let book = keep_book(rt, &book, book_seat);
-        Histories {
-            roster: roster.into_entries(),
-            book,
-            ports,
-            desks,
+        Ended {
+            histories: Histories {
+                roster: roster.into_entries(),
+                book,
+                ports,
+                desks,
+            },
+            short: Items::from_vec(short),
         }
     }
 }

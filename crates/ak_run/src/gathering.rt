@@ -1,14 +1,11 @@
 //! The end of a run: threads are joined, what their seats know is taken in, and the history of each object is kept.
-ghost use Rattle.std.specs.Prelude.{◌≡◌, ◌≤◌, [], List, All, length, map, false, vec_capacity};
+ghost use Rattle.std.specs.Prelude.{◌≡◌, ◌≤◌, ◌+◌, ℕ, suc, [], ◌++◌, ◌∷◌, List, All, length, map, false, vec_capacity};
 ghost use Rattle.std.specs.Arc.{arc_value};
-ghost use Rattle.ak_base.specs.Thread.{main_thread};
 ghost use Rattle.ak_turn.specs.Seats.{joined_seat};
-ghost use Rattle.ak_port.specs.Reply.{IsLegal};
-ghost use Rattle.ak_port.specs.ReplySeats as books;
 ghost use Rattle.ak_roster.specs.declared.head.AppHead.{AppHead};
 ghost use Rattle.ak_run.specs.declared.new_looper.Shared.{Shared};
-ghost use Rattle.ak_run.specs.Gathering.{AreBooksOf, GoesOnKnowing, IsDeskOf, IsJoined, IsPortOf, IsRosterOf, KnowsAll, joined_front};
-ghost use Rattle.ak_run.specs.Recording.{EndsByOthers, member_front};
+ghost use Rattle.ak_run.specs.Gathering.{AreBooksOf, AreGaining, AreHeadsIn, AreKeptIn, AreTakenIn, AreWaysIn, GoesOnKnowing, HasRoomFor, HasTakenAt, HoldsNothing, IsAt, IsBookOf, IsDeskOf, IsJoined, IsNoHead, IsPortOf, IsRosterOf, IsTakenIn, IsWayIn, is_short, joined_front, short_of};
+ghost use Rattle.ak_run.specs.Recording.{member_front};
 ghost use Rattle.ak_run.specs.Running.{IsMember};
 
 use crate::member::Member;
@@ -33,6 +30,51 @@ pub(crate) struct Joined {
     pub(crate) end: Snapshot<LooperEnd>,
 }
 
+/// The loopers whose threads were joined, by their numbers.
+#[derive(Drop)]
+pub(crate) struct AllJoined {
+    pub(crate) loopers: Vec<Joined>,
+    // The doors that each gave back.
+    pub(crate) ways: Vec<Vec<(u32, Door)>>,
+    // The numbers of those that found no memory.
+    pub(crate) short: Vec<u32>,
+}
+
+fn is_short(kind: EndKind) -> bool
+    ensures { result ≡ is_short kind }
+{
+    match kind {
+        EndKind::NoMemory => true,
+        EndKind::Quit | EndKind::TeamClosed => false,
+    }
+}
+
+// Its number, where it found no memory.
+fn note_short(short: &mut Vec<u32>, looper: &Joined)
+    requires room { length short.old.items + 1 ≤ vec_capacity short.old }
+    ensures noted { short.new.items ≡ short.old.items ++ short_of (looper.now ∷ []) }
+    ensures room { vec_capacity short.new ≡ vec_capacity short.old }
+{
+    if is_short(looper.kind) {
+        short.push_reserved(looper.number);
+    }
+}
+
+impl AllJoined {
+    // One looper more, with the doors that it gave back.
+    fn put(&mut self, looper: Joined, ways: Vec<(u32, Door)>)
+        requires room { (n : ℕ) × HasRoomFor (suc n) self.old }
+        ensures loopers { self.new.loopers.items ≡ self.old.loopers.items ++ looper ∷ [] }
+        ensures ways { self.new.ways.items ≡ self.old.ways.items ++ ways ∷ [] }
+        ensures short { self.new.short.items ≡ self.old.short.items ++ short_of (looper ∷ []) }
+        ensures room { (n : ℕ) → HasRoomFor (suc n) self.old → HasRoomFor n self.new }
+    {
+        note_short(&mut self.short, &looper);
+        self.loopers.push_reserved(looper);
+        self.ways.push_reserved(ways);
+    }
+}
+
 // Main's seats at a port and a desk take in what those know.
 fn take_in(door: &mut Door, port_seat: Seat<PortBook>, desk_seat: Seat<Desk>)
     requires port { (port_seat.lock ≡ door.old.port_seat.lock) × (port_seat.turn ≡ false) }
@@ -44,7 +86,7 @@ fn take_in(door: &mut Door, port_seat: Seat<PortBook>, desk_seat: Seat<Desk>)
     door.desk.join(&mut door.desk_seat, desk_seat);
 }
 
-/// Joins the thread of one looper, and takes in what its seats know.
+/// Joins the thread of one looper, and takes in what its seats know. With it come the doors that it gave back.
 pub(crate) fn join_one<R: Threads>(
     rt: &R,
     member: Member,
@@ -52,15 +94,17 @@ pub(crate) fn join_one<R: Threads>(
     roster_seat: &mut Seat<RosterBook<KeptDoor>>,
     book: &TurnLock<ReplyBook>,
     book_seat: &mut Seat<ReplyBook>,
-) -> Joined
+) -> (Joined, Vec<(u32, Door)>)
     requires roster_of { roster_seat.old.lock ≡ roster.now }
     requires roster_idle { roster_seat.old.turn ≡ false }
     requires book_of { book_seat.old.lock ≡ book.now }
     requires book_idle { book_seat.old.turn ≡ false }
     requires member { (heads : List AppHead) × (shared : Shared) × IsMember heads shared roster_seat.old member × (arc_value shared.roster ≡ roster.now) × (arc_value shared.book ≡ book.now) }
-    ensures joined { (heads : List AppHead) (shared : Shared) → IsMember heads shared roster_seat.old member → IsJoined heads roster_seat.new book_seat.new result }
-    ensures number { result.number ≡ member.number }
-    ensures front { joined_front result ≡ member_front member }
+    ensures joined { (heads : List AppHead) (shared : Shared) → IsMember heads shared roster_seat.old member → IsJoined heads roster_seat.new book_seat.new result.0 }
+    ensures no_head { (heads : List AppHead) (shared : Shared) → IsMember heads shared roster_seat.old member → IsNoHead result.0 }
+    ensures ways { result.1 ≡ result.0.end.value.doors }
+    ensures number { result.0.number ≡ member.number }
+    ensures front { joined_front result.0 ≡ member_front member }
     ensures roster { GoesOnKnowing roster_seat.old roster_seat.new }
     ensures book { GoesOnKnowing book_seat.old book_seat.new }
 {
@@ -77,7 +121,7 @@ pub(crate) fn join_one<R: Threads>(
         number: _,
         hands,
         own,
-        doors: _,
+        doors,
         roster_seat: at_roster,
         kind,
     } = end;
@@ -95,13 +139,14 @@ pub(crate) fn join_one<R: Threads>(
     roster.join(roster_seat, at_roster);
     book.join(book_seat, at_book);
     take_in(&mut door, port_seat, desk_seat);
-    Joined {
+    let looper = Joined {
         number,
         door,
         kind,
         job,
         end: snapshot,
-    }
+    };
+    (looper, doors)
 }
 
 /// Joins all, in order.
@@ -112,23 +157,90 @@ pub(crate) fn join_all<R: Threads>(
     roster_seat: &mut Seat<RosterBook<KeptDoor>>,
     book: &TurnLock<ReplyBook>,
     book_seat: &mut Seat<ReplyBook>,
-    joined: &mut Vec<Joined>,
+    all: &mut AllJoined,
 )
     requires roster_of { roster_seat.old.lock ≡ roster.now }
     requires roster_idle { roster_seat.old.turn ≡ false }
     requires book_of { book_seat.old.lock ≡ book.now }
     requires book_idle { book_seat.old.turn ≡ false }
     requires members { (heads : List AppHead) × (shared : Shared) × All (IsMember heads shared roster_seat.old) members.items × (arc_value shared.roster ≡ roster.now) × (arc_value shared.book ≡ book.now) }
-    requires none { joined.old.items ≡ [] }
-    requires room { length members.items ≤ vec_capacity joined.old }
-    ensures joined { (heads : List AppHead) (shared : Shared) → All (IsMember heads shared roster_seat.old) members.items → All (IsJoined heads roster_seat.new book_seat.new) joined.new.items }
-    ensures numbers { map (λ (j : Joined). j.number) joined.new.items ≡ map (λ (m : Member). m.number) members.items }
-    ensures fronts { map joined_front joined.new.items ≡ map member_front members.items }
+    requires none { HoldsNothing all.old }
+    requires room { HasRoomFor (length members.items) all.old }
+    ensures joined { (heads : List AppHead) (shared : Shared) → All (IsMember heads shared roster_seat.old) members.items → All (IsJoined heads roster_seat.new book_seat.new) all.new.loopers.items }
+    ensures no_heads { (heads : List AppHead) (shared : Shared) → All (IsMember heads shared roster_seat.old) members.items → All IsNoHead all.new.loopers.items }
+    ensures ways { map (λ (j : Joined). j.end.value.doors) all.new.loopers.items ≡ all.new.ways.items }
+    ensures short { all.new.short.items ≡ short_of all.new.loopers.items }
+    ensures numbers { map (λ (j : Joined). j.number) all.new.loopers.items ≡ map (λ (m : Member). m.number) members.items }
+    ensures fronts { map joined_front all.new.loopers.items ≡ map member_front members.items }
     ensures roster { GoesOnKnowing roster_seat.old roster_seat.new }
     ensures book { GoesOnKnowing book_seat.old book_seat.new }
 {
     for member in members {
-        joined.push_reserved(join_one(rt, member, roster, roster_seat, book, book_seat));
+        let (looper, ways) = join_one(rt, member, roster, roster_seat, book, book_seat);
+        all.put(looper, ways);
+    }
+}
+
+// Main's door to the looper at that place takes in what those seats know.
+fn take_at(
+    loopers: &mut Vec<Joined>,
+    place: usize,
+    port_seat: Seat<PortBook>,
+    desk_seat: Seat<Desk>,
+)
+    requires there { IsAt loopers.old.items place port_seat.lock desk_seat.lock }
+    requires port { port_seat.turn ≡ false }
+    requires desk { desk_seat.turn ≡ false }
+    ensures { HasTakenAt place port_seat desk_seat loopers.old.items loopers.new.items }
+{
+    take_in(&mut loopers[place].door, port_seat, desk_seat);
+}
+
+/// Main's doors take in those that the roster kept, in order. Main's seats are the heads from then on.
+pub(crate) fn take_kept(loopers: &mut Vec<Joined>, kept: Vec<KeptDoor>)
+    requires there { AreKeptIn loopers.old.items 0 kept.items }
+    requires no_heads { All IsNoHead loopers.old.items }
+    ensures gaining { AreGaining loopers.old.items loopers.new.items }
+    ensures heads { AreHeadsIn loopers.new.items 0 kept.items }
+{
+    let mut place = 0;
+    for door in kept {
+        let KeptDoor {
+            port: _,
+            port_seat,
+            desk: _,
+            desk_seat,
+        } = door;
+        take_at(loopers, place, port_seat, desk_seat);
+        place += 1;
+    }
+}
+
+// Main's doors take in those that one looper gave back.
+fn take_ways(loopers: &mut Vec<Joined>, ways: Vec<(u32, Door)>)
+    requires there { All (IsWayIn loopers.old.items) ways.items }
+    ensures gaining { AreGaining loopers.old.items loopers.new.items }
+    ensures taken { All (IsTakenIn loopers.new.items) ways.items }
+{
+    for (number, way) in ways {
+        let Door {
+            port: _,
+            port_seat,
+            desk: _,
+            desk_seat,
+        } = way;
+        take_at(loopers, number as usize, port_seat, desk_seat);
+    }
+}
+
+/// Main's doors take in those that the loopers gave back.
+pub(crate) fn take_all_ways(loopers: &mut Vec<Joined>, all: Vec<Vec<(u32, Door)>>)
+    requires there { All (AreWaysIn loopers.old.items) all.items }
+    ensures gaining { AreGaining loopers.old.items loopers.new.items }
+    ensures taken { All (AreTakenIn loopers.new.items) all.items }
+{
+    for ways in all {
+        take_ways(loopers, ways);
     }
 }
 
@@ -166,9 +278,7 @@ pub(crate) fn keep_book<R: Wait>(
 ) -> ReplyBook
     requires of { seat.lock ≡ book.now }
     requires idle { seat.turn ≡ false }
-    ensures legal { IsLegal result }
-    ensures known { KnowsAll books.maker_of seat result }
-    ensures ends { seat.thread ≡ main_thread → EndsByOthers books.maker_of seat.front result }
+    ensures { IsBookOf seat result }
 {
     let turn = book.lock(rt, &mut seat);
     let kept = turn.keep();

@@ -18,5 +18,6 @@ mod sending;
 mod starting;
 mod team;
 
+pub use ending::Ended;
 pub use launch::LaunchAnswer;
 pub use run::Run;

@@ -5,7 +5,7 @@ ghost use Rattle.ak_base.specs.Thread.{main_thread};
 ghost use Rattle.ak_describe.specs.Whole.{IsWholeApp, head_of, heads_of};
 ghost use Rattle.ak_roster.specs.Heads.{IsHeads};
 
-use crate::gathering::Joined;
+use crate::gathering::AllJoined;
 use crate::member::Member;
 use crate::new_looper::Shared;
 use ak_base::{LOOPER_LIMIT, NoMemory, ThreadId};
@@ -29,7 +29,7 @@ pub struct Run {
     pub(crate) roster_seat: Seat<RosterBook<KeptDoor>>,
     pub(crate) members: Vec<Member>,
     // Room for the end, which takes no memory.
-    pub(crate) joined: Vec<Joined>,
+    pub(crate) joined: AllJoined,
     pub(crate) ports: Vec<PortBook>,
     pub(crate) desks: Vec<Desk>,
     ghost book: { arc_value hands.book ≡ arc_value shared.book },
@@ -92,7 +92,11 @@ impl Run {
         };
         Ok(Run {
             members: Vec::with_capacity(alloc, LOOPER_LIMIT as usize)?,
-            joined: Vec::with_capacity(alloc, LOOPER_LIMIT as usize)?,
+            joined: AllJoined {
+                loopers: Vec::with_capacity(alloc, LOOPER_LIMIT as usize)?,
+                ways: Vec::with_capacity(alloc, LOOPER_LIMIT as usize)?,
+                short: Vec::with_capacity(alloc, LOOPER_LIMIT as usize)?,
+            },
             ports: Vec::with_capacity(alloc, LOOPER_LIMIT as usize)?,
             desks: Vec::with_capacity(alloc, LOOPER_LIMIT as usize)?,
             apps,

@@ -1,15 +1,9 @@
 -- What lets a thread take stays so.
-use Rattle.std.proofs.Common.{◌≡◌, ℕ, List, Option, sym, subst}
+use Rattle.std.proofs.Common.{◌≡◌, ℕ, sym, subst}
 use Rattle.ak_base.specs.declared.thread.ThreadId.{ThreadId}
-use Rattle.ak_turn.specs.Seats.{titled_seat}
 use Rattle.ak_port.specs.declared.port_entry.TakeAnswer.{TakeAnswer}
 use Rattle.ak_port.specs.declared.port_entry.TakeAnswer.TheVariants as answered
 use Rattle.ak_port.specs.PortCalls.{CanTake, IfTook, PortSeat}
-use Rattle.ak_port.proofs.Surface.{can_titled}
-
--- where its seat gives another thread one
-pub can_still : (thread : ThreadId) (room : ℕ) (names : Option (List ℕ)) (a b : PortSeat) → CanTake thread room a → b ≡ titled_seat names a → CanTake thread room b
-can_still thread room names a b can after = can_titled thread room names a b can after
 
 -- where its clock alone has gone on
 pub can_stay : (t u : ThreadId) (room : ℕ) (a b : PortSeat) → CanTake t room a → u ≡ t → b ≡ a → CanTake u room b

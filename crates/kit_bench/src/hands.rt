@@ -73,7 +73,7 @@ pub fn new_taker(alloc: Global, room: u32) -> Result<Hands, BenchFault>
 }
 
 /// The hands of a new thread with that number, at the same port and book.
-#[tactic(auto, using(crate::proofs::Naming::naming, crate::proofs::Taking::can_still))]
+#[tactic(auto, using(crate::proofs::Naming::naming, ak_port::proofs::Surface::can_titled))]
 fn split_off(alloc: Global, head: &mut Hands, room: u32, number: u32) -> Result<Hands, BenchFault>
     requires taking { CanTake head.old.clock.thread room head.old.at_port }
     requires port_names { AreNamesBelow number head.old.at_port.names }

@@ -1,5 +1,5 @@
 -- A port that accepts one item has one.
-use Rattle.std.proofs.Common.{◌≡◌, ℕ, ◌≤◌, true, List, [], ◌∷◌, ◌++◌, length, Contains, refl, sym, ap, ◌∙◌, subst, arith}
+use Rattle.std.proofs.Common.{◌≡◌, ℕ, ◌≤◌, true, List, [], ◌∷◌, length, Contains, refl, sym, ap, ◌∙◌, subst, arith}
 use Rattle.ak_flatten.specs.declared.item.Taken.{Taken}
 use Rattle.ak_flatten.specs.Item.{ItemData}
 use Rattle.ak_turn.specs.Entries.{StartsWith}
@@ -8,8 +8,9 @@ use Rattle.ak_port.specs.declared.port_entry.PortEvent.{PortEvent}
 use Rattle.ak_port.specs.declared.port_entry.PortEvent.TheVariants as event
 use Rattle.ak_port.specs.PortLaws.{EachOnce, OldestFirst, WithinLimits}
 use Rattle.ak_port.specs.PortMachine.{AreSteps, IsPort, PortState, follows_making, numbered, replayed, state_after, state_of, unmade}
+use Rattle.ak_port.proofs.Surface.{AreSteps-behind, length-numbered, replayed-append}
 use Rattle.uses_asks.specs.Laws.{AcceptsOne, OneItemAlone}
-use Rattle.uses_asks.proofs.Numbered.{length-numbered, position_of, same_written, written_numbered}
+use Rattle.uses_asks.proofs.Numbered.{position_of, same_written, written_numbered}
 
 -- ---- how many items a port accepts stays, once it was made
 made_step : (s : PortState) (e : PortEvent) → s.made ≡ true → (state_after s e).made ≡ true
@@ -38,19 +39,11 @@ life_stays taker s (x ∷ xs) is_made steps =
     life_stays taker (state_after s x.event) xs (made_step s x.event is_made) steps.1 ∙ life_step s x.event (sym steps.0.after_making ∙ is_made)
 
 -- ---- a list in two parts
-replayed-append : (s : PortState) (xs ys : List PortEntry) → replayed s (xs ++ ys) ≡ replayed (replayed s xs) ys
-replayed-append s [] ys = refl
-replayed-append s (x ∷ xs) ys = replayed-append (state_after s x.event) xs ys
-
-steps_behind : (taker : ℕ) (s : PortState) (xs ys : List PortEntry) → AreSteps taker s (xs ++ ys) → AreSteps taker (replayed s xs) ys
-steps_behind taker s [] ys steps = steps
-steps_behind taker s (x ∷ xs) ys steps = steps_behind taker (state_after s x.event) xs ys steps.1
-
 accepts_still : (taker : ℕ) (port front : List PortEntry) → IsPort taker port → StartsWith port front → AcceptsOne front → (state_of port).life ≡ 1
 accepts_still taker port front is starts one =
     let steps = subst (λ (l : List PortEntry). AreSteps taker unmade l) starts.1 is.steps in
     ap (λ (l : List PortEntry). (state_of l).life) starts.1 ∙ ap (λ (s : PortState). s.life) (replayed-append unmade front starts.0)
-    ∙ life_stays taker (state_of front) starts.0 one.is_made (steps_behind taker unmade front starts.0 steps) ∙ one.life
+    ∙ life_stays taker (state_of front) starts.0 one.is_made (AreSteps-behind taker unmade front starts.0 steps) ∙ one.life
 
 -- ---- of at most one item each is the first
 is_first : (items : List ItemData) (t : Taken) → length items ≤ 1 → Contains (numbered 0 items) t → t.position ≡ 0

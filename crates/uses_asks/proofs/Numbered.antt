@@ -24,10 +24,6 @@ joined k items =
     let same : k ≡ 0 + k = omega arith in
     ap (λ (m : ℕ). numbered 0 (take k items) ++ numbered m (drop k items)) same ∙ joined_from 0 k items
 
-pub length-numbered : (n : ℕ) (items : List ItemData) → length (numbered n items) ≡ length items
-length-numbered n [] = refl
-length-numbered n (x ∷ xs) = ap suc (length-numbered (n + 1) xs)
-
 pub position_of : (n : ℕ) (items : List ItemData) (k : ℕ) (t : Taken) → k < length (numbered n items) → slice_index_or (numbered n items) k t ≡ t → t.position ≡ n + k
 position_of n [] k t lt at = absurd (omega arith)
 position_of n (x ∷ xs) zero t lt at =

@@ -1,6 +1,7 @@
 //! The public calls of the lower crates, made as a program above would make them: texts and codes, sources and sinks,
-//! starts of threads, messages and their flat texts, filters, handlers, specifiers, property tables and elements. There
-//! is nothing here but tests. They stand apart from those crates, since a crate with tests of its own is proved twice.
+//! starts of threads, messages, their flat texts and what is printed of them, filters, handlers, specifiers, property
+//! tables and elements. There is nothing here but tests. They stand apart from those crates, since a crate with tests
+//! of its own is proved twice.
 #![tactic(auto)]
 
 #[cfg(test)]
@@ -29,6 +30,8 @@ mod messages;
 mod outside;
 #[cfg(test)]
 mod plain;
+#[cfg(test)]
+mod printed;
 #[cfg(test)]
 mod properties;
 #[cfg(test)]

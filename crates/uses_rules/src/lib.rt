@@ -1,6 +1,6 @@
 //! Tests of rules by public calls alone, of what no row of a program over data can say: states and plans
 //! that no description gives, what is made of those that one gives, lists at their limits, want of memory at a
-//! desk, and threads that share one.
+//! desk, threads that share one, and the lines of outcomes.
 //! Nothing here is for use.
 #![tactic(auto)]
 
@@ -18,3 +18,5 @@ mod lists;
 mod parts;
 #[cfg(test)]
 mod plans;
+#[cfg(test)]
+mod told;

@@ -5,6 +5,7 @@ use Rattle.std.proofs.lemmas.Bool.{and_from, and_parts, cases_eq}
 use Rattle.std.proofs.lemmas.List.{length_push, length-set}
 use Rattle.std.proofs.lemmas.List.Elements.{All-nil, All-cons, All-push, All-set}
 use Rattle.std.proofs.lemmas.Slice.Eq.{bytes_eq-Decides}
+use Rattle.std.proofs.lemmas.Option.{same_Some}
 use Rattle.ak_base.specs.declared.ending.RefusalKind.{RefusalKind}
 use Rattle.ak_base.specs.Word.{is_word}
 use Rattle.ak_base.specs.Option.{where_true, ◌>>=◌}
@@ -23,7 +24,7 @@ use Rattle.ak_describe.proofs.ground.Ends.{get_set_other}
 use Rattle.ak_describe.proofs.built.Fits.{AppFits, IsNoNext, LooperFits, RowFits}
 use Rattle.ak_describe.proofs.chains.Following.{next_at, next_in}
 use Rattle.ak_describe.proofs.built.LooperLines.{looper_left, name_at_is_word, new_row_fits}
-use Rattle.ak_describe.proofs.ground.Outcomes.{allowed, bound, changed, mapped, not_bad, same_ok, same_some, went, where_is}
+use Rattle.ak_describe.proofs.ground.Outcomes.{allowed, bound, changed, mapped, not_bad, same_ok, went, where_is}
 use Rattle.ak_describe.proofs.ground.Places.{all_there, same_push, same_set, set_here}
 use Rattle.ak_describe.proofs.built.RowLines.{IsOther}
 
@@ -72,7 +73,7 @@ looper_pref ls i l s need at from x name is =
     (λ (ne : x ≢ i). inl (sym (ap pref_in (get_set_other ls i x s ne)) ∙ is))
     (cases_eq x i)
 
-abbrev with_loopers : AppData → List LooperData × Option Need → AppData × Option Need
+abbrev pub with_loopers : AppData → List LooperData × Option Need → AppData × Option Need
 with_loopers a x = (record a { loopers = x.0 }, x.1)
 
 in_last_looper_left : (a : AppData) (keyword : Keyword) (words : List (List ℕ)) (y : AppData × Option Need) → IsOther keyword → in_last_looper a keyword words ≡ Ok y → AppLeft a y.0 y.1
@@ -135,7 +136,7 @@ capacity_behind_within least None n low e = absurd cc
 capacity_behind_within least (Some words) n low e = capacity_is_within least words n low e
 
 capacity_by : (least : ℕ) (words : List (List ℕ)) (n : ℕ) (b : Bool) → 1 ≤ least → (if b then Some 100 else capacity_behind least (behind words (codes "capacity"))) ≡ Some n → Within n
-capacity_by least words n true low e = subst Within (same_some 100 n e) (within 100 (omega arith) (omega arith))
+capacity_by least words n true low e = subst Within (same_Some 100 n e) (within 100 (omega arith) (omega arith))
 capacity_by least words n false low e = capacity_behind_within least (behind words (codes "capacity")) n low e
 
 capacity_from_within : (least : ℕ) (words : List (List ℕ)) (n : ℕ) → 1 ≤ least → capacity_from least words ≡ Some n → Within n
@@ -147,7 +148,7 @@ unfolding looper_form
 form_fits least words form low e =
     let t = bound (name_at words) (λ name. capacity_from least name.1 >>= λ capacity. Some (record { name = name.0; capacity = capacity })) form e in
     let u = bound (capacity_from least t.value.1) (λ (capacity : ℕ). Some (record { name = t.value.0; capacity = capacity })) form t.then_is in
-    let same : record { name = t.value.0; capacity = u.value } ≡ form = same_some (record { name = t.value.0; capacity = u.value }) form u.then_is in
+    let same : record { name = t.value.0; capacity = u.value } ≡ form = same_Some (record { name = t.value.0; capacity = u.value }) form u.then_is in
     subst (λ (f : LooperForm). (is_word f.name ≡ true) × Within f.capacity) same (name_at_is_word words t.value t.is, capacity_from_within least t.value.1 u.value low u.is)
 
 least_some : (b : Bool) → 1 ≤ (if b then 2 else 1)

@@ -3,6 +3,7 @@ use Rattle.std.proofs.Common.{◌≡◌, ◌∙◌, ℕ, Bool, true, false, ◌&
 use Rattle.std.specs.List.{list_all}
 use Rattle.std.proofs.lemmas.Bool.{and_from, and_parts, or_left, or_right}
 use Rattle.std.proofs.lemmas.List.Folds.{list_all-append}
+use Rattle.std.proofs.lemmas.Option.{same_Some}
 use Rattle.ak_base.specs.declared.limited.Limited.{Limited}
 use Rattle.ak_base.specs.declared.limited.Limited.TheVariants.{Within, Over}
 use Rattle.ak_base.specs.Limited.{limited_map}
@@ -40,7 +41,7 @@ use Rattle.ak_describe.specs.declared.keyword.Keyword.{Keyword}
 use Rattle.ak_describe.specs.declared.keyword.Keyword.TheVariants as key
 use Rattle.ak_describe.specs.Pass.{action_from, added_form, bare, or_bad}
 use Rattle.ak_describe.specs.Words.{code_at, ends, name_of}
-use Rattle.ak_describe.proofs.ground.Outcomes.{bound, bound_within, mapped, mapped_within, not_bad, same_ok, same_some, same_within, where_is, within_is}
+use Rattle.ak_describe.proofs.ground.Outcomes.{bound, bound_within, mapped, mapped_within, not_bad, same_ok, same_within, where_is, within_is}
 
 -- ---- a handler of which nothing but its properties counts
 abbrev pub with_properties : List PropertyParts → PlanRow
@@ -105,7 +106,7 @@ Finds ps name x = (is_named (table_of ps) name ≡ true) × (is_property_of (wit
 
 found_first : (p : PropertyParts) (ps : List PropertyParts) (name : List ℕ) (x : PropertyParts) (b : Bool) → bytes_eq p.row.name name ≡ b → cond b (Some p) (property_named ps name) ≡ Some x → (property_named ps name ≡ Some x → Finds ps name x) → Finds (p ∷ ps) name x
 found_first p ps name x true at e later =
-    let same : p ≡ x = same_some p x e in (
+    let same : p ≡ x = same_Some p x e in (
       or_left (bytes_eq p.row.name name) (is_named (table_of ps) name) at,
       or_left (bytes_eq p.row.name name && is_same_kind p.row.kind x.row.kind) (is_property_of (with_properties ps) name x.row.kind)
           (and_from (bytes_eq p.row.name name) (is_same_kind p.row.kind x.row.kind) at (subst (λ (y : PropertyParts). is_same_kind p.row.kind y.row.kind ≡ true) same (same_kind p.row.kind))),
@@ -156,7 +157,7 @@ module _ (ps : List PropertyParts) where
   given_by : (text : List ℕ) (copied : Option Given) (g : Given) (values : Option (Limited ValuesData)) → copied_from ps text ≡ Some copied → copied_or copied values ≡ Some (Within g)
       → (Fitting g × (is_one g ≡ true)) ⊎ ((v : ValuesData) × (values ≡ Some (Within v)) × (gets.Values v ≡ g))
   given_by text (Some c) g values is e =
-      let same : c ≡ g = same_within c g (same_some (Within c) (Within g) e) in
+      let same : c ≡ g = same_within c g (same_Some (Within c) (Within g) e) in
       inl (copied_fits text g (is ∙ ap (λ (x : Given). Some (Some x)) same))
   given_by text None g values is e = inr (values_fit values g e)
 
@@ -194,7 +195,7 @@ module _ (ps : List PropertyParts) where
   FilledIf fields = (fs : List TemplateField) → fields ≡ Within fs → Filled fs
 
   filled_kept : (f : Option TemplateFault) (fields : List TemplateField) (out : Limited (List TemplateField)) → field_kept f fields ≡ Some out → Filled fields → FilledIf out
-  filled_kept None fields out e filled fs is = let same : Within fields ≡ out = same_some (Within fields) out e in subst (λ (x : List TemplateField). Filled x) (same_within fields fs (same ∙ is)) filled
+  filled_kept None fields out e filled fs is = let same : Within fields ≡ out = same_Some (Within fields) out e in subst (λ (x : List TemplateField). Filled x) (same_within fields fs (same ∙ is)) filled
   filled_kept (Some fault.FieldLimit) fields out e filled fs is = absurd (cc (e, is))
   filled_kept (Some fault.BadName) fields out e filled fs is = absurd cc
   filled_kept (Some fault.NameInUse) fields out e filled fs is = absurd cc
@@ -213,7 +214,7 @@ module _ (ps : List PropertyParts) where
   filled_too b name g out e filled given =
       let t = bound (name_of name) (λ n. with_field b.fields n g >>= λ fields. Some (record { names = b.names ++ name ∷ []; fields = fields })) out e in
       let u = bound (with_field b.fields t.value g) (λ (fields : Limited (List TemplateField)). Some (record { names = b.names ++ name ∷ []; fields = fields })) out t.then_is in
-      let same : record { names = b.names ++ name ∷ []; fields = u.value } ≡ out = same_some (record { names = b.names ++ name ∷ []; fields = u.value }) out u.then_is in
+      let same : record { names = b.names ++ name ∷ []; fields = u.value } ≡ out = same_Some (record { names = b.names ++ name ∷ []; fields = u.value }) out u.then_is in
       subst (λ (x : Built). FilledIf x.fields) same (filled_with b.fields t.value g u.value u.is filled given)
 
   filled_cases : (has : Bool) (b : Built) (name : List ℕ) (g : Limited Given) (out : Built) → (if has then None else named_too b name g) ≡ Some out
@@ -231,7 +232,7 @@ module _ (ps : List PropertyParts) where
 
   all_filled : (b : Built) (words : List (List ℕ)) (out : Built) → fields_behind ps b words ≡ Some out → FilledIf b.fields → FilledIf out.fields
   unfolding fields_behind
-  all_filled b [] out e filled = subst (λ (x : Built). FilledIf x.fields) (same_some b out e) filled
+  all_filled b [] out e filled = subst (λ (x : Built). FilledIf x.fields) (same_Some b out e) filled
   all_filled b (word ∷ words) out e filled =
       let t = bound (field_behind ps b word) (λ more. fields_behind ps more words) out e in
       all_filled t.value words out t.then_is (filled_behind b word t.value t.is filled)
@@ -246,7 +247,7 @@ module _ (ps : List PropertyParts) where
   template_fits words m e =
       let t = bound (code_at words) (λ what. fields_behind ps nothing_built what.1 >>= λ b. Some (limited_then (short_template what.0) b.fields)) (Within m) e in
       let u = bound (fields_behind ps nothing_built t.value.1) (λ (b : Built). Some (limited_then (short_template t.value.0) b.fields)) (Within m) t.then_is in
-      let v = bound_within u.value.fields (short_template t.value.0) m (same_some (limited_then (short_template t.value.0) u.value.fields) (Within m) u.then_is) in
+      let v = bound_within u.value.fields (short_template t.value.0) m (same_Some (limited_then (short_template t.value.0) u.value.fields) (Within m) u.then_is) in
       short_fits t.value.0 v.value m v.then_is (all_filled nothing_built t.value.1 u.value u.is (λ fs is. subst (λ (x : List TemplateField). Filled x) (same_within [] fs is) refl) v.value v.is)
 
   -- ---- the forms of actions
@@ -265,7 +266,7 @@ module _ (ps : List PropertyParts) where
   post_fits words a e =
       let t = bound (dest_at words) (λ to. template_form ps (back_behind to.1).1 >>= λ m. Some (post_action to.0 (back_behind to.1).0 m)) (Within a) e in
       let u = bound (template_form ps (back_behind t.value.1).1) (λ m. Some (post_action t.value.0 (back_behind t.value.1).0 m)) (Within a) t.then_is in
-      let v = mapped_within u.value (λ (m : Template). action.Post t.value.0 m (back_behind t.value.1).0) a (same_some (post_action t.value.0 (back_behind t.value.1).0 u.value) (Within a) u.then_is) in
+      let v = mapped_within u.value (λ (m : Template). action.Post t.value.0 m (back_behind t.value.1).0) a (same_Some (post_action t.value.0 (back_behind t.value.1).0 u.value) (Within a) u.then_is) in
       subst (λ (x : Action). Acting x) v.then_is (template_fits (back_behind t.value.1).1 v.value (u.is ∙ ap (λ (m : Limited Template). Some m) v.is))
 
   asked_is : (to : Dest) → may_be_asked to ≡ true → is_asked to ≡ true
@@ -276,11 +277,11 @@ module _ (ps : List PropertyParts) where
 
   into_fits : (words : List (List ℕ)) (o : Option (List ℕ × List (List ℕ))) (into : Option (List ℕ) × List (List ℕ)) → into_found ps words o ≡ Some into → may_be_property (with_properties ps) into.0 ≡ true
   into_fits words None into e =
-      let same : (None, words) ≡ into = same_some (None, words) into e in
+      let same : (None, words) ≡ into = same_Some (None, words) into e in
       subst (λ (x : Option (List ℕ) × List (List ℕ)). may_be_property (with_properties ps) x.0 ≡ true) same refl
   into_fits words (Some last) into e =
       let t = bound (property_name ps last.0) (λ name. Some (Some name, last.1)) into e in
-      let same : (Some t.value, last.1) ≡ into = same_some (Some t.value, last.1) into t.then_is in
+      let same : (Some t.value, last.1) ≡ into = same_Some (Some t.value, last.1) into t.then_is in
       subst (λ (x : Option (List ℕ) × List (List ℕ)). may_be_property (with_properties ps) x.0 ≡ true) same (name_found last.0 t.value t.is)
 
   ask_fits : (words : List (List ℕ)) (a : Action) → ask_form ps words ≡ Some (Within a) → Acting a
@@ -290,7 +291,7 @@ module _ (ps : List PropertyParts) where
       let u = bound (where_true (may_be_asked t.value.0) t.value.1) (λ asked. into_behind ps asked >>= λ into. template_form ps into.1 >>= λ m. Some (ask_action t.value.0 into.0 m)) (Within a) t.then_is in
       let v = bound (into_behind ps u.value) (λ into. template_form ps into.1 >>= λ m. Some (ask_action t.value.0 into.0 m)) (Within a) u.then_is in
       let w = bound (template_form ps v.value.1) (λ m. Some (ask_action t.value.0 v.value.0 m)) (Within a) v.then_is in
-      let x = mapped_within w.value (λ (m : Template). action.Ask t.value.0 m v.value.0) a (same_some (ask_action t.value.0 v.value.0 w.value) (Within a) w.then_is) in
+      let x = mapped_within w.value (λ (m : Template). action.Ask t.value.0 m v.value.0) a (same_Some (ask_action t.value.0 v.value.0 w.value) (Within a) w.then_is) in
       let asked = where_is (may_be_asked t.value.0) t.value.1 u.value u.is in
       subst (λ (y : Action). Acting y) x.then_is
       (and_from (is_asked t.value.0) (may_be_property (with_properties ps) v.value.0 && fits_template (with_properties ps) x.value) (asked_is t.value.0 asked.0)
@@ -303,7 +304,7 @@ module _ (ps : List PropertyParts) where
       let t = bound (two_words words) (λ two. property_name ps two.0 >>= λ property. set_given ps two.1 >>= λ g. Some (set_action property g)) (Within a) e in
       let u = bound (property_name ps t.value.0) (λ property. set_given ps t.value.1 >>= λ g. Some (set_action property g)) (Within a) t.then_is in
       let v = bound (set_given ps t.value.1) (λ g. Some (set_action u.value g)) (Within a) u.then_is in
-      let w = mapped_within v.value (λ (value : Given). action.Set u.value value) a (same_some (set_action u.value v.value) (Within a) v.then_is) in
+      let w = mapped_within v.value (λ (value : Given). action.Set u.value value) a (same_Some (set_action u.value v.value) (Within a) v.then_is) in
       let g = set_fits t.value.1 w.value (v.is ∙ ap (λ (m : Limited Given). Some m) w.is) in
       subst (λ (y : Action). Acting y) w.then_is
       (and_from (is_named (table_of ps) u.value) (is_one w.value && fits_given (with_properties ps) w.value) (name_found t.value.0 u.value u.is)
@@ -330,7 +331,7 @@ module _ (ps : List PropertyParts) where
       let v = bound (number_from u.value.row.kind t.value.1) (λ amount. name_of t.value.0 >>= λ property. Some (action.Add property amount)) a u.then_is in
       let w = bound (name_of t.value.0) (λ (property : List ℕ). Some (action.Add property v.value)) a v.then_is in
       let name = where_is (is_word t.value.0) t.value.0 w.value w.is in
-      let same : action.Add w.value v.value ≡ a = same_some (action.Add w.value v.value) a w.then_is in
+      let same : action.Add w.value v.value ≡ a = same_Some (action.Add w.value v.value) a w.then_is in
       subst (λ (y : Action). Acting y) same
       (subst (λ (x : List ℕ × Kind). is_property_of (with_properties ps) x.0 x.1 ≡ true) (λ i. (name.1 i, sym (number_is u.value.row.kind t.value.1 v.value v.is) i))
       (found ps t.value.0 u.value u.is).1)
@@ -339,13 +340,13 @@ module _ (ps : List PropertyParts) where
   bare_fits b words a fits e = bare_by (ends words) e
     where
       bare_by : (t : Bool) → (if t then Some (Within b) else None) ≡ Some (Within a) → Acting a
-      bare_by true h = subst (λ (y : Action). Acting y) (same_within b a (same_some (Within b) (Within a) h)) fits
+      bare_by true h = subst (λ (y : Action). Acting y) (same_within b a (same_Some (Within b) (Within a) h)) fits
       bare_by false h = absurd cc
 
   added_fits : (words : List (List ℕ)) (a : Action) → added_form ps words ≡ Some (Within a) → Acting a
   added_fits words a e =
       let t = bound (add_form ps words) (λ (x : Action). Some (Within x)) (Within a) e in
-      adding_fits words a (t.is ∙ ap (λ (x : Action). Some x) (same_within t.value a (same_some (Within t.value) (Within a) t.then_is)))
+      adding_fits words a (t.is ∙ ap (λ (x : Action). Some x) (same_within t.value a (same_Some (Within t.value) (Within a) t.then_is)))
 
   -- what is read of an action
   abbrev Read : Option (Limited Action) → Limited Action → Type 0

@@ -5,6 +5,7 @@ use Rattle.std.specs.Cmp.Lexicographic.{nat_list_eq_equiv}
 use Rattle.std.proofs.lemmas.Bool.{and_from, and_parts, or_parts, or_from}
 use Rattle.std.proofs.lemmas.List.{length_push, length-set}
 use Rattle.std.proofs.lemmas.List.Elements.{All-push, All-set}
+use Rattle.std.proofs.lemmas.Option.{same_Some}
 use Rattle.ak_base.specs.declared.ending.RefusalKind.TheVariants as refusal
 use Rattle.ak_base.specs.Word.{is_word}
 use Rattle.ak_filter.specs.declared.filter.Filter.{Filter}
@@ -25,7 +26,7 @@ use Rattle.ak_describe.specs.Pass.{carry_in_looper, carry_in_row, common_line, h
 use Rattle.ak_describe.specs.Words.{ends, first_of, name_at, name_of, only_name}
 use Rattle.ak_describe.proofs.built.Fits.{IsNoNext, LooperFits, RowFits}
 use Rattle.ak_describe.proofs.chains.Following.{next_in}
-use Rattle.ak_describe.proofs.ground.Outcomes.{allowed, bound, changed, not_bad, same_ok, same_some, went, where_is}
+use Rattle.ak_describe.proofs.ground.Outcomes.{allowed, bound, changed, not_bad, same_ok, went, where_is}
 use Rattle.ak_describe.proofs.ground.Places.{all_there, same_push, same_set}
 use Rattle.ak_describe.proofs.built.RowLines.{IsOther, no_next_handler, row_left}
 
@@ -50,7 +51,7 @@ name_at_is_word words y e =
     let t = bound (first_of words) (λ first. name_of first.0 >>= λ name. Some (name, first.1)) y e in
     let u = bound (name_of t.value.0) (λ (name : List ℕ). Some (name, t.value.1)) y t.then_is in
     let w = where_is (is_word t.value.0) t.value.0 u.value u.is in
-    let same : (u.value, t.value.1) ≡ y = same_some (u.value, t.value.1) y u.then_is in
+    let same : (u.value, t.value.1) ≡ y = same_Some (u.value, t.value.1) y u.then_is in
     subst (λ (z : List ℕ × List (List ℕ)). is_word z.0 ≡ true) same (subst (λ n. is_word n ≡ true) w.1 w.0)
 
 pub name_is_word : (words : List (List ℕ)) (name : List ℕ) → only_name words ≡ Some name → is_word name ≡ true
@@ -224,7 +225,7 @@ common_line_left l words y e =
     })
 
 -- ---- lines of its last handler
-abbrev with_rows : LooperData → List RowData × Option Need → LooperData × Option Need
+abbrev pub with_rows : LooperData → List RowData × Option Need → LooperData × Option Need
 with_rows l x = (record l { rows = x.0 }, x.1)
 
 in_last_row_left : (l : LooperData) (keyword : Keyword) (words : List (List ℕ)) (y : LooperData × Option Need) → IsOther keyword → in_last_row l keyword words ≡ Ok y → LooperLeft l y.0 y.1

@@ -11,11 +11,11 @@ use Rattle.ak_describe.specs.declared.named.Need.TheVariants as needs
 use Rattle.ak_describe.specs.Parts.{RowData, LooperData, AppData}
 use Rattle.ak_describe.specs.Pass.{carry, carry_in_looper, carry_in_row, follows, has_no_next, in_last_looper, is_before_handlers, lacks_next, last_item, loopers_in, may_follow, on_last, open_looper, open_looper_place, open_row_place, rows_in}
 use Rattle.ak_describe.specs.Words.{only_name}
-use Rattle.ak_describe.proofs.built.AppLines.{last_set, pref_at, pref_in, set_loopers_fit}
+use Rattle.ak_describe.proofs.built.AppLines.{last_set, pref_at, pref_in, set_loopers_fit, with_loopers}
 use Rattle.ak_describe.proofs.ground.Ends.{get_set_other}
 use Rattle.ak_describe.proofs.built.Fits.{AppFits, LooperFits, RowFits}
 use Rattle.ak_describe.proofs.chains.Following.{next_at, next_in}
-use Rattle.ak_describe.proofs.built.LooperLines.{set_fits}
+use Rattle.ak_describe.proofs.built.LooperLines.{set_fits, with_rows}
 use Rattle.ak_describe.proofs.ground.Outcomes.{changed, not_bad, same_ok, went}
 use Rattle.ak_describe.proofs.ground.Places.{all_there, same_set, set_here}
 
@@ -47,12 +47,6 @@ pub record NextRead (apps left : List AppData) (need : Option Need) : Type 0 whe
   pub name : List ℕ
   pub left_is : left ≡ apps_then apps opened name
   pub need_is : need ≡ Some (needs.Next name)
-
-abbrev with_rows : LooperData → List RowData × Option Need → LooperData × Option Need
-with_rows l x = (record l { rows = x.0 }, x.1)
-
-abbrev with_loopers : AppData → List LooperData × Option Need → AppData × Option Need
-with_loopers a x = (record a { loopers = x.0 }, x.1)
 
 pub next_read : (apps : List AppData) (words : List (List ℕ)) (y : List AppData × Option Need) → carry apps key.Next words ≡ Ok y → NextRead apps y.0 y.1
 next_read apps words y e =

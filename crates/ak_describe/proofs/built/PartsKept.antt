@@ -20,13 +20,13 @@ use Rattle.ak_describe.specs.Parts.{RowData, LooperData, AppData}
 use Rattle.ak_describe.specs.Pass.{Refusal, State, after_lines, at_line, begun, carried, carry, first_pass, loopers_in, may_stand, new_name, nothing_read, open_looper_place, open_row_place, or_refused, read_line, read_words, rows_in, unfinished, with_need}
 use Rattle.ak_describe.specs.Words.{texts}
 use Rattle.ak_describe.proofs.built.AppLines.{apps_left, pref_at}
-use Rattle.ak_describe.proofs.ground.Ends.{get_push}
+use Rattle.ak_describe.proofs.ground.Ends.{get_before, get_push}
 use Rattle.ak_describe.proofs.built.Fits.{AppFits, IsNoNext, LooperFits}
 use Rattle.ak_describe.proofs.chains.Following.{Follows, RowsFit, next_at, rank}
 use Rattle.ak_describe.proofs.chains.FollowingMore.{IsLast, IsOtherNeed, follows_next, follows_other, follows_same, same_place}
 use Rattle.ak_describe.proofs.built.NextLine.{Opened, app_place, app_place_then, apps_then, handler_open, last_rank, looper_place, looper_place_then, next_before, next_fits, next_here, next_read, next_there, pref_stays, row_place, row_place_then}
 use Rattle.ak_describe.proofs.ground.Outcomes.{same_ok, went}
-use Rattle.ak_describe.proofs.ground.Places.{all_there, push_there}
+use Rattle.ak_describe.proofs.ground.Places.{all_there}
 use Rattle.ak_describe.proofs.built.RowLines.{IsOther}
 
 -- ---- a handler that is named in a line of a looper
@@ -78,14 +78,9 @@ rows_fit apps f =
 pub name_kept : (names more : List Named) (a x : ℕ) (name : List ℕ) → ((k : ℕ) (n : Named) → slice_get names k ≡ Some n → slice_get more k ≡ Some n) → HasName names a x name → HasName more a x name
 name_kept names more a x name kept h = record { place = h.place; named = h.named; is = kept h.place h.named h.is; app = h.app; looper = h.looper; need = h.need }
 
-push_keeps : (names : List Named) (m : Named) (k : ℕ) (n : Named) → slice_get names k ≡ Some n → slice_get (names ++ m ∷ []) k ≡ Some n
-push_keeps names m k n is =
-    let lt : k < length names = slice_get_within names k n is in
-    push_there names m k (λ e. absurd (omega arith)) ∙ is
-
 need_keeps : (names : List Named) (apps : List AppData) (line : ℕ) (need : Option Need) (k : ℕ) (n : Named) → slice_get names k ≡ Some n → slice_get (with_need names apps line need) k ≡ Some n
 need_keeps names apps line None k n is = is
-need_keeps names apps line (Some need) k n is = push_keeps names (new_name apps line need) k n is
+need_keeps names apps line (Some need) k n is = get_before names (new_name apps line need) k n is
 
 -- ---- a line but that of a next handler
 other_need : (need : Need) → IsNoNext (Some need) → IsOtherNeed need
@@ -188,7 +183,7 @@ next_line_fits s line words x stands e f =
     record {
       apps = next_fits s.apps o t.name free.0 f.apps;
       nexts = follows_next s.apps left (new_name left line (needs.Next t.name)) t.name (is_last s.apps f.apps o free.0 free.1 t.name line) s.names 0 (omega arith) f.nexts;
-      preferred = λ a y name is. name_kept s.names (s.names ++ new_name left line (needs.Next t.name) ∷ []) a y name (push_keeps s.names (new_name left line (needs.Next t.name))) (f.preferred a y name (sym (pref_stays s.apps o t.name a y) ∙ is));
+      preferred = λ a y name is. name_kept s.names (s.names ++ new_name left line (needs.Next t.name) ∷ []) a y name (get_before s.names (new_name left line (needs.Next t.name))) (f.preferred a y name (sym (pref_stays s.apps o t.name a y) ∙ is));
     } in
     let same : (left, Some (needs.Next t.name)) ≡ x = λ k. (sym t.left_is k, sym t.need_is k) in
     subst (λ (z : List AppData × Option Need). StateFits (record { apps = z.0; after = after_of key.Next; names = with_need s.names z.0 line z.1 })) same fits

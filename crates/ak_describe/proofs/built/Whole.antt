@@ -4,7 +4,7 @@ use Rattle.std.specs.List.{list_all}
 use Rattle.std.proofs.lemmas.Bool.{and_from, cases_eq}
 use Rattle.std.proofs.lemmas.List.{length-map}
 use Rattle.std.proofs.lemmas.List.Elements.{All-weaker}
-use Rattle.std.proofs.lemmas.Option.{slice_get_within, slice_get-get_or}
+use Rattle.std.proofs.lemmas.Option.{same_Some, slice_get_within, slice_get-get_or}
 use Rattle.ak_base.specs.declared.ending.RefusalKind.{RefusalKind}
 use Rattle.ak_base.specs.declared.ending.RefusalKind.TheVariants as refusal
 use Rattle.ak_action.proofs.Surface.{Tests}
@@ -29,7 +29,6 @@ use Rattle.ak_describe.proofs.built.PartsKept.{HasName, first_is}
 use Rattle.ak_describe.proofs.chains.LedNames.{ends_at_once, kept_none}
 use Rattle.ak_describe.proofs.chains.LedPlaces.{LooperFirst, chained_first, leads_as, length_chained}
 use Rattle.ak_describe.proofs.built.LooperLines.{called_named, is_there}
-use Rattle.ak_describe.proofs.ground.Outcomes.{same_some}
 use Rattle.ak_describe.proofs.ground.Places.{all_there}
 
 -- ---- a plan is one by its tests
@@ -114,7 +113,7 @@ one_less rows m (Some q) at none = by_next q.next refl
     by_next (Some name) e = inl (record { place = m; row = q; name = name; is = at; next = e; behind = λ i r le is. none i r (omega arith) is })
     by_next None e = inr (λ i r le is.
         ⊎_elim
-        (λ (same : i ≡ m). let row : q ≡ r = same_some q r (sym at ∙ ap (slice_get rows) (sym same) ∙ is) in subst (λ (z : RowData). z.next ≡ None) row e)
+        (λ (same : i ≡ m). let row : q ≡ r = same_Some q r (sym at ∙ ap (slice_get rows) (sym same) ∙ is) in subst (λ (z : RowData). z.next ≡ None) row e)
         (λ (ne : i ≢ m). none i r (omega arith) is)
         (cases_eq i m))
 

@@ -1,9 +1,10 @@
 -- Chains of handlers as walks along their places: a handler without a next one leads to the looper, whose place is 0.
-use Rattle.std.proofs.Common.{◌≡◌, ◌≢◌, ◌∙◌, ℕ, zero, suc, ◌-◌, ◌<◌, true, false, eqb, List, length, None, Some, is_none, refl, sym, ap, arith, eq-eqb, ne_eqb}
+use Rattle.std.proofs.Common.{◌≡◌, ◌≢◌, ◌∙◌, ℕ, zero, suc, ◌-◌, ◌<◌, true, false, eqb, List, length, Some, is_none, refl, sym, ap, arith, eq-eqb, ne_eqb}
 use Rattle.std.proofs.lemmas.Bool.{and_from}
 use Rattle.ak_action.specs.declared.plan.PlanRow.{PlanRow}
 use Rattle.ak_action.specs.Plan.{chains_end, chains_end_below, next_place, place_after}
 use Rattle.ak_action.proofs.Surface.{one_does_not}
+use Rattle.ak_describe.proofs.chains.Chaining.{after_none}
 use Rattle.ak_describe.proofs.chains.Walks.{walk, Ends, ends_within, walk_zero}
 
 -- each place leads to that of the next handler
@@ -11,10 +12,6 @@ pub record LeadsAs (rows : List PlanRow) (f : ℕ → ℕ) : Type 0 where
   pub looper : f 0 ≡ 0
   pub within : (i : ℕ) → i < length rows → f i < length rows
   pub next : (i : ℕ) → i < length rows → i ≢ 0 → next_place rows i ≡ Some (f i)
-
-after_none : (rows : List PlanRow) (n : ℕ) → place_after rows n None ≡ None
-after_none rows zero = refl
-after_none rows (suc n) = after_none rows n
 
 module _ (rows : List PlanRow) (f : ℕ → ℕ) (leads : LeadsAs rows f) where
   after_walk : (n i : ℕ) → i < length rows → is_none (place_after rows (suc n) (Some i)) ≡ eqb (walk f n i) 0

@@ -19,7 +19,7 @@ module _ (rows : List PlanRow) where
     pub is : place_after rows steps at ≡ None
 
   -- ---- more steps
-  after_none : (n : ℕ) → place_after rows n None ≡ None
+  pub after_none : (n : ℕ) → place_after rows n None ≡ None
   after_none zero = refl
   after_none (suc n) = after_none n
 

@@ -14,6 +14,7 @@ use Rattle.ak_describe.specs.Parts.{RowData, LooperData, AppData, row_named}
 use Rattle.ak_describe.specs.Pass.{Refusal, loopers_in, rows_in}
 use Rattle.ak_describe.specs.Second.{chained_to, fault_in_app, fault_in_looper, fault_of, named_fault, next_fault, or_next, second_fault}
 use Rattle.ak_describe.proofs.chains.Following.{Follows, NextFollows, NextHere, RowsFit, next_at, next_in, rank, rank_behind, rank_of, rows_at}
+use Rattle.ak_describe.proofs.chains.FollowingMore.{IsOtherNeed}
 use Rattle.ak_describe.proofs.chains.LedPlaces.{Closing, Kept, closes, ends_then, kept_then, led_room, place_of}
 use Rattle.ak_describe.proofs.chains.Walks.{Ends}
 
@@ -139,13 +140,6 @@ module _ (apps : List AppData) (c : Chains) (from : ℕ) (n : Named) (name : Lis
   entered_at = entered_by (eqb c.app n.app && eqb c.looper n.looper) refl
 
 -- ---- a line with a next handler
-abbrev IsOther : Need → Type 0
-IsOther (needs.Next name) = ⊥
-IsOther (needs.Handler name) = Unit {0}
-IsOther (needs.Looper name) = Unit {0}
-IsOther (needs.AskLooper name) = Unit {0}
-IsOther (needs.AskApp word) = Unit {0}
-
 -- both look at the looper that is there
 record SeenThere (apps : List AppData) (c : Chains) (n : Named) (name : List ℕ) (o : Option AppData) (rows : List RowData) : Type 0 where
   kind : kind_in_app apps c n o ≡ closed c n (row_named rows name)
@@ -236,22 +230,22 @@ module _ (apps : List AppData) (fits : RowsFit apps) (c : Chains) (from : ℕ) (
       }
 
 -- ---- another line
-same_need : (apps : List AppData) (a : AppData) (l : LooperData) (c : Chains) (n : Named) (need : Need) → IsOther need → (kind_of_need apps a l c n need ≡ fault_of apps a l n need) × (chains_of_need l c n need ≡ c)
+same_need : (apps : List AppData) (a : AppData) (l : LooperData) (c : Chains) (n : Named) (need : Need) → IsOtherNeed need → (kind_of_need apps a l c n need ≡ fault_of apps a l n need) × (chains_of_need l c n need ≡ c)
 same_need apps a l c n (needs.Next name) h = absurd h
 same_need apps a l c n (needs.Handler name) h = (refl, refl)
 same_need apps a l c n (needs.Looper name) h = (refl, refl)
 same_need apps a l c n (needs.AskLooper name) h = (refl, refl)
 same_need apps a l c n (needs.AskApp word) h = (refl, refl)
 
-same_in_looper : (apps : List AppData) (a : AppData) (c : Chains) (n : Named) (p : Option LooperData) → IsOther n.need → (kind_in_looper apps a c n p ≡ fault_in_looper apps a n p) × (chains_in_looper c n p ≡ c)
+same_in_looper : (apps : List AppData) (a : AppData) (c : Chains) (n : Named) (p : Option LooperData) → IsOtherNeed n.need → (kind_in_looper apps a c n p ≡ fault_in_looper apps a n p) × (chains_in_looper c n p ≡ c)
 same_in_looper apps a c n None h = (refl, refl)
 same_in_looper apps a c n (Some l) h = same_need apps a l c n n.need h
 
-same_in_app : (apps : List AppData) (c : Chains) (n : Named) (o : Option AppData) → IsOther n.need → (kind_in_app apps c n o ≡ fault_in_app apps n o) × (chains_in_app c n o ≡ c)
+same_in_app : (apps : List AppData) (c : Chains) (n : Named) (o : Option AppData) → IsOtherNeed n.need → (kind_in_app apps c n o ≡ fault_in_app apps n o) × (chains_in_app c n o ≡ c)
 same_in_app apps c n None h = (refl, refl)
 same_in_app apps c n (Some a) h = same_in_looper apps a c n (slice_get a.loopers n.looper) h
 
-other_line : (apps : List AppData) (c : Chains) (from : ℕ) (n : Named) (need : Need) → rank_behind from n need ≡ from → IsOther n.need → Keeps apps c from → Steps apps c from n need
+other_line : (apps : List AppData) (c : Chains) (from : ℕ) (n : Named) (need : Need) → rank_behind from n need ≡ from → IsOtherNeed n.need → Keeps apps c from → Steps apps c from n need
 other_line apps c from n need at h keeps =
     let s = same_in_app apps c n (slice_get apps n.app) h in
     record {
@@ -261,10 +255,10 @@ other_line apps c from n need at h keeps =
 
 step : (apps : List AppData) → RowsFit apps → (c : Chains) (from : ℕ) (n : Named) (need : Need) → n.need ≡ need → Keeps apps c from → NextFollows apps from n need → Steps apps c from n need
 step apps fits c from n (needs.Next name) e keeps here = next_line apps fits c from n name keeps here e
-step apps fits c from n (needs.Handler name) e keeps here = other_line apps c from n (needs.Handler name) refl (subst IsOther (sym e) tt) keeps
-step apps fits c from n (needs.Looper name) e keeps here = other_line apps c from n (needs.Looper name) refl (subst IsOther (sym e) tt) keeps
-step apps fits c from n (needs.AskLooper name) e keeps here = other_line apps c from n (needs.AskLooper name) refl (subst IsOther (sym e) tt) keeps
-step apps fits c from n (needs.AskApp word) e keeps here = other_line apps c from n (needs.AskApp word) refl (subst IsOther (sym e) tt) keeps
+step apps fits c from n (needs.Handler name) e keeps here = other_line apps c from n (needs.Handler name) refl (subst IsOtherNeed (sym e) tt) keeps
+step apps fits c from n (needs.Looper name) e keeps here = other_line apps c from n (needs.Looper name) refl (subst IsOtherNeed (sym e) tt) keeps
+step apps fits c from n (needs.AskLooper name) e keeps here = other_line apps c from n (needs.AskLooper name) refl (subst IsOtherNeed (sym e) tt) keeps
+step apps fits c from n (needs.AskApp word) e keeps here = other_line apps c from n (needs.AskApp word) refl (subst IsOtherNeed (sym e) tt) keeps
 
 -- ---- all names
 or_next_same : (kind : Option RefusalKind) (line : ℕ) (x y : Option Refusal) → (kind ≡ None → x ≡ y) → or_next kind line x ≡ or_next kind line y

@@ -5,7 +5,7 @@ use Rattle.std.specs.Str.{bytes_eq}
 use Rattle.std.proofs.lemmas.Bool.{cases_eq, cases_lt}
 use Rattle.std.proofs.lemmas.List.{length-set}
 use Rattle.std.proofs.lemmas.List.Quantifiers.{position-Some}
-use Rattle.std.proofs.lemmas.Option.{slice_get_within, unwrap_or-slice_get}
+use Rattle.std.proofs.lemmas.Option.{same_Some, slice_get_within, unwrap_or-slice_get}
 use Rattle.ak_base.specs.declared.ending.RefusalKind.TheVariants as refusal
 use Rattle.ak_action.specs.declared.plan.PlanRow.{PlanRow}
 use Rattle.ak_action.specs.Plan.{chains_end, next_place, place_named, place_or_looper}
@@ -15,6 +15,7 @@ use Rattle.ak_describe.specs.Led.{comes_back, led, meets, next_of}
 use Rattle.ak_describe.specs.Parts.{RowData, opened, row_named}
 use Rattle.ak_describe.specs.Second.{chained_to, without_next}
 use Rattle.ak_describe.proofs.chains.ChainWalks.{LeadsAs, all_chains_end, one_goes_on}
+use Rattle.ak_describe.proofs.ground.Places.{item_there}
 use Rattle.ak_describe.proofs.chains.Walks.{walk, Ends, ends_from, ends_from_row, ends_within, never_ends}
 
 -- ---- the handlers of which the first so many have their next ones
@@ -39,7 +40,7 @@ chained_row m i r = cond (is_within m i) (plan_row r) (without_next (plan_row r)
 abbrev pub chained_first : ℕ → List RowData → List PlanRow
 chained_first m rows = plan_rows (take m rows) ++ map without_next (plan_rows (drop m rows))
 
-get_bare : (rows : List RowData) (i : ℕ) → slice_get (map without_next (plan_rows rows)) i ≡ option_map (λ (r : RowData). without_next (plan_row r)) (slice_get rows i)
+pub get_bare : (rows : List RowData) (i : ℕ) → slice_get (map without_next (plan_rows rows)) i ≡ option_map (λ (r : RowData). without_next (plan_row r)) (slice_get rows i)
 get_bare [] i = refl
 get_bare (r ∷ rows) zero = refl
 get_bare (r ∷ rows) (suc i) = get_bare rows i
@@ -97,20 +98,12 @@ pub record Kept (rows : List RowData) (m : ℕ) (f : ℕ → ℕ) : Type 0 where
 abbrev pub LooperFirst : List RowData → Type 0
 LooperFirst rows = (r : RowData) → slice_get rows 0 ≡ Some r → r.next ≡ None
 
-row_at : (rows : List RowData) (i : ℕ) → i < length rows → (r : RowData) × (slice_get rows i ≡ Some r)
-row_at [] i lt = absurd (omega arith)
-row_at (r ∷ rows) zero lt = (r, refl)
-row_at (r ∷ rows) (suc i) lt = row_at rows i (omega arith)
-
-same_some : {A : Type 0} (x y : A) → Some x ≡ Some y → x ≡ y
-same_some x y e = cc
-
-place_of-chained : (m : ℕ) (rows : List RowData) (next : Option (List ℕ)) → place_or_looper (chained_first m rows) next ≡ place_of rows next
+pub place_of-chained : (m : ℕ) (rows : List RowData) (next : Option (List ℕ)) → place_or_looper (chained_first m rows) next ≡ place_of rows next
 place_of-chained m rows None = refl
 place_of-chained m rows (Some name) = named_chained m rows name
 
 place_within : (rows : List RowData) (next : Option (List ℕ)) (place : ℕ) → 0 < length rows → place_of rows next ≡ Some place → place < length rows
-place_within rows None place some e = let z : 0 ≡ place = same_some 0 place e in omega arith
+place_within rows None place some e = let z : 0 ≡ place = same_Some 0 place e in omega arith
 place_within rows (Some name) place some e = (position-Some (is_called name) rows place (opened []) e).0
 
 module _ (m : ℕ) (rows : List RowData) (f : ℕ → ℕ) (first : LooperFirst rows) (kept : Kept rows m f) where
@@ -120,8 +113,8 @@ module _ (m : ℕ) (rows : List RowData) (f : ℕ → ℕ) (first : LooperFirst 
       (λ (lt : 0 < length rows).
       ⊎_elim
       (λ (led : 0 < m).
-      let r = row_at rows 0 lt in
-      same_some (f 0) 0 (sym (kept.places 0 r.0 r.1 led) ∙ ap (place_of rows) (first r.0 r.1)))
+      let r = item_there rows 0 lt in
+      same_Some (f 0) 0 (sym (kept.places 0 r.0 r.1 led) ∙ ap (place_of rows) (first r.0 r.1)))
       (λ (le : m ≤ 0). kept.rest 0 le)
       (cases_lt 0 m))
       (λ (le : length rows ≤ 0). kept.past 0 le)
@@ -130,13 +123,13 @@ module _ (m : ℕ) (rows : List RowData) (f : ℕ → ℕ) (first : LooperFirst 
   stays_within : (i : ℕ) → i < length rows → f i < length rows
   stays_within i lt =
       ⊎_elim
-      (λ (led : i < m). let r = row_at rows i lt in place_within rows r.0.next (f i) (omega arith) (kept.places i r.0 r.1 led))
+      (λ (led : i < m). let r = item_there rows i lt in place_within rows r.0.next (f i) (omega arith) (kept.places i r.0 r.1 led))
       (λ (le : m ≤ i). let z : f i ≡ 0 = kept.rest i le in omega arith)
       (cases_lt i m)
 
   next_by : (i : ℕ) (o : Option RowData) → slice_get rows i ≡ o → i < length rows → (b : Bool) → is_within m i ≡ b
       → option_and_then (λ (row : PlanRow). place_or_looper (chained_first m rows) row.next) (option_map (chained_row m i) o) ≡ Some (f i)
-  next_by i None is lt b at = let r = row_at rows i lt in absurd (cc (is, r.1))
+  next_by i None is lt b at = let r = item_there rows i lt in absurd (cc (is, r.1))
   next_by i (Some r) is lt true at =
       ap (λ t. place_or_looper (chained_first m rows) (cond t (plan_row r) (without_next (plan_row r))).next) at
       ∙ place_of-chained m rows r.next ∙ kept.places i r is (is_below m i at)
@@ -182,7 +175,7 @@ kept_more rows c row next r room is to kept =
       places = λ i q at below.
           ⊎_elim
           (λ (same : i ≡ row).
-          let q_is : q ≡ r = same_some q r (sym at ∙ ap (slice_get rows) same ∙ is) in
+          let q_is : q ≡ r = same_Some q r (sym at ∙ ap (slice_get rows) same ∙ is) in
           ap (λ (x : RowData). place_of rows x.next) q_is ∙ to ∙ ap (λ (n : ℕ). Some n) (sym (ap (next_of (led c row next)) same ∙ led_here c row next room)))
           (λ (ne : i ≢ row).
           kept.places i q at (omega arith) ∙ ap (λ (n : ℕ). Some n) (sym (led_other c row next room i ne)))

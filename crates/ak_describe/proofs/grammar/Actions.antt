@@ -27,16 +27,13 @@ use Rattle.ak_describe.specs.Parts.{property_named}
 use Rattle.ak_describe.specs.Pass.{bare, added_form}
 use Rattle.ak_describe.specs.Says.{replied, SaysReply, SaysBare}
 use Rattle.ak_describe.specs.Words.{code_of, behind_first, last_of, name_of}
+use Rattle.ak_describe.proofs.Lasts.{last_of-push}
 use Rattle.ak_describe.proofs.grammar.Dests.{dest_is_read}
 use Rattle.ak_describe.proofs.grammar.Fields.{property_again, property_takes, set_given_is_read}
 use Rattle.ak_describe.proofs.grammar.Messages.{message_is_read, not_in_message}
 use Rattle.ak_describe.proofs.grammar.Values.{number_is_read}
 
 -- ---- the last word
-last_again : (words : List (List ℕ)) (w : List ℕ) → last_of (words ++ w ∷ []) ≡ Some (w, words)
-last_again [] w = refl
-last_again (v ∷ words) w = ap (behind_first v) (last_again words w)
-
 last_takes : (words : List (List ℕ)) (last : List ℕ × List (List ℕ)) → last_of words ≡ Some last → words ≡ last.1 ++ last.0 ∷ []
 last_takes [] last e = absurd cc
 last_takes (v ∷ words) last e = by_last (last_of words) refl e (last_takes words) (no_words words) where
@@ -67,7 +64,7 @@ with_back back words = (back, words)
 back_again : (properties : List PropertyParts) (message part : List (List ℕ)) (t : Limited Template) (back : Bool) → template_form properties message ≡ Some t → IsBack back part
     → back_behind (message ++ part) ≡ with_back back message
 back_again properties message part t true read is =
-    ap (λ (p : List (List ℕ)). back_behind (message ++ p)) is ∙ ap (back_at (message ++ codes "back" ∷ [])) (last_again message (codes "back"))
+    ap (λ (p : List (List ℕ)). back_behind (message ++ p)) is ∙ ap (back_at (message ++ codes "back" ∷ [])) (last_of-push message (codes "back"))
 back_again properties message part t false read is =
     ap (λ (p : List (List ℕ)). back_behind (message ++ p)) is ∙ ap back_behind (append-nil message) ∙ by_last (last_of message) refl where
       by_word : (last : List ℕ × List (List ℕ)) → last_of message ≡ Some last → (same : Bool) → bytes_eq last.0 (codes "back") ≡ same → cond same (with_back true last.1) (with_back false message) ≡ with_back false message
@@ -158,8 +155,8 @@ end-is words = refl
 end_again : (words : List (List ℕ)) (name : List ℕ) → into_at_end (words ++ codes "into" ∷ name ∷ []) ≡ Some (name, words)
 end_again words name =
     let all : words ++ codes "into" ∷ name ∷ [] ≡ (words ++ codes "into" ∷ []) ++ name ∷ [] = sym (append_assoc words (codes "into" ∷ []) (name ∷ [])) in
-    ap into_at_end all ∙ end-is ((words ++ codes "into" ∷ []) ++ name ∷ []) ∙ ap end_read (last_again (words ++ codes "into" ∷ []) name)
-    ∙ ap (λ (o : Option (List ℕ × List (List ℕ))). o >>= λ key. where_true (bytes_eq key.0 (codes "into")) (name, key.1)) (last_again words (codes "into"))
+    ap into_at_end all ∙ end-is ((words ++ codes "into" ∷ []) ++ name ∷ []) ∙ ap end_read (last_of-push (words ++ codes "into" ∷ []) name)
+    ∙ ap (λ (o : Option (List ℕ × List (List ℕ))). o >>= λ key. where_true (bytes_eq key.0 (codes "into")) (name, key.1)) (last_of-push words (codes "into"))
 
 end_takes : (words : List (List ℕ)) (last : List ℕ × List (List ℕ)) → into_at_end words ≡ Some last → words ≡ last.1 ++ codes "into" ∷ last.0 ∷ []
 end_takes words last e =

@@ -24,7 +24,7 @@ use Rattle.ak_describe.specs.Grammar.{FieldText, NamesDiffer, onto_field, all_fi
 use Rattle.ak_describe.specs.Made.{limited_then}
 use Rattle.ak_describe.proofs.ground.Outcomes.{same_within}
 use Rattle.ak_describe.proofs.ground.Seeing.{any-map}
-use Rattle.ak_describe.proofs.grammar.Fields.{added_all}
+use Rattle.ak_describe.proofs.grammar.Fields.{added_all, field_made}
 
 abbrev pub field_names : List FieldText → List (List ℕ)
 field_names fs = map (λ (f : FieldText). f.name) fs
@@ -44,9 +44,6 @@ AreNamed (f ∷ fs) = (is_word f.name ≡ true) × AreNamed fs
 -- ---- all fields and one more
 abbrev template_field : List ℕ → Given → TemplateField
 template_field name g = record { name = name; given = g }
-
-abbrev field_made : List ℕ → Limited Given → FieldText
-field_made name g = record { name = name; content = g }
 
 abbrev with_last : Limited (List TemplateField) → List ℕ → Limited Given → Limited (List TemplateField)
 with_last Over name g = Over
@@ -107,7 +104,7 @@ named_again : (b : Built) (name : List ℕ) (content : Limited Given) (fields : 
     → named_too b name content ≡ Some (record { names = b.names ++ name ∷ []; fields = fields })
 named_again b name content fields word e = rw (word, e) refl
 
-abbrev some_built : List (List ℕ) → Limited (List TemplateField) → Option Built
+abbrev pub some_built : List (List ℕ) → Limited (List TemplateField) → Option Built
 some_built names fields = Some (record { names = names; fields = fields })
 
 -- where there is room

@@ -17,6 +17,7 @@ use Rattle.ak_message.proofs.Surface.{code_again, code_takes}
 use Rattle.ak_base.proofs.Surface.{bind_some, cond_some}
 use Rattle.ak_describe.specs.Grammar.{WritesCode}
 use Rattle.ak_describe.specs.Words.{coded, code_of}
+use Rattle.ak_describe.proofs.grammar.Numbers.{mapped_some}
 
 -- ---- a code is written in bytes
 abbrev AreBytes : List ℕ → Type 0
@@ -65,14 +66,10 @@ quoted_bytes (v ∷ a ∷ b ∷ c ∷ d ∷ w ∷ []) n size e =
           (All-cons (λ x. x < 256) w [] hw (All-nil (λ x. x < 256)))))))
 quoted_bytes text n size e = absurd (omega arith)
 
-mapped : {A B : Type 0} (f : A → B) (o : Option A) (y : B) → option_map f o ≡ Some y → (x : A) × (o ≡ Some x) × (f x ≡ y)
-mapped f (Some x) y e = (x, refl, cc)
-mapped f None y e = absurd cc
-
 digits_bytes : (text : List ℕ) (n : ℕ) → starts_with ◌==◌ text (codes "0x") ≡ true → option_map (from_be_bytes w32) (raw_from None (drop 2 text)) ≡ Some n → AreBytes text
 digits_bytes text n begins e =
     let front = (starts_is Decides-eqb text (codes "0x") (starts_with ◌==◌ text (codes "0x")) refl).0 begins in
-    let m = mapped (from_be_bytes w32) (raw_from None (drop 2 text)) n e in
+    let m = mapped_some (from_be_bytes w32) (raw_from None (drop 2 text)) n e in
     let whole : AreBytes (codes "0x" ++ drop 2 text) =
     All-cons (λ b. b < 256) 48 (120 ∷ drop 2 text) (omega arith) (All-cons (λ b. b < 256) 120 (drop 2 text) (omega arith) (hex_bytes (drop 2 text) None m.0 m.1)) in
     subst AreBytes (sym front) whole
@@ -95,13 +92,12 @@ byte_at text all i = by_place (cases_lt i (length text)) where
   by_place (inr past) = rw (get_or_past text i 0 past) (omega arith)
 
 -- ---- the law
-
-code_again_is : (word : List ℕ) (code : Code) → WritesCode word code → code_of word ≡ Some code
+pub code_again_is : (word : List ℕ) (code : Code) → WritesCode word code → code_of word ≡ Some code
 code_again_is word code h = ap (option_map coded) (code_again word code.0 h)
 
-code_takes_is : (word : List ℕ) (code : Code) → code_of word ≡ Some code → WritesCode word code
+pub code_takes_is : (word : List ℕ) (code : Code) → code_of word ≡ Some code → WritesCode word code
 code_takes_is word code e =
-    let m = mapped coded (code_from word) code e in
+    let m = mapped_some coded (code_from word) code e in
     let text = code_takes word m.0 (byte_at word (code_bytes word m.0 m.1)) m.1 in
     subst (λ (c : Code). WritesCode word c) m.2 text
 

@@ -188,7 +188,7 @@ set_given_is_read properties text g = (
 )
 
 -- ---- the word of a field
-abbrev field_made : List ℕ → Limited Given → FieldText
+abbrev pub field_made : List ℕ → Limited Given → FieldText
 field_made name g = record { name = name; content = g }
 
 abbrev pub field_text : List PropertyParts → List ℕ → Option FieldText

@@ -17,9 +17,10 @@ use Rattle.ak_describe.specs.Grammar.{WritesNumber, mode_word, SaysApp, IsCapaci
 use Rattle.ak_base.specs.AppName.{is_path, is_signature}
 use Rattle.ak_describe.specs.Words.{mode_of, name_of, code_of, behind, name_at, code_at, only_name, only_code}
 use Rattle.ak_describe.proofs.grammar.Choices.{chosen}
+use Rattle.ak_describe.proofs.grammar.Codes.{code_again_is, code_takes_is}
 use Rattle.ak_describe.proofs.grammar.Numbers.{number_takes, number_again}
 use Rattle.ak_describe.proofs.grammar.Parts.{behind_takes, word_at, name_at-takes, name_at-again, only_takes, only_again}
-use Rattle.ak_describe.proofs.grammar.Words.{name_takes, name_again, code_takes, code_again_of}
+use Rattle.ak_describe.proofs.grammar.Words.{name_takes, name_again}
 
 -- ---- `PATH SIGNATURE MODE`
 abbrev modes : List Mode
@@ -141,11 +142,11 @@ code_alone_takes : (words : List (List ℕ)) (code : Code) → only_code words �
 unfolding only_code code_at
 code_alone_takes words code e =
     let w = only_takes code_of words code e in
-    (w.0, w.1, code_takes w.0 code w.2)
+    (w.0, w.1, code_takes_is w.0 code w.2)
 
 code_alone_again : (words : List (List ℕ)) (code : Code) → SaysCode words code → only_code words ≡ Some code
 unfolding only_code code_at
-code_alone_again words code is = ap only_code is.1 ∙ only_again code_of is.0 code (code_again_of is.0 code is.2)
+code_alone_again words code is = ap only_code is.1 ∙ only_again code_of is.0 code (code_again_is is.0 code is.2)
 
 pub code_is_read : (words : List (List ℕ)) (code : Code) → SaysCode words code ↔ (only_code words ≡ Some code)
 code_is_read words code = (λ is. code_alone_again words code is, λ e. code_alone_takes words code e)

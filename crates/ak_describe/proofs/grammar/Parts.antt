@@ -11,20 +11,18 @@ use Rattle.ak_base.specs.declared.limited.Limited.TheVariants.{Within}
 use Rattle.ak_base.specs.Word.{is_word}
 use Rattle.ak_base.specs.declared.code.Code.{Code}
 use Rattle.ak_base.specs.Option.{where_true, ◌>>=◌}
-use Rattle.ak_base.proofs.Surface.{bind_some, cond_some, some_is}
+use Rattle.ak_base.proofs.Surface.{bind_some, cond_some, done, some_is}
 use Rattle.ak_describe.specs.Forms.{code_found, code_behind, name_found, name_behind, form_of, text_found, text_behind}
 use Rattle.ak_describe.specs.Grammar.{IsName, IsPart, AreParts, IsTextPart, WritesCode, WritesNumber, WritesText}
 use Rattle.ak_describe.specs.Made.{quoted_from}
 use Rattle.ak_describe.specs.Words.{first_of, behind, ends, code_at, code_of, name_at, name_of, many_from, many, filled, some_behind}
+use Rattle.ak_describe.proofs.grammar.Codes.{code_again_is, code_takes_is}
 use Rattle.ak_describe.proofs.grammar.Numbers.{number_takes, number_again}
-use Rattle.ak_describe.proofs.grammar.Words.{same_bytes, name_takes, name_again, code_takes, code_again_of, text_takes, text_again}
+use Rattle.ak_describe.proofs.grammar.Words.{same_bytes, name_takes, name_again, text_takes, text_again}
 
 -- what is read, and the words behind it
 abbrev pub read_as : {A : Type 0} → A → List (List ℕ) → Option (A × List (List ℕ))
 read_as x rest = Some (x, rest)
-
-abbrev done : {A : Type 0} → A → Option A
-done x = Some x
 
 pub read_is : {A : Type 0} (x y : A) (rest others : List (List ℕ)) → read_as x rest ≡ read_as y others → (x ≡ y) × (rest ≡ others)
 read_is {A} x y rest others e = (
@@ -153,10 +151,10 @@ name_found-is words None = refl
 name_found-is words (Some rest) = refl
 
 pub code_part_takes : (key : List ℕ) (words : List (List ℕ)) (x : Option Code) (rest : List (List ℕ)) → code_behind words key ≡ read_as x rest → (part : List (List ℕ)) × (words ≡ part ++ rest) × IsPart key WritesCode x part
-code_part_takes key words x rest e = part_takes code_of WritesCode key words x rest code_takes (sym (code_found-is words (behind words key)) ∙ e)
+code_part_takes key words x rest e = part_takes code_of WritesCode key words x rest code_takes_is (sym (code_found-is words (behind words key)) ∙ e)
 
 pub code_part_again : (key : List ℕ) (part : List (List ℕ)) (x : Option Code) (rest : List (List ℕ)) → NotFirst key rest → IsPart key WritesCode x part → code_behind (part ++ rest) key ≡ read_as x rest
-code_part_again key part x rest none is = code_found-is (part ++ rest) (behind (part ++ rest) key) ∙ part_again code_of WritesCode key part x rest code_again_of none is
+code_part_again key part x rest none is = code_found-is (part ++ rest) (behind (part ++ rest) key) ∙ part_again code_of WritesCode key part x rest code_again_is none is
 
 pub name_part_takes : (key : List ℕ) (words : List (List ℕ)) (x : Option (List ℕ)) (rest : List (List ℕ)) → name_behind words key ≡ read_as x rest → (part : List (List ℕ)) × (words ≡ part ++ rest) × IsPart key IsName x part
 name_part_takes key words x rest e = part_takes name_of IsName key words x rest name_takes (sym (name_found-is words (behind words key)) ∙ e)

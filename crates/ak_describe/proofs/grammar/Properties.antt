@@ -22,9 +22,9 @@ use Rattle.ak_describe.specs.Grammar.{WritesCode, WritesNumber, AreParts, IsText
 use Rattle.ak_describe.specs.Made.{value_of_kind}
 use Rattle.ak_describe.specs.Words.{kind_of, name_at, name_of, code_of, ends}
 use Rattle.ak_describe.proofs.grammar.Choices.{chosen}
+use Rattle.ak_describe.proofs.grammar.Codes.{code_again_is, code_takes_is}
 use Rattle.ak_describe.proofs.grammar.Numbers.{number_none, no_number}
 use Rattle.ak_describe.proofs.grammar.Parts.{read_as, ends_nil, all_of, NotFirst, IsStop, IsBehind, name_at-takes, name_at-again, word_at, word_at-takes, word_at-again, parts_take, parts_again, parts_begin, form_takes, form_again, text_part_takes, text_part_again, text_begins_all}
-use Rattle.ak_describe.proofs.grammar.Words.{code_takes, code_again_of}
 
 -- ---- the letters of a kind that is not the one of messages
 abbrev property_kinds : List Kind
@@ -119,7 +119,7 @@ property_takes words p e =
     let t = cond_some (ends usage.0.1) (property_with name.0.0 kind.0.0 commands.0.0 forms.0.0 usage.0.0) p usage.2 in
     subst (λ (q : PropertyForm). SaysProperty words q) {x = property_with name.0.0 kind.0.0 commands.0.0 forms.0.0 usage.0.0} {y = p} t.1
     (property_of words name.0.1 kind.0.1 commands.0.1 forms.0.1 usage.0.1 name.0.0 kind.0.0 commands.0.0 forms.0.0 usage.0.0 (name_at-takes words name.0.0 name.0.1 name.1) (letters_at name.0.1 kind.0.0 kind.0.1 kind.1)
-    (parts_take code_of WritesCode (codes "commands") kind.0.1 commands.0.0 commands.0.1 code_takes commands.1) (parts_take form_of (WritesNumber 1 7) (codes "forms") commands.0.1 forms.0.0 forms.0.1 form_takes forms.1)
+    (parts_take code_of WritesCode (codes "commands") kind.0.1 commands.0.0 commands.0.1 code_takes_is commands.1) (parts_take form_of (WritesNumber 1 7) (codes "forms") commands.0.1 forms.0.0 forms.0.1 form_takes forms.1)
     (text_part_takes (codes "usage") forms.0.1 usage.0.0 usage.0.1 usage.1) (ends_nil usage.0.1 t.0))
 
 property_again : (words : List (List ℕ)) (p : PropertyForm) → SaysProperty words p → property_form words ≡ Some p
@@ -135,7 +135,7 @@ property_again words p is =
     let no_form = text_begins_all (codes "usage") p.usage is.usage_part (λ ws. IsStop form_of ws) is.usage_is tt (λ more. no_form_usage) in
     let name = name_at-again p.name (kind_letters p.kind ∷ (is.command_part ++ (is.form_part ++ is.usage_part))) is.name_is in
     let kind = word_at-again kind_of (kind_letters p.kind) (is.command_part ++ (is.form_part ++ is.usage_part)) p.kind (letters_again p.kind is.kind_is) in
-    let commands = parts_again code_of WritesCode (codes "commands") is.command_part p.commands (is.form_part ++ is.usage_part) code_again_of no_commands no_code is.commands_are in
+    let commands = parts_again code_of WritesCode (codes "commands") is.command_part p.commands (is.form_part ++ is.usage_part) code_again_is no_commands no_code is.commands_are in
     let forms = parts_again form_of (WritesNumber 1 7) (codes "forms") is.form_part p.forms is.usage_part form_again no_forms no_form is.forms_are in
     let usage = subst (λ (ws : List (List ℕ)). text_behind ws (codes "usage") ≡ read_as p.usage []) (append-nil is.usage_part) (text_part_again (codes "usage") is.usage_part p.usage [] refl is.usage_is) in
     ap property_form is.all

@@ -22,6 +22,10 @@ module _ {A : Type 0} where
   last_within [] x e = cc
   last_within (y ∷ xs) x e = omega arith
 
+  pub some_there : (xs : List A) → xs ≢ [] → 1 ≤ length xs
+  some_there [] other = absurd (other refl)
+  some_there (x ∷ xs) other = omega arith
+
   pub last_there : (xs : List A) → 1 ≤ length xs → (x : A) × (last_item xs ≡ Some x)
   last_there [] lt = absurd (omega arith)
   last_there (x ∷ xs) lt =

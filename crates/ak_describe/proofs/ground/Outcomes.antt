@@ -9,9 +9,6 @@ use Rattle.ak_describe.specs.Made.{limited_then}
 use Rattle.ak_describe.specs.Pass.{judged, last_item, with_item, on_item, on_last, or_bad, or_limit, then_read}
 
 -- ---- of options
-pub same_some : {A : Type 0} (x y : A) → Some x ≡ Some y → x ≡ y
-same_some x y e = cc
-
 pub record Bound {A B : Type 0} (o : Option A) (f : A → Option B) (y : B) : Type 0 where
   pub value : A
   pub is : o ≡ Some value

@@ -1,5 +1,5 @@
 -- What stands at a place of a list of which the last one is another, or that is one longer.
-use Rattle.std.proofs.Common.{◌≡◌, ◌≢◌, ◌∙◌, ℕ, zero, suc, List, [], ◌∷◌, ◌++◌, length, set, Option, None, Some, slice_get, All, refl, sym, ap, subst, ⊎_elim}
+use Rattle.std.proofs.Common.{◌≡◌, ◌≢◌, ◌∙◌, ℕ, zero, suc, ◌<◌, List, [], ◌∷◌, ◌++◌, length, set, Option, None, Some, slice_get, All, refl, sym, ap, subst, ⊎_elim, arith}
 use Rattle.std.proofs.lemmas.Bool.{cases_eq}
 use Rattle.std.proofs.lemmas.List.Elements.{All-get_or}
 use Rattle.std.proofs.lemmas.Option.{get_or_from_slice_get, slice_get_within}
@@ -7,6 +7,11 @@ use Rattle.ak_describe.proofs.ground.Ends.{get_push, get_set_other}
 
 module _ {X : Type 0} where
   -- ---- what stands at a place
+  pub item_there : (xs : List X) (i : ℕ) → i < length xs → (x : X) × (slice_get xs i ≡ Some x)
+  item_there [] i lt = absurd (omega arith)
+  item_there (x ∷ xs) zero lt = (x, refl)
+  item_there (x ∷ xs) (suc i) lt = item_there xs i (omega arith)
+
   pub set_here : (xs : List X) (i : ℕ) (x y : X) → slice_get xs i ≡ Some x → slice_get (set xs i y) i ≡ Some y
   set_here [] i x y at = absurd cc
   set_here (z ∷ xs) zero x y at = refl

@@ -39,7 +39,7 @@ use Rattle.ak_describe.specs.Says.{Form, says_app, says_looper, says_hook, says_
 use Rattle.ak_describe.specs.Words.{first_of, ends, only_name, only_code, coded}
 use Rattle.ak_describe.proofs.grammar.Properties.{value_is_read}
 use Rattle.ak_describe.proofs.grammar.Values.{IfWithin, Holds, IsFine, read_fine}
-use Rattle.ak_describe.proofs.ground.Ends.{last_there, changed_is}
+use Rattle.ak_describe.proofs.ground.Ends.{some_there, last_there, changed_is}
 use Rattle.ak_describe.proofs.ground.Outcomes.{where_is}
 use Rattle.ak_describe.proofs.lines.Judging.{Judged, is_twice, is_over, is_done, over, placed, judged_over, judged_is, never, decides_room, last_over, then_over, put_looper, put_row, app_carried, judged_looper, app_row_carried, judged_row}
 use Rattle.ak_describe.proofs.ground.Searching.{any_decides, find_decides, position_decides}
@@ -91,10 +91,6 @@ module _ (s : State) (a : AppData) (is_app : last_item s.apps ≡ Some a) where
       let put : Result (List AppData × Option Need) RefusalKind = over (slice_set s.apps (length s.apps - 1)) (looper_line a words) in
       carried_at s (form_read s key.Looper words) (looper_in s.apps words) put (last_over (λ (b : AppData). looper_line b words) s.apps a is_app)
       (subst (λ (n : ℕ). CarriedBy s (option_map says_looper (looper_form n words)) put) (sym least) (looper_by (looper_form (least_capacity a) words)))
-
-nonempty : {X : Type 0} (xs : List X) → xs ≢ [] → 1 ≤ length xs
-nonempty [] other = absurd (other refl)
-nonempty (x ∷ xs) other = omega arith
 
 -- ---- in a looper
 module _ (s : State) (a : AppData) (l : LooperData) (is_app : last_item s.apps ≡ Some a) (is_looper : last_item a.loopers ≡ Some l) where
@@ -396,7 +392,7 @@ action_carried s keyword words read h is same inside line =
 
 pub carry_is : (s : State) (keyword : Keyword) (words : List (List ℕ)) → StateFits s → MayStand s keyword → CarriedBy s (form_read s keyword words) (carry s.apps keyword words)
 carry_is s key.App words h stands = app_by s (app_form words)
-carry_is s key.Looper words h stands = let a = last_there s.apps (nonempty s.apps stands) in looper_carried s a.0 a.1 words
+carry_is s key.Looper words h stands = let a = last_there s.apps (some_there s.apps stands) in looper_carried s a.0 a.1 words
 carry_is s key.Hook words h stands =
     let p = opened_parts s.apps stands.0 stands.1 in
     looper_key s p.app stands.0 p.is_app p.is_looper key.Hook words (form_read s key.Hook words) refl (hook_by s p.app stands.0 p.is_app p.is_looper (hook_form words))

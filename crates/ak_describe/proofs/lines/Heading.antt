@@ -14,7 +14,7 @@ use Rattle.ak_describe.specs.Parts.{RowData, LooperData, AppData, opened}
 use Rattle.ak_describe.specs.Pass.{State, last_item, loopers_in, new_app, new_looper, new_property, new_reaction}
 use Rattle.ak_describe.specs.Says.{Form, says_app, says_looper, says_hook, says_prefer, says_common, says_handler, says_next, says_suite, says_filter, says_property, says_element, says_on, says_action, least_of, IsComplete, MayStand, Says, IsInUse, HasLooper, IsWithin, changed, with_changed, in_app, in_looper, usage_of, element_added, action_added, with_form}
 use Rattle.ak_base.specs.AppName.{is_path, is_signature}
-use Rattle.ak_describe.proofs.ground.Ends.{changed_get, length_changed, one_some, push_cases}
+use Rattle.ak_describe.proofs.ground.Ends.{changed_get, length_changed, one_some, push_cases, some_there}
 use Rattle.ak_describe.proofs.ground.Places.{all_there}
 
 -- ---- lists of which the last one changes, or that get one more
@@ -152,16 +152,12 @@ inside_are apps (says_on code) is h = in_row_are (λ (r : RowData). record r { r
 inside_are apps (says_action a) is h = in_row_are (λ (r : RowData). record r { reactions = with_changed (action_added a) r.reactions }) apps h
 
 -- ---- a line that opens an application
-some_loopers : (loopers : List LooperData) → loopers ≢ [] → 1 ≤ length loopers
-some_loopers [] other = absurd (other refl)
-some_loopers (l ∷ loopers) other = omega arith
-
 last_filled : (apps : List AppData) (i : ℕ) (a : AppData) → slice_get apps i ≡ Some a → i + 1 ≡ length apps → IsComplete apps → 1 ≤ length a.loopers
 last_filled apps i a at e (inl none) = let empty : length apps ≡ 0 = ap (λ (xs : List AppData). length xs) none in absurd (omega (arith, e, empty))
 last_filled apps i a at e (inr t) =
     let place : i ≡ length apps - 1 = omega (arith, e) in
     let same : t.0 ≡ a = one_some (last_item apps) t.0 a t.1 (ap (slice_get apps) (sym place) ∙ at) in
-    some_loopers a.loopers (subst (λ (x : AppData). x.loopers ≢ []) same t.2)
+    some_there a.loopers (subst (λ (x : AppData). x.loopers ≢ []) same t.2)
 
 pub complete_filled : (apps : List AppData) → AppsAre apps → IsComplete apps → (i : ℕ) (a : AppData) → slice_get apps i ≡ Some a → 1 ≤ length a.loopers
 complete_filled apps h complete i a at =

@@ -1,6 +1,7 @@
 -- What always holds of what is open stays so as lines are added.
 use Rattle.std.proofs.Common.{◌≡◌, ◌≢◌, ℕ, ◌<◌, ◌≤◌, true, List, [], ◌∷◌, ◌++◌, length, Option, Some, None, IfSome, option_map, refl, sym, ap, subst, ◌∙◌, arith}
 use Rattle.std.proofs.lemmas.List.{length_push}
+use Rattle.std.proofs.lemmas.Option.{IfSome_then}
 use Rattle.ak_base.specs.declared.limited.Limited.{Limited}
 use Rattle.ak_base.specs.declared.limited.Limited.TheVariants.{Within, Over}
 use Rattle.ak_base.specs.declared.code.Code.{Code}
@@ -21,7 +22,7 @@ use Rattle.ak_describe.specs.Keyword.{after_of}
 use Rattle.ak_describe.specs.Parts.{RowData, LooperData, AppData, opened}
 use Rattle.ak_describe.specs.Pass.{State, last_item, loopers_in, open_looper, rows_in, new_app, new_looper, new_property, new_reaction, nothing_read}
 use Rattle.ak_describe.specs.Says.{Form, says_app, says_looper, says_hook, says_prefer, says_common, says_handler, says_next, says_suite, says_filter, says_property, says_element, says_on, says_action, MayStand, Says, IsWithin, LooperHas, RowHas, PropertyHas, ReactionHas, open_row, properties_in, open_properties, reactions_in, with_changed, in_app, in_looper, in_row, usage_of, element_added, action_added, with_form}
-use Rattle.ak_describe.proofs.ground.Ends.{last_there, last_push, last_changed, length_changed}
+use Rattle.ak_describe.proofs.ground.Ends.{some_there, last_there, last_push, last_changed, length_changed}
 use Rattle.ak_describe.proofs.lines.Standing.{PropertyFits, ReactionFits, RowFits, LooperFits, OpenFits, StateFits, is_open_after, fits_at, open_row_is}
 
 -- ---- what is open then
@@ -209,10 +210,6 @@ by_form : (s : State) (form said : Form) (after : After) → form ≡ said → (
 by_form s form said after e h within =
     subst (λ (x : Form). OpenFits (open_looper (with_form s.apps x)) after) (sym e) (h (subst (λ (x : Form). IsWithin s x) e within))
 
-some_there : {X : Type 0} (xs : List X) → xs ≢ [] → 1 ≤ length xs
-some_there [] other = absurd (other refl)
-some_there (x ∷ xs) other = omega arith
-
 action_line_kept : (s : State) (form : Form) (a : Limited Action) → StateFits s → s.after ≡ following.Action → form ≡ says_action a → IsWithin s form → OpenFits (open_looper (with_form s.apps form)) following.Action
 action_line_kept s form a h is e within =
     let l = is_open_after (open_looper s.apps) s.after h (λ plain. cc (is, plain)) in
@@ -254,15 +251,11 @@ pub nothing_fits : StateFits nothing_read
 nothing_fits = refl
 
 -- ---- no property is of messages
-if_weaker : {A : Type 0} (P Q : A → Type 0) (o : Option A) → ((x : A) → P x → Q x) → IfSome o P → IfSome o Q
-if_weaker P Q None step h = tt
-if_weaker P Q (Some x) step h = step x h
-
 no_messages_by : (o : Option LooperData) (after : After) → OpenFits o after → IfSome (last_item (properties_in (last_item (rows_in o)))) (λ p. p.row.kind ≢ k.Message)
 no_messages_by None after h = tt
 no_messages_by (Some l) after h =
     subst (λ (o : Option RowData). IfSome (last_item (properties_in o)) (λ p. p.row.kind ≢ k.Message)) (sym h.is_last)
-    (if_weaker PropertyFits (λ p. p.row.kind ≢ k.Message) (last_item h.row.properties) (λ p f. f.kind_is) h.fits.property)
+    (IfSome_then (last_item h.row.properties) {P = PropertyFits} {Q = λ p. p.row.kind ≢ k.Message} h.fits.property (λ p f. f.kind_is))
 
 pub no_messages : (s : State) → StateFits s → IfSome (last_item (open_properties s)) (λ p. p.row.kind ≢ k.Message)
 no_messages s h = no_messages_by (open_looper s.apps) s.after h

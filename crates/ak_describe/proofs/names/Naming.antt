@@ -14,6 +14,7 @@ use Rattle.ak_describe.specs.Describes.{IsAt, IsRow, IsLooper, Fits, IsNamedTher
 use Rattle.ak_describe.specs.Parts.{RowData, LooperData, AppData, looper_named, row_named}
 use Rattle.ak_describe.specs.Second.{unknown, order_fault, fits, first_fit, chained_to, next_fault, fault_of, fault_in_looper, fault_in_app, named_fault}
 use Rattle.ak_describe.proofs.chains.Leading.{AreLed, loop_or_ends, no_loop_where_ends}
+use Rattle.ak_describe.proofs.ground.Ends.{one_some}
 use Rattle.ak_describe.proofs.ground.Searching.{first_at, first_is_first, position_decides, none_passes}
 
 -- ---- one of three faults
@@ -177,14 +178,11 @@ module _ (apps : List AppData) (a : AppData) (l : LooperData) (n : Named) where
   from_need _ h = absurd h
 
 -- ---- where it stands
-same_some : {A : Type 0} (o : Option A) (x y : A) → o ≡ Some x → o ≡ Some y → x ≡ y
-same_some o x y e f = cc
-
 same_place : (apps : List AppData) (n : Named) (a b : AppData) (l m : LooperData) (kind : RefusalKind) → IsAt apps n a l → IsAt apps n b m → IsNameFault apps b m n kind → IsNameFault apps a l n kind
 same_place apps n a b l m kind at other f =
-    let same_app : b ≡ a = same_some (slice_get apps n.app) b a other.in_app at.in_app in
+    let same_app : b ≡ a = one_some (slice_get apps n.app) b a other.in_app at.in_app in
     let moved : slice_get a.loopers n.looper ≡ Some m = subst (λ (x : AppData). slice_get x.loopers n.looper ≡ Some m) same_app other.in_looper in
-    let same_looper : m ≡ l = same_some (slice_get a.loopers n.looper) m l moved at.in_looper in
+    let same_looper : m ≡ l = one_some (slice_get a.loopers n.looper) m l moved at.in_looper in
     let first : IsNameFault apps a m n kind = subst (λ (x : AppData). IsNameFault apps x m n kind) same_app f in
     subst (λ (x : LooperData). IsNameFault apps a x n kind) same_looper first
 
@@ -201,7 +199,7 @@ looper_tells : (apps : List AppData) (n : Named) (a : AppData) (o : Option Loope
 looper_tells apps n a None is_app is led kind = (
   λ e. absurd cc,
   λ v.
-      let same : v.0 ≡ a = same_some (slice_get apps n.app) v.0 a v.2.in_app is_app in
+      let same : v.0 ≡ a = one_some (slice_get apps n.app) v.0 a v.2.in_app is_app in
       let moved : slice_get a.loopers n.looper ≡ Some v.1 = subst (λ (x : AppData). slice_get x.loopers n.looper ≡ Some v.1) same v.2.in_looper in
       absurd (cc (moved, is)),
 )

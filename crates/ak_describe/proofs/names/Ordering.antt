@@ -1,5 +1,5 @@
 -- The names that may be given later stand in the order of their lines, and each next handler is among them.
-use Rattle.std.proofs.Common.{◌≡◌, ◌≢◌, ◌⊎◌, true, ℕ, zero, suc, ◌+◌, ◌-◌, ◌<◌, ◌≤◌, List, [], ◌∷◌, ◌++◌, length, Option, Some, None, option_map, slice_get, refl, sym, ap, subst, ◌∙◌, ⊎_elim, inl, inr, arith}
+use Rattle.std.proofs.Common.{◌≡◌, ◌⊎◌, true, ℕ, zero, suc, ◌+◌, ◌-◌, ◌<◌, ◌≤◌, List, [], ◌∷◌, ◌++◌, length, Option, Some, None, option_map, slice_get, refl, sym, ap, subst, ◌∙◌, ⊎_elim, inl, inr, arith}
 use Rattle.std.proofs.lemmas.List.{length_push}
 use Rattle.std.proofs.lemmas.Option.{slice_get_within}
 use Rattle.ak_base.specs.declared.limited.Limited.{Limited}
@@ -15,7 +15,8 @@ use Rattle.ak_describe.specs.declared.named.Need.TheVariants as needs
 use Rattle.ak_describe.specs.Parts.{RowData, LooperData, AppData, opened}
 use Rattle.ak_describe.specs.Pass.{State, last_item, loopers_in, open_looper, rows_in, new_app, new_looper, new_name, with_need, new_property, new_reaction}
 use Rattle.ak_describe.specs.Says.{Form, says_app, says_looper, says_hook, says_prefer, says_common, says_handler, says_next, says_suite, says_filter, says_property, says_element, says_on, says_action, MayStand, Says, with_changed, in_app, in_looper, in_row, usage_of, element_added, action_added, with_form, names_in}
-use Rattle.ak_describe.proofs.ground.Ends.{last_there, last_within, length_changed, changed_get, push_cases, get_before, get_push}
+use Rattle.ak_describe.proofs.chains.Following.{next_in}
+use Rattle.ak_describe.proofs.ground.Ends.{some_there, last_there, last_within, length_changed, changed_get, push_cases, get_before, get_push}
 use Rattle.ak_describe.proofs.lines.Keeping.{loopers_changed, loopers_with, open_with}
 use Rattle.ak_describe.proofs.lines.Standing.{StateFits, is_open_after, fits_at, opened_parts}
 
@@ -333,13 +334,9 @@ app_next apps f i j p name h = no_new (at_pushed (λ (a : AppData). LooperNext a
 app_line_names : (apps : List AppData) (names : List Named) (f : AppForm) → NamesFit apps names → NamesFit (apps ++ new_app f ∷ []) names
 app_line_names apps names f h = names_same apps (apps ++ new_app f ∷ []) names h (by_app (length_push apps (new_app f))) (app_next apps f)
 
-abbrev next_of_row : Option RowData → Option (List ℕ)
-next_of_row None = None
-next_of_row (Some x) = x.next
-
 opened_next : (first name : List ℕ) (p : ℕ) (r : RowData) → slice_get (opened first ∷ []) p ≡ Some r → r.next ≡ Some name → ⊥
 opened_next first name zero r e n =
-    let same : None ≡ r.next = ap (λ (o : Option RowData). next_of_row o) e in
+    let same : None ≡ r.next = ap next_in e in
     cc
 opened_next first name (suc p) r e n = cc
 
@@ -374,10 +371,6 @@ counted s l h is =
 
 abbrev NamesKept : State → ℕ → Form → Type 0
 NamesKept s line form = NamesFit (with_form s.apps form) (with_need s.names (with_form s.apps form) line (names_in form))
-
-some_there : {X : Type 0} (xs : List X) → xs ≢ [] → 1 ≤ length xs
-some_there [] other = absurd (other refl)
-some_there (x ∷ xs) other = omega arith
 
 action_names_kept : (s : State) (line : ℕ) (a : Limited Action) → StateFits s → s.after ≡ following.Action → NamesFit s.apps s.names → NamesKept s line (says_action a)
 action_names_kept s line a h is n =

@@ -3,7 +3,7 @@ use Rattle.std.proofs.Common.{◌≡◌, ◌≢◌, ◌⊎◌, ℕ, ◌-◌, ◌
 use Rattle.std.proofs.lemmas.Bool.{cases_eq}
 use Rattle.std.proofs.lemmas.List.{length_push}
 use Rattle.std.proofs.lemmas.List.Elements.{All-nil, All-push, All-weaker}
-use Rattle.std.proofs.lemmas.Option.{slice_get_within, slice_get-get_or}
+use Rattle.std.proofs.lemmas.Option.{slice_get_within}
 use Rattle.ak_message.specs.declared.line.Line.{Line}
 use Rattle.ak_describe.specs.declared.keyword.After.TheVariants as following
 use Rattle.ak_describe.specs.declared.keyword.Keyword.{Keyword}
@@ -14,8 +14,9 @@ use Rattle.ak_describe.specs.Describes.{Adds, Follow}
 use Rattle.ak_describe.specs.Laws.{HasPlace, NamesHavePlaces}
 use Rattle.ak_describe.specs.Parts.{RowData, LooperData, AppData, opened}
 use Rattle.ak_describe.specs.Pass.{State, nothing_read, last_item, loopers_in, open_looper, rows_in, new_app, new_looper, new_property, new_reaction, open_looper_place, open_row_place, new_name, with_need}
-use Rattle.ak_describe.specs.Says.{Form, says_app, says_looper, says_hook, says_prefer, says_common, says_handler, says_next, says_suite, says_filter, says_property, says_element, says_on, says_action, MayStand, Says, changed, with_changed, in_app, in_looper, in_row, usage_of, element_added, action_added, with_form, names_in, state_with}
+use Rattle.ak_describe.specs.Says.{Form, InLooper, says_app, says_looper, says_hook, says_prefer, says_common, says_handler, says_next, says_suite, says_filter, says_property, says_element, says_on, says_action, MayStand, Says, changed, with_changed, in_app, in_looper, in_row, usage_of, element_added, action_added, with_form, names_in, state_with}
 use Rattle.ak_describe.proofs.ground.Ends.{last_within, one_some, get_set_same, get_set_other, length_changed, get_before}
+use Rattle.ak_describe.proofs.ground.Places.{item_there}
 use Rattle.ak_describe.proofs.lines.Keeping.{open_with, nothing_fits}
 use Rattle.ak_describe.proofs.lines.Reading.{adds_fits}
 use Rattle.ak_describe.proofs.lines.Standing.{StateFits, is_open_after, fits_at, opened_parts}
@@ -27,15 +28,12 @@ LooperPlace a j p = (l : LooperData) × (slice_get a.loopers j ≡ Some l) × (p
 abbrev IsPlace : List AppData → ℕ → ℕ → ℕ → Type 0
 IsPlace apps i j p = (a : AppData) × (slice_get apps i ≡ Some a) × LooperPlace a j p
 
-row_there : (rows : List RowData) (p : ℕ) → p < length rows → (r : RowData) × (slice_get rows p ≡ Some r)
-row_there rows p lt = (_, slice_get-get_or rows p (opened []) lt)
-
 place_of : (apps : List AppData) (n : Named) → HasPlace apps n → IsPlace apps n.app n.looper n.row
 place_of apps n h = (h.0, h.3.in_app, (h.1, h.3.in_looper, slice_get_within h.1.rows n.row h.2 h.4))
 
 has_place : (apps : List AppData) (n : Named) → IsPlace apps n.app n.looper n.row → HasPlace apps n
 has_place apps n h =
-    let row = row_there h.2.0.rows n.row h.2.2 in
+    let row = item_there h.2.0.rows n.row h.2.2 in
     (h.0, h.2.0, row.0, record { in_app = h.1; in_looper = h.2.1 }, row.1)
 
 -- ---- what stands at a place of a list that a line changes
@@ -115,16 +113,13 @@ open_then apps (says_on code) need l e is = absurd cc
 open_then apps (says_action a) need l e is = open_in_row (λ (r : RowData). record r { reactions = with_changed (action_added a) r.reactions }) apps l is
 
 -- a looper is open where a line with a name stands
-abbrev IsOpen : State → Type 0
-IsOpen s = (l : LooperData) × (open_looper s.apps ≡ Some l)
-
-unnamed : (s : State) (form said : Form) (need : Need) → form ≡ said → names_in said ≡ None → names_in form ≡ Some need → IsOpen s
+unnamed : (s : State) (form said : Form) (need : Need) → form ≡ said → names_in said ≡ None → names_in form ≡ Some need → InLooper s
 unnamed s form said need same none e = let other : names_in form ≡ None = ap names_in same ∙ none in absurd (cc (e, other))
 
-open_behind : (s : State) → StateFits s → s.after ≢ following.Plain → IsOpen s
+open_behind : (s : State) → StateFits s → s.after ≢ following.Plain → InLooper s
 open_behind s h other = is_open_after (open_looper s.apps) s.after h other
 
-is_open : (s : State) (keyword : Keyword) (words : List (List ℕ)) (form : Form) (need : Need) → StateFits s → MayStand s keyword → Says s keyword words form → names_in form ≡ Some need → IsOpen s
+is_open : (s : State) (keyword : Keyword) (words : List (List ℕ)) (form : Form) (need : Need) → StateFits s → MayStand s keyword → Says s keyword words form → names_in form ≡ Some need → InLooper s
 is_open s key.App words form need h stands said e = unnamed s form (says_app said.0) need said.1 refl e
 is_open s key.Looper words form need h stands said e = unnamed s form (says_looper said.0) need said.1 refl e
 is_open s key.Hook words form need h stands said e = (stands.0, stands.1)

@@ -1,7 +1,7 @@
 use Rattle.std.proofs.Common.{ℕ, ◌-◌, inr, ap, ◌∙◌}
 use Rattle.ak_message.specs.Message.{MessageData}
 use Rattle.ak_kit.specs.Messages.{get_of}
-use Rattle.ak_kit.proofs.Sent.{if_ok, on_err, on_ok, word_is_answered, word_is_quiet, word_item, word_line, word_short, word_text}
+use Rattle.ak_kit.proofs.Sent.{if_ok, on_err, on_ok, word_is_quiet, word_item, word_line, word_short, word_text}
 use Rattle.ak_kit.proofs.run.ask.Goals as goal
 
 pub item-requires : goal.item-requires
@@ -25,16 +25,6 @@ dispatch-requires c =
       quiet = word_is_quiet s slot word c.in_ok-item.item made c.requires.opening c.requires.property;
       time = c.requires.time;
     }
-
-pub reply_line-requires : goal.reply_line-requires
-reply_line-requires c =
-    let s = c.args.desk.now.opening in
-    let word = c.args.property.now in
-    let slot = c.len.result - 1 in
-    let place = ap (λ (n : ℕ). n - 1) (c.len.ensures ∙ c.requires.rests.count) in
-    let message = c.in_ok-message.ensures ∙ ap get_of c.in_ok-try_clone.ensures in
-    let made = word_item c.in_ok-message.message word c.in_ok-item.item slot message c.in_ok-item.ensures in
-    word_is_answered s slot word c.in_ok-item.item c.in_ok-reply.reply c.in_ok-reply.ensures.reply made c.requires.opening c.requires.property
 
 pub returns-clause-text : goal.returns-clause-text
 returns-clause-text c =

@@ -33,3 +33,11 @@ invariant_of-result-clause-desk_known c = λ thread new.
     let is = c.split_head-desk_seat.ensures.new in
     ap (λ (s : desks.DeskSeat). made_by desks.by_number thread s.front) is
     ∙ made_nothing desks.by_number seat thread c.requires.known.at_desk (still_new seat.names keeper_thread thread (subst (λ (names : Option (List ℕ)). IsNewName names thread) (ap (λ (s : desks.DeskSeat). s.names) is) new))
+
+pub invariant_of-result-clause-keeper : goal.invariant_of-result-clause-keeper
+invariant_of-result-clause-keeper c = ap (λ (s : ports.PortSeat). s.thread) c.split_head-port_seat.ensures.new
+
+pub invariant_of-result-clause-keeper_idle : goal.invariant_of-result-clause-keeper_idle
+invariant_of-result-clause-keeper_idle c =
+    ap (λ (s : ports.PortSeat). made_by ports.by_number keeper_thread s.front) c.split_head-port_seat.ensures.new
+    ∙ made_nothing ports.by_number c.args.door.now.port_seat keeper_thread c.requires.known.at_port c.requires.new.at_port

@@ -1,18 +1,19 @@
 -- One more is joined.
-use Rattle.std.proofs.Common.{◌≡◌, List, [], ◌∷◌, ◌++◌, length, length-append, map, All, ap, ◌∙◌, subst, sym, arith, append_assoc}
+use Rattle.std.proofs.Common.{◌≡◌, ℕ, List, [], ◌∷◌, ◌++◌, length, map, All, ap, ◌∙◌, subst, sym, arith, append_assoc}
 use Rattle.std.proofs.lemmas.Grind.{common_steps}
 use Rattle.std.proofs.lemmas.List.{map-append}
 use Rattle.std.proofs.lemmas.List.Elements.{All-head, All-push, All-tail}
 use Rattle.ak_run.specs.declared.gathering.Joined.{Joined}
 use Rattle.ak_run.specs.declared.member.Member.{Member}
-use Rattle.ak_run.specs.Gathering.{IsJoined, joined_front}
+use Rattle.ak_run.specs.Gathering.{HasRoomFor, IsJoined, IsNoHead, joined_front, short_of}
 use Rattle.ak_run.specs.Recording.{member_front}
 use Rattle.ak_run.specs.Running.{IsMember}
 use Rattle.ak_run.proofs.Joining.{all_joined_still, knows_further, member_still}
+use Rattle.ak_run.proofs.Taking.{short_more}
 use Rattle.ak_run.proofs.gathering.join_all.Goals as goal
 
-pub join_one-requires-clause-member : goal.join_one-requires-clause-member
-join_one-requires-clause-member g c =
+pub join_one-looper-requires-clause-member : goal.join_one-looper-requires-clause-member
+join_one-looper-requires-clause-member g c =
     let so_far = c.loop-member in
     let told = c.requires.members in
     let next : so_far.member-iterator.rest.items ≡ c.in-Some.member ∷ c.next.new.self.rest.items = grind (arith, common_steps) in
@@ -24,20 +25,27 @@ join_one-requires-clause-member g c =
       told.4,
     )
 
+pub put-requires : goal.put-requires
+put-requires g c =
+    let next : c.loop-member.member-iterator.rest.items ≡ c.in-Some.member ∷ c.next.new.self.rest.items = grind (arith, common_steps) in
+    record { room = (length c.next.new.self.rest.items, subst (λ (l : List Member). HasRoomFor (length l) c.loop-member.all) next c.loop-member.invariant.room) }
+
 pub loop-member-preserved : goal.loop-member-preserved
 loop-member-preserved g c =
     let was = c.loop-member.invariant in
     let r = c.args.roster_seat.now in
     let between = c.loop-member.roster_seat in
-    let r' = c.join_one.new.roster_seat in
+    let r' = c.join_one-looper.new.roster_seat in
     let book = c.loop-member.book_seat in
-    let book' = c.join_one.new.book_seat in
-    let js = c.loop-member.joined.items in
-    let j = c.join_one.result in
+    let book' = c.join_one-looper.new.book_seat in
+    let js = c.loop-member.all.loopers.items in
+    let j = c.join_one-looper.result.0 in
+    let put = c.put.ensures in
     let m = c.in-Some.member in
     let rest = c.next.new.self.rest.items in
-    let one = c.join_one.ensures in
-    let pushed : c.push_reserved.new.self.items ≡ js ++ j ∷ [] = c.push_reserved.ensures.items in
+    let one = c.join_one-looper.ensures in
+    let all' = c.put.new.self in
+    let pushed : all'.loopers.items ≡ js ++ j ∷ [] = put.loopers in
     let next : c.loop-member.member-iterator.rest.items ≡ m ∷ rest = grind (arith, common_steps) in
     record {
       roster = knows_further r between r' was.roster one.roster;
@@ -61,5 +69,13 @@ loop-member-preserved g c =
           ∙ ap (λ (front : _). map joined_front js ++ front ∷ map member_front rest) one.front
           ∙ sym (ap (λ (l : List Member). map joined_front js ++ map member_front l) next)
           ∙ was.fronts;
-      room = omega (arith, ap (λ (l : List Joined). length l) pushed, length-append js (j ∷ []), ap (λ (l : List Member). length l) next, was.room, c.push_reserved.ensures.capacity);
+      no_heads = λ heads shared all.
+          let member = member_still heads shared r between m was.roster (All-head (IsMember heads shared r) m rest (subst (All (IsMember heads shared r)) next (was.rest heads shared all))) in
+          subst (All IsNoHead) (sym pushed) (All-push IsNoHead js j (was.no_heads heads shared all) (one.no_head heads shared member));
+      ways =
+          ap (map (λ (x : Joined). x.end.value.doors)) pushed ∙ map-append (λ (x : Joined). x.end.value.doors) js (j ∷ [])
+          ∙ ap (λ (ws : _). ws ++ j.end.value.doors ∷ []) was.ways ∙ ap (λ (w : _). c.loop-member.all.ways.items ++ w ∷ []) (sym one.ways) ∙ sym put.ways;
+      short =
+          put.short ∙ ap (λ (ns : List ℕ). ns ++ short_of (j ∷ [])) was.short ∙ sym (short_more js j) ∙ sym (ap short_of pushed);
+      room = put.room (length rest) (subst (λ (l : List Member). HasRoomFor (length l) c.loop-member.all) next was.room);
     }

@@ -1,8 +1,9 @@
 -- The end is that of its job, and its seats are at the locks that main's are at.
-use Rattle.std.proofs.Common.{◌∙◌, ap, refl}
+use Rattle.std.proofs.Common.{◌∙◌, ap, refl, sym}
 use Rattle.ak_port.specs.PortCalls.{PortSeat}
+use Rattle.ak_looper.specs.declared.job.LooperEnd.{LooperEnd}
 use Rattle.ak_run.specs.declared.gathering.Joined.{Joined}
-use Rattle.ak_run.proofs.Joining.{goes_on_knowing, is_joined}
+use Rattle.ak_run.proofs.Joining.{goes_on_knowing, is_joined, still_no_head}
 use Rattle.ak_run.proofs.gathering.join_one.Goals as goal
 
 pub join-requires-clause-of : goal.join-requires-clause-of
@@ -29,8 +30,15 @@ pub returns-clause-joined : goal.returns-clause-joined
 returns-clause-joined g c = λ heads shared is.
     let m = c.args.member in
     let joined : Joined = record { number = m.number; door = c.take_in.new.door; kind = c.end-end.result.kind; job = m.job; end = c.of-snapshot.result } in
-    is_joined heads shared c.args.roster_seat.now c.join.new.seat c.args.book_seat.now c.join-2.new.seat m c.end-end.result joined is (c.end-end.ensures m.job.value is.life) refl refl c.of-snapshot.ensures
+    is_joined heads shared c.args.roster_seat.now c.join.new.seat c.args.book_seat.now c.join-2.new.seat m c.end-end.result joined is (c.end-end.ensures m.job.value is.life) refl refl c.of-snapshot.ensures refl
     c.join.ensures c.join-2.ensures c.take_in.ensures.port c.take_in.ensures.desk
+
+pub returns-clause-no_head : goal.returns-clause-no_head
+returns-clause-no_head g c = λ heads shared is.
+    still_no_head heads shared c.args.roster_seat.now c.args.member c.end-end.result c.take_in.new.door.port_seat is (c.end-end.ensures c.args.member.job.value is.life) c.take_in.ensures.port
+
+pub returns-clause-ways : goal.returns-clause-ways
+returns-clause-ways g c = ap (λ (e : LooperEnd). e.doors) (sym c.of-snapshot.ensures)
 
 pub returns-clause-roster : goal.returns-clause-roster
 returns-clause-roster g c = goes_on_knowing c.args.roster_seat.now c.end-end.result.roster_seat c.join.new.seat c.join.ensures

@@ -1,5 +1,6 @@
 -- The first one is the own looper's, which is greeted; the others follow.
-use Rattle.std.proofs.Common.{◌≡◌, ℕ, ◌+◌, List, length, refl, sym, ap, subst, arith}
+use Rattle.std.proofs.Common.{◌≡◌, ℕ, suc, ◌+◌, List, ◌∷◌, length, refl, sym, ap, subst, arith}
+use Rattle.std.proofs.lemmas.Grind.{common_steps}
 use Rattle.ak_run.specs.declared.new_looper.NewLooper.{NewLooper}
 use Rattle.ak_run.specs.declared.opening.Opened.{Opened}
 use Rattle.ak_run.specs.Opening.{AreOpened}
@@ -32,4 +33,24 @@ loop-other-init g c =
       team = begun.0;
       rest = subst (λ (k : ℕ). AreOpened plans team first k rest) none (subst (λ (os : List Opened). AreOpened plans team first 1 os) same parts.1);
       count = omega (arith, none, ap (λ (os : List Opened). length os) same, parts.2, c.in_ok-others.ensures.count);
+    }
+
+-- one looper more
+pub loop-other-preserved : goal.loop-other-preserved
+loop-other-preserved g c =
+    let plans = c.args.plans.now in
+    let team = c.args.team in
+    let first = c.args.first in
+    let was = c.loop-other in
+    let x = c.in-Some.other in
+    let rest = c.next.new.self.rest.items in
+    let so_far = length was.making.team.others.items in
+    let next : was.other-iterator.rest.items ≡ x ∷ rest = grind (arith, common_steps) in
+    let opened = subst (λ (os : List Opened). AreOpened plans team first (so_far + 1) os) next was.invariant.rest in
+    let count = c.in_ok-add_looper.ensures.count in
+    let one : suc (so_far + 1) ≡ length c.add_looper.new.making.team.others.items + 1 = omega (arith, count) in
+    record {
+      team = c.in_ok-add_looper.ensures.grown plans team was.invariant.team opened.0;
+      rest = subst (λ (k : ℕ). AreOpened plans team first k rest) one opened.1;
+      count = omega (arith, was.invariant.count, count, ap (λ (os : List Opened). length os) next);
     }

@@ -1,23 +1,19 @@
 -- The names as the set holds them, and as they are seen.
-use Rattle.std.proofs.Common.{◌≡◌, ℕ, Bool, true, false, ◌||◌, cond, List, [], ◌∷◌, ◌++◌, Bor, Option, Some, None, refl, sym, ap, ap₂, ◌∙◌}
+use Rattle.std.proofs.Common.{◌≡◌, ℕ, Bool, true, false, ◌||◌, cond, List, [], ◌∷◌, ◌++◌, Bor, None, refl, sym, ap, ap₂, ◌∙◌}
 use Rattle.std.specs.Prelude.{map}
 use Rattle.std.specs.List.{list_any}
 use Rattle.std.specs.Str.{bytes_eq}
 use Rattle.std.specs.Cmp.Lexicographic.{nat_list_eq_equiv}
 use Rattle.std.proofs.lemmas.Bool.{not-false, not-true}
 use Rattle.std.proofs.lemmas.List.{map-append}
-use Rattle.ak_base.specs.declared.limited.Limited.{Limited}
-use Rattle.ak_action.specs.declared.template.TemplateField.{TemplateField}
-use Rattle.ak_describe.specs.Actions.{Built, has_name, named_too}
+use Rattle.ak_describe.specs.Actions.{has_name, named_too}
 use Rattle.ak_describe.specs.Seen.{seen, built_of}
+use Rattle.ak_describe.proofs.grammar.Building.{some_built}
 use Rattle.ak_describe.proofs.form.template.add.Goals as goal
 
 any_seen : (names : List (Bor (List ℕ))) (name : List ℕ) → has_name (map seen names) name ≡ list_any (λ (other : Bor (List ℕ)). bytes_eq name other.now) names
 any_seen [] name = refl
 any_seen (first ∷ names) name = ap₂ ◌||◌ (nat_list_eq_equiv.symm first.now name) (any_seen names name)
-
-abbrev some_built : List (List ℕ) → Limited (List TemplateField) → Option Built
-some_built names fields = Some (record { names = names; fields = fields })
 
 pub returns-then-not-branch : goal.returns-then-not-branch
 returns-then-not-branch c =

@@ -1,5 +1,7 @@
 -- A new name beside one more was new before, and a new thread has made nothing.
-use Rattle.std.proofs.Common.{subst, sym}
+use Rattle.std.proofs.Common.{ap, subst, sym, ◌∙◌}
+use Rattle.ak_base.specs.Thread.{keeper_thread}
+use Rattle.ak_turn.specs.Entries.{made_by}
 use Rattle.ak_turn.specs.Steps.{IsNewName}
 use Rattle.ak_port.specs.PortCalls as ports
 use Rattle.ak_desk.specs.Shared as desks
@@ -13,6 +15,10 @@ invariant_of-self-2-clause-port_known c =
 pub invariant_of-self-2-clause-desk_known : goal.invariant_of-self-2-clause-desk_known
 invariant_of-self-2-clause-desk_known c =
     known_still desks.by_number c.args.thread.0 c.args.self.now.desk_seat c.split-desk_seat.new.seat c.split-desk_seat.ensures.old c.args.self.now.desk_known
+
+pub invariant_of-self-2-clause-keeper_idle : goal.invariant_of-self-2-clause-keeper_idle
+invariant_of-self-2-clause-keeper_idle c =
+    ap (λ (s : ports.PortSeat). made_by ports.by_number keeper_thread s.front) c.split-port_seat.ensures.old ∙ c.args.self.now.keeper_idle
 
 pub returns-clause-thread : goal.returns-clause-thread
 returns-clause-thread c =

@@ -1,9 +1,9 @@
--- The run went on to its end, and the laws of diaries say the rest.
+-- The run went on to its end, and the laws of runs that ended say the rest.
 use Rattle.std.proofs.Common.{List, subst}
 use Rattle.ak_roster.specs.declared.head.AppHead.{AppHead}
 use Rattle.ak_describe.specs.Whole.{heads_of}
-use Rattle.ak_run.specs.Ending.{HasEnded}
-use Rattle.ak_run.proofs.Ended.{accounted, by_rule, runs_on, same_heads_of}
+use Rattle.ak_headline.specs.Run.{IsRun}
+use Rattle.ak_run.proofs.Endings.{runs_on, same_heads_of, whole}
 use Rattle.ak_run.proofs.run.Run.end.Goals as goal
 
 pub gathered-requires : goal.gathered-requires
@@ -11,11 +11,12 @@ gathered-requires g c = record { running = runs_on c.args.self c.leave_all.new.s
 
 pub returns : goal.returns
 returns g c =
-    let h = c.gathered.result in
-    let ended = c.gathered.ensures.ended in
+    let ended = c.gathered.result in
+    let later = heads_of c.leave_all.new.self.apps.items in
+    let run : IsRun later ended.short ended.histories = whole later ended.short ended.histories c.gathered.ensures.run c.gathered.ensures.main in
     record {
-      ended = subst (λ (heads : List AppHead). HasEnded heads h) (same_heads_of c.args.self c.leave_all.new.self c.leave_all.ensures) ended;
-      accepted = accounted c.accepted_is_dispatched_then_left.ensures (heads_of c.leave_all.new.self.apps.items) h ended;
-      dispatched = by_rule c.each_is_dispatched_by_rule.ensures (heads_of c.leave_all.new.self.apps.items) h ended;
-      main = c.gathered.ensures.main;
+      run = subst (λ (heads : List AppHead). IsRun heads ended.short ended.histories) (same_heads_of c.args.self c.leave_all.new.self c.leave_all.ensures) run;
+      accepted = c.runs_are_accounted.ensures later ended.short ended.histories run;
+      dispatched = c.runs_go_by_rule.ensures later ended.short ended.histories run;
+      answered = c.each_waiting_send_got_one_reply.ensures later ended.short ended.histories run;
     }

@@ -1,5 +1,6 @@
 -- Its seats are the first at their locks, and nothing was done.
-use Rattle.std.proofs.Common.{List, ap, ◌∙◌}
+use Rattle.std.proofs.Common.{◌≡◌, ◌≤◌, ℕ, ◌+◌, List, [], length, ap, ◌∙◌, arith}
+use Rattle.ak_base.specs.Limits.{looper_limit}
 use Rattle.std.specs.Arc.{arc_value}
 use Rattle.ak_base.specs.Thread.{main_thread}
 use Rattle.ak_turn.specs.Entries.{places}
@@ -12,6 +13,10 @@ use Rattle.ak_run.specs.Launching.{Book}
 use Rattle.ak_run.proofs.NewRun.{begins}
 use Rattle.ak_run.proofs.run.Run.new.Goals as goal
 
+-- where there are none, so many fit
+room : {X : Type 0} (xs : List X) (capacity : ℕ) → xs ≡ [] → looper_limit ≤ capacity → length xs + looper_limit ≤ capacity
+room {X} xs capacity none fits = omega (arith, ap (λ (l : List X). length l) none, fits)
+
 pub returns-clause-running : goal.returns-clause-running
 returns-clause-running g =
     let at_roster = arc_value g.in_ok-roster-2.roster in
@@ -21,10 +26,14 @@ returns-clause-running g =
     (g.in_ok-book.ensures ∙ ap (λ (b : List ReplyEntry). first_seat at_book tt b (places books.maker_of main_thread b) main_thread) g.in_ok-new.ensures)
     g.in_ok-with_capacity.ensures.items g.in_ok-with_capacity.ensures.capacity
     (record {
-      joined = g.in_ok-with_capacity-2.ensures.items;
-      ports = g.in_ok-with_capacity-3.ensures.items;
-      desks = g.in_ok-with_capacity-4.ensures.items;
-      for_joined = g.in_ok-with_capacity-2.ensures.capacity;
-      for_ports = g.in_ok-with_capacity-3.ensures.capacity;
-      for_desks = g.in_ok-with_capacity-4.ensures.capacity;
+      joined = record { loopers = g.in_ok-with_capacity-2.ensures.items; ways = g.in_ok-with_capacity-3.ensures.items; short = g.in_ok-with_capacity-4.ensures.items };
+      ports = g.in_ok-with_capacity-5.ensures.items;
+      desks = g.in_ok-with_capacity-6.ensures.items;
+      for_joined = record {
+        loopers = room _ _ g.in_ok-with_capacity-2.ensures.items g.in_ok-with_capacity-2.ensures.capacity;
+        ways = room _ _ g.in_ok-with_capacity-3.ensures.items g.in_ok-with_capacity-3.ensures.capacity;
+        short = room _ _ g.in_ok-with_capacity-4.ensures.items g.in_ok-with_capacity-4.ensures.capacity;
+      };
+      for_ports = g.in_ok-with_capacity-5.ensures.capacity;
+      for_desks = g.in_ok-with_capacity-6.ensures.capacity;
     })

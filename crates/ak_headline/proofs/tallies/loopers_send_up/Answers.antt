@@ -1,0 +1,6 @@
+-- By what each turn adds, and since what is sent on goes to later loopers.
+use Rattle.ak_headline.proofs.LoopersTold.{loopers_send_up}
+use Rattle.ak_headline.proofs.tallies.loopers_send_up.Goals as goal
+
+pub returns : goal.returns
+returns c = loopers_send_up c.forwards_are_to_later_loopers.ensures.routed

@@ -1,0 +1,6 @@
+-- By what each act adds.
+use Rattle.ak_headline.proofs.MainTold.{main_tallies}
+use Rattle.ak_headline.proofs.tallies.main_tallies.Goals as goal
+
+pub returns : goal.returns
+returns c = main_tallies

@@ -1,0 +1,7 @@
+pub mod Letters
+pub mod Depths
+pub mod Pieces
+pub mod Words
+pub mod LineEnds
+pub mod OutcomeLines
+pub mod Surface
