@@ -13,9 +13,9 @@ use std::sync::{Arc, Wait};
 use std::thread::yield_now;
 
 // How often a mark is looked at before that is given up: for some seconds, and for a fraction of one.
-const LONG: u32 = 100_000;
+const LONG: u32 = 20_000;
 
-const SHORT: u32 = 5_000;
+const SHORT: u32 = 400;
 
 // Sets the mark, and wakes whoever waits for that.
 fn set(mark: &AtomicU64, value: u64) {
@@ -40,7 +40,7 @@ fn comes_to_be(mark: &AtomicU64, least: u64, looks: u32) -> bool {
         if mark.load(SeqCst) >= least {
             return true;
         }
-        for _ in 0..1000 {
+        for _ in 0..5000 {
             spin_loop();
         }
         yield_now();
