@@ -6,7 +6,6 @@ use crate::stage::{GET_COUNT, GET_TOTAL, told_of};
 use std::test::Fail;
 
 // ---- a property
-// ---- a property
 const ONE: &[u8] = b"app /boot/Demo application/x-demo single
 looper demo capacity 4
 property Count LONG
@@ -54,7 +53,6 @@ fn a_property_is_asked_for(rt: HostRuntime) -> Result<(), Fail> {
     Ok(())
 }
 
-// ---- an ask of an action
 // ---- an ask of an action
 const TWO: &[u8] = b"app /boot/Pair application/x-pair single
 looper first

@@ -58,7 +58,6 @@ fn two_loopers_post_to_each_other(rt: HostRuntime) -> Result<(), Fail> {
 }
 
 // ---- for ever
-// ---- for ever
 const GAME: &[u8] = b"app /boot/Game application/x-game single
 looper left
 on 'ball'

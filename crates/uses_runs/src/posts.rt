@@ -7,7 +7,6 @@ use ak_message::Target;
 use std::test::Fail;
 
 // ---- to another one, and to itself
-// ---- to another one, and to itself
 const POSTS: &[u8] = b"app /boot/Post application/x-post single
 looper first capacity 2
 on 'send'
@@ -81,7 +80,6 @@ fn a_post_waits_for_no_room(rt: HostRuntime) -> Result<(), Fail> {
     Ok(())
 }
 
-// ---- back
 // ---- back
 const BACK: &[u8] = b"app /boot/Back application/x-back single
 looper asker

@@ -6,7 +6,6 @@ use crate::stage::told_of;
 use std::test::Fail;
 
 // ---- asked to
-// ---- asked to
 const ASKED: &[u8] = b"app /boot/Quit application/x-quit single
 looper stays
 hook quit refuse
@@ -69,7 +68,6 @@ fn a_looper_may_refuse_to_quit(rt: HostRuntime) -> Result<(), Fail> {
     Ok(())
 }
 
-// ---- an own looper takes its team along
 // ---- an own looper takes its team along
 const TEAM: &[u8] = b"app /boot/Team application/x-team single
 looper own
@@ -238,7 +236,6 @@ fn a_looper_is_told_by_its_port(rt: HostRuntime) -> Result<(), Fail> {
     Ok(())
 }
 
-// ---- by a reaction
 // ---- by a reaction
 const REACTS: &[u8] = b"app /boot/React application/x-react single
 looper asker
