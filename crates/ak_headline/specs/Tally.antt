@@ -85,7 +85,7 @@ pub record Tally (n : ℕ) (entries : List EntryData) (left : List Taken) (steps
   pub filled : how_many (at_slot (fills n)) steps ≤ kept_in n entries + owing_in n left
   pub settled : (how_many (at_slot (fills n)) steps ≡ kept_in n entries + owing_in n left) ⊎ Any (IsSettled n) (book_sights steps)
 
--- an ask takes after its own opening: the thread took from no slot but those that it opened
+-- where the thread takes nothing from the slot, it writes no item that owes it to a looper up to that number
 abbrev pub SendsUp : ℕ → ℕ → List EntryData → List Step → Type 0
 SendsUp n number entries steps = (looper : ℕ) → looper ≤ number → how_many (at_slot (takes n)) steps ≡ 0 → how_many (sends_to n looper) steps ≡ 0
 

@@ -15,8 +15,7 @@ pub fn loopers_tally()
     ak_route::forwards_are_to_later_loopers();
 }
 
-/// What a looper writes with a slot for which it did not ask is a message that it sends on, to a looper of a greater
-/// number.
+/// What a looper writes with a slot from which it takes nothing goes to a looper of a greater number.
 pub fn loopers_send_up()
     ensures { diaries.LoopersSendUp }
 {
