@@ -24,7 +24,8 @@ pub fn loopers_send_up()
 
 /// What a looper fills a slot with is the text of the reply that the rules make for the item that owes it, with the
 /// handlers as its desk's list makes them there, or of the error in its place where it is too long. It is the text of
-/// no reply where there was no memory for that text, and for an item that was left.
+/// no reply where there was no memory for that text, which is so at its last dispatch alone, and for an item that was
+/// left.
 pub fn loopers_pay()
     ensures { diaries.LoopersPay }
 {}
