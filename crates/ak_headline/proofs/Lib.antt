@@ -4,6 +4,7 @@ pub mod Asking
 pub mod Counting
 pub mod Counts
 pub mod Filling
+pub mod LastTurn
 pub mod Later
 pub mod Lists
 pub mod Loopers

@@ -83,10 +83,13 @@ module _ (l : LooperFacts) (steps : List Step) (port : List PortEntry) (desk : L
   abbrev answers : List Step
   answers = has.legal.ends.answers
 
+  pub work_entries : desk_entries l.number steps ≡ desk_entries l.number work
+  work_entries =
+      ap (desk_entries l.number) (has.legal.is ∙ ap (λ s. work ++ s) has.legal.ends.is) ∙ flat_map-append (desk_entry l.number) work (at_port l.number rest ∷ answers)
+      ∙ ap (λ k. desk_entries l.number work ++ k) (leaves_at_no_desk l.number (left_at l work rest) answers has.legal.ends.leaves) ∙ append-nil (desk_entries l.number work)
+
   pub work_list : desk_list l steps ≡ desk_list l work
-  work_list =
-      ap (desk_list l) (has.legal.is ∙ ap (λ s. work ++ s) has.legal.ends.is) ∙ list_both l work (at_port l.number rest ∷ answers)
-      ∙ ap (λ k. desk_list l work ++ map entry_of k) (leaves_at_no_desk l.number (left_at l work rest) answers has.legal.ends.leaves) ∙ append-nil (desk_list l work)
+  work_list = ap (map entry_of) work_entries
 
   -- its own entries are those of its work
   pub own_list : made_by by_number (looper_thread l.desk.looper) desk ≡ desk_list l work

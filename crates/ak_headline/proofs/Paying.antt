@@ -1,15 +1,18 @@
 -- A looper's diary, turn after turn: each slot that it fills it fills with what the rules make for the item that owes it, or with the text of no reply.
-use Rattle.std.proofs.Common.{◌≡◌, ◌⊎◌, ℕ, ◌≤◌, Bool, true, false, List, [], ◌∷◌, ◌++◌, Option, None, Some, refl, sym, ap, ◌∙◌, subst, inl, inr, append_assoc, eq-eqb, ⊎_elim}
+use Rattle.std.proofs.Common.{◌≡◌, ◌⊎◌, ℕ, ◌≤◌, Bool, true, false, List, [], ◌∷◌, ◌++◌, Option, None, Some, All, refl, sym, ap, ◌∙◌, subst, inl, inr, append_assoc, eq-eqb, ⊎_elim}
 use Rattle.std.specs.Prelude.{◌||◌, Contains, option_map}
+use Rattle.std.proofs.lemmas.Bool.{false≢true}
 use Rattle.std.proofs.lemmas.Grind.{flat_map-append}
 use Rattle.std.proofs.lemmas.List.Elements.{All-contains, Contains-append_left, Contains-append_right, Contains-push}
 use Rattle.std.proofs.lemmas.List.Folds.{list_any-append}
+use Rattle.ak_base.specs.Thread.{looper_thread}
 use Rattle.ak_message.specs.Message.{MessageData}
 use Rattle.ak_flatten.specs.declared.item.Duty.{Duty}
 use Rattle.ak_flatten.specs.declared.item.Duty.TheVariants as duty
 use Rattle.ak_flatten.specs.declared.item.Taken.{Taken}
 use Rattle.ak_flatten.specs.Item.{ItemData}
 use Rattle.ak_flatten.specs.Spelling.{spelling}
+use Rattle.ak_turn.specs.Entries.{AreByOthers}
 use Rattle.ak_turn.specs.Noted.{Noted, StandsIn, noted}
 use Rattle.ak_turn.proofs.Surface.{noted_stands}
 use Rattle.ak_port.specs.declared.port_entry.PortEntry.{PortEntry}
@@ -28,13 +31,13 @@ use Rattle.ak_desk.specs.declared.made.Made.{Made}
 use Rattle.ak_desk.specs.Desk.{dispatched_entry, given_up_entry}
 use Rattle.ak_desk.specs.Dispatch.{entry_route, fitting}
 use Rattle.ak_desk.specs.Entry.{EntryData}
-use Rattle.ak_desk.specs.Machine.{IsHistory, Replies, StepReplies}
+use Rattle.ak_desk.specs.Machine.{IsHistory, Replies, StepReplies, dispatches}
 use Rattle.ak_desk.specs.Place.{routed_of}
 use Rattle.ak_desk.specs.Replies.{none_reply}
 use Rattle.ak_desk.specs.Shared.{by_number}
-use Rattle.ak_diary.specs.Diary.{Works, begun, went_on}
+use Rattle.ak_diary.specs.Diary.{IsTurn, Works, begun, went_on}
 use Rattle.ak_diary.specs.Laws.{HasDiary, left_in}
-use Rattle.ak_diary.specs.Looper.{LooperFacts, thread_of}
+use Rattle.ak_diary.specs.Looper.{LooperFacts, is_closing, thread_of}
 use Rattle.ak_diary.specs.Step.{Step, at_desk, at_port, book_entries, desk_entries, desk_entry, is_lack, ran_short}
 use Rattle.ak_diary.specs.Turns as turns
 use Rattle.ak_diary.specs.Turns.{Carried, ComesTo, GivenUp, IsDispatch, IsEnd, IsTake, Pays, Settles, WritesText, lacked_if, left_at}
@@ -42,17 +45,15 @@ use Rattle.ak_headline.specs.Answers.{owes}
 use Rattle.ak_headline.specs.Diaries.{LoopersPay}
 use Rattle.ak_headline.specs.Tally.{PaidForDispatch, at_slot, how_many, was_sent_on}
 use Rattle.ak_headline.proofs.Filling.{FillsSo, ForLeft, IsFillSo, fills_both, fills_more, fills_none, leaves_fill, pays_fill, uncounted}
+use Rattle.ak_headline.proofs.LastTurn.{none_dispatched, or_true, others_behind, short_closes}
 use Rattle.ak_headline.proofs.Lists.{same_last}
-use Rattle.ak_headline.proofs.LoopersTold.{turn_enters}
+use Rattle.ak_headline.proofs.LoopersTold.{turn_enters, work_entries}
 use Rattle.ak_headline.proofs.Owing.{add_closes_if, settles_none, text_idle, told_some}
 use Rattle.ak_headline.proofs.OwnWants.{IsReplied}
+use Rattle.ak_headline.proofs.SendsTold.{IsOwnEntry, all_own}
 use Rattle.ak_headline.proofs.SentOn.{Goes, comes_goes, entry_is_of, on, stays}
 
 -- ---- memory
-or_true : (b : Bool) → (b || true) ≡ true
-or_true true = refl
-or_true false = refl
-
 short_left : (xs ys : List Step) → ran_short xs ≡ true → ran_short (xs ++ ys) ≡ true
 short_left xs ys e = list_any-append is_lack xs ys ∙ ap (λ b. b || ran_short ys) e
 
@@ -126,15 +127,17 @@ module _ (opening : DeskState) (taken : Taken) (asked : List Want) (heard : List
       ⊎_elim (λ (c : Carried opening taken asked heard made x). carried_replies some c) (λ (c : GivenUp opening taken asked heard made x). given_up_replies c) comes
 
 -- ---- the text
--- it is that of the reply, unless there was no memory for it
-text_so : (short : Bool) (owed : Duty) (reply : MessageData) (made told : Option MessageData) (m : MessageData) (text : List Step) → made ≡ Some (fitting reply) → told ≡ Some m
-    → (ran_short text ≡ true → short ≡ true) → WritesText owed made told text → (spelling m ≡ spelling (fitting reply)) ⊎ ((short ≡ true) × (spelling m ≡ none_text))
-text_so short owed reply made _ m _ is told short_if turns.with_memory =
+-- it is that of the reply, unless there was no memory for it; then no dispatch is behind it
+text_so : (short : Bool) (behind : List EntryData) (owed : Duty) (reply : MessageData) (made told : Option MessageData) (m : MessageData) (text : List Step) → made ≡ Some (fitting reply)
+    → told ≡ Some m → (ran_short text ≡ true → (short ≡ true) × (dispatches behind ≡ 0)) → WritesText owed made told text
+    → (spelling m ≡ spelling (fitting reply)) ⊎ ((short ≡ true) × (dispatches behind ≡ 0) × (spelling m ≡ none_text))
+text_so short behind owed reply made _ m _ is told last_if turns.with_memory =
     let same : m ≡ fitting reply = cc in
     inl (ap spelling same)
-text_so short owed reply made _ m _ is told short_if (turns.without wants) =
+text_so short behind owed reply made _ m _ is told last_if (turns.without wants) =
     let same : m ≡ none_reply = cc in
-    inr (short_if refl, ap spelling same)
+    let last = last_if refl in
+    inr (last.0, last.1, ap spelling same)
 
 -- ---- what follows the entry
 module _ (P : ℕ → List ℕ → Type 0) (l : LooperFacts) (so_far : List Step) (owed : Duty) (reply : Option MessageData) (steps : List Step) (s : Settles l so_far owed reply steps) where
@@ -167,7 +170,7 @@ module _ (l : LooperFacts) (desk : List EntryData) (short : Bool) where
   middle_fills x true = refl
   middle_fills x false = refl
 
-  module _ (so_far turn : List Step) (d : IsDispatch l so_far turn) (stands : StandsIn desk d.noted) (short_if : ran_short turn ≡ true → short ≡ true) where
+  module _ (so_far turn : List Step) (d : IsDispatch l so_far turn) (stands : StandsIn desk d.noted) (last_if : ran_short turn ≡ true → (short ≡ true) × (dispatches stands.0 ≡ 0)) where
     abbrev middle : List Step
     middle = at_desk l.number d.noted ∷ lacked_if d.made.no_memory
 
@@ -199,8 +202,8 @@ module _ (l : LooperFacts) (desk : List EntryData) (short : Bool) where
           reply = so.reply;
           replies = so.replies;
           text_is =
-              text_so short d.taken.item.duty so.reply d.made.reply d.settles.told m d.settles.text so.made_is told
-              (λ e. short_if (ap ran_short d.is ∙ short_right (d.served ++ middle) d.settled (short_in_text ForDispatch l before_it d.taken.item.duty d.made.reply d.settled d.settles e)))
+              text_so short stands.0 d.taken.item.duty so.reply d.made.reply d.settles.told m d.settles.text so.made_is told
+              (λ e. last_if (ap ran_short d.is ∙ short_right (d.served ++ middle) d.settled (short_in_text ForDispatch l before_it d.taken.item.duty d.made.reply d.settled d.settles e)))
               d.settles.writes;
         }
 
@@ -223,22 +226,35 @@ module _ (l : LooperFacts) (desk : List EntryData) (short : Bool) where
   abbrev pub AllStand : List Step → Type 0
   AllStand steps = (x : Noted EntryData) → Contains (desk_entries l.number steps) x → StandsIn desk x
 
-  pub work_fills : (work : List Step) → Works l work → AllStand work → (ran_short work ≡ true → short ≡ true) → FillsSo ForDispatch work
-  work_fills _ begun stand short_if = fills_none ForDispatch [] refl
-  work_fills _ (went_on so_far turn works does) stand short_if =
+  -- where the last turn is a dispatch that finds no memory, no dispatch stands behind its entry
+  abbrev pub IsLast : List Step → Type 0
+  IsLast work =
+      (so_far turn : List Step) (d : IsDispatch l so_far turn) (stands : StandsIn desk d.noted) → work ≡ so_far ++ turn → ran_short turn ≡ true → (short ≡ true) × (dispatches stands.0 ≡ 0)
+
+  turn_works : (so_far turn : List Step) → IsTurn l so_far turn → is_closing so_far ≡ false
+  turn_works so_far turn does = ⊎_elim (λ (t : IsTake l so_far turn). t.works) (λ (d : IsDispatch l so_far turn). d.works) does
+
+  -- a turn before another one found memory
+  none_before : (so_far turn : List Step) → IsTurn l so_far turn → IsLast so_far
+  none_before so_far turn does first next d stands is short_next =
+      absurd (false≢true (sym (turn_works so_far turn does) ∙ short_closes so_far (ap ran_short is ∙ short_right first next short_next)))
+
+  pub work_fills : (work : List Step) → Works l work → AllStand work → IsLast work → FillsSo ForDispatch work
+  work_fills _ begun stand last = fills_none ForDispatch [] refl
+  work_fills _ (went_on so_far turn works does) stand last =
       let parts = flat_map-append (desk_entry l.number) so_far turn in
       fills_both ForDispatch so_far turn (so_far ++ turn)
       (work_fills so_far works
       (λ x there. stand x (subst (λ (k : List (Noted EntryData)). Contains k x) (sym parts) (Contains-append_left (desk_entries l.number so_far) (desk_entries l.number turn) x there)))
-      (λ e. short_if (short_left so_far turn e)))
+      (none_before so_far turn does))
       (⊎_elim (λ (t : IsTake l so_far turn). take_fills so_far turn t)
       (λ (d : IsDispatch l so_far turn).
-      dispatch_fills so_far turn d
-      (stand d.noted
+      let stands =
+      stand d.noted
       (subst (λ (k : List (Noted EntryData)). Contains k d.noted) (sym parts)
       (Contains-append_right (desk_entries l.number so_far) (desk_entries l.number turn) d.noted
-      (subst (λ (k : List (Noted EntryData)). Contains k d.noted) (sym (turn_enters l so_far turn d)) (Contains-push [] d.noted)))))
-      (λ e. short_if (short_right so_far turn e))) does)
+      (subst (λ (k : List (Noted EntryData)). Contains k d.noted) (sym (turn_enters l so_far turn d)) (Contains-push [] d.noted)))) in
+      dispatch_fills so_far turn d stands (λ e. last so_far turn d stands refl e)) does)
       refl
 
 module _ (l : LooperFacts) (steps : List Step) (port : List PortEntry) (desk : List EntryData) (has : HasDiary l steps port desk) where
@@ -254,6 +270,18 @@ module _ (l : LooperFacts) (steps : List Step) (port : List PortEntry) (desk : L
       (subst (λ (k : List (Noted EntryData)). Contains k x) (sym (ap (desk_entries l.number) has.legal.is ∙ flat_map-append (desk_entry l.number) work has.legal.end))
       (Contains-append_left (desk_entries l.number work) (desk_entries l.number has.legal.end) x there))
 
+  last_in_work : IsLast l desk (ran_short steps) work
+  last_in_work so_far turn d stands is short =
+      let told : noted by_number (thread_of l) desk ≡ desk_entries l.number so_far ++ d.noted ∷ [] =
+      has.desk_told ∙ work_entries l steps port desk has ∙ ap (desk_entries l.number) is ∙ flat_map-append (desk_entry l.number) so_far turn
+      ∙ ap (λ k. desk_entries l.number so_far ++ k) (turn_enters l so_far turn d) in
+      let others = others_behind by_number (thread_of l) desk (desk_entries l.number so_far) d.noted stands.0 stands.1 told in
+      let own = all_own l.desk.looper 0 l.desk desk has.desk_legal.state has.desk_legal.history.replays in (
+        ap ran_short has.legal.is ∙ short_left work has.legal.end (ap ran_short is ∙ short_right so_far turn short),
+        none_dispatched l.desk.looper (d.noted.before ++ d.noted.entry ∷ []) stands.0 (subst (All (IsOwnEntry l.desk.looper)) stands.1 own)
+            (subst (λ (k : ℕ). AreByOthers by_number (looper_thread k) stands.0) (sym has.own_desk) others),
+      )
+
   abbrev ForAny : ℕ → List ℕ → Type 0
   ForAny n text = PaidForDispatch l.desk n desk (ran_short steps) text ⊎ ForLeft (left_in l steps has.legal) n text
 
@@ -263,7 +291,7 @@ module _ (l : LooperFacts) (steps : List Step) (port : List PortEntry) (desk : L
       let left = left_in l steps has.legal in
       fills_both ForAny work has.legal.end steps
       (fills_more (ForDispatch l desk (ran_short steps)) ForAny work (λ n text p. inl p)
-      (work_fills l desk (ran_short steps) work has.legal.works stands_in_work (λ s. ap ran_short has.legal.is ∙ short_left work has.legal.end s)))
+      (work_fills l desk (ran_short steps) work has.legal.works stands_in_work last_in_work))
       (fills_both ForAny (at_port l.number e.noted ∷ []) e.answers has.legal.end (fills_none ForAny (at_port l.number e.noted ∷ []) refl)
       (fills_more (ForLeft left) ForAny e.answers (λ n text p. inr p) (leaves_fill left e.answers e.leaves)) e.is) has.legal.is
 

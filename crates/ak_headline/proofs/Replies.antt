@@ -27,7 +27,7 @@ use Rattle.ak_desk.specs.declared.entry.EntryRoute.TheVariants as went
 use Rattle.ak_desk.specs.Dispatch.{fitting}
 use Rattle.ak_desk.specs.Entry.{EntryData}
 use Rattle.ak_desk.specs.Laws.{ForwardTellsReply, StateIsOne, reply_of_error}
-use Rattle.ak_desk.specs.Machine.{Replies, StepReplies}
+use Rattle.ak_desk.specs.Machine.{Replies, StepReplies, dispatches}
 use Rattle.ak_diary.specs.declared.histories.Histories.{Histories}
 use Rattle.ak_diary.specs.Laws.{AcceptedIsDispatchedThenLeft, EachIsDispatchedByRule, IsAccountedFor, IsDispatchedSo, WasGivenUp, WentByRule, dispatched_items, left_in}
 use Rattle.ak_diary.specs.Looper.{LooperFacts, thread_of}
@@ -37,6 +37,7 @@ use Rattle.ak_headline.specs.Run.{HasLooper, desk_list, port_list}
 use Rattle.ak_headline.specs.Diaries.{LoopersPay}
 use Rattle.ak_headline.specs.Sends.{sent_to}
 use Rattle.ak_headline.specs.Tally.{PaidForDispatch, PaidForLeft, owes_entry, owes_event, sent_on_event, was_sent_on}
+use Rattle.ak_headline.proofs.LastTurn.{last_dispatch}
 use Rattle.ak_headline.proofs.Resting.{RestsAt}
 use Rattle.ak_headline.proofs.Senders.{parted_at, parted_in}
 use Rattle.ak_headline.proofs.Written.{DispatchedAt, dispatched_at, get_parts, get_second, position_is}
@@ -249,7 +250,9 @@ module _ (all : AcceptedIsDispatchedThenLeft) (law : EachIsDispatchedByRule) (on
           accepted = record { accepted = its.accepted; owed = is_slot n its.item.duty owed };
           by_rule =
               ⊎_elim (λ (is : text ≡ spelling (fitting p.reply)). to_dispatched p.reply dispatch is)
-              (λ (is : (ran_short has.steps ≡ true) × (text ≡ none_text)). without_memory p.reply dispatch (is_short short k (sym has.short_is ∙ is.0)) is.1) p.text_is;
+              (λ (is : (ran_short has.steps ≡ true) × (dispatches p.behind ≡ 0) × (text ≡ none_text)).
+              without_memory p.reply dispatch (ap dispatches p.there ∙ last_dispatch p.before p.entry p.behind p.position p.route p.words p.quit p.event_is its.position_is is.1)
+              (is_short short k (sym has.short_is ∙ is.0)) is.2) p.text_is;
           rests = inl (record {
             before = p.before;
             entry = p.entry;

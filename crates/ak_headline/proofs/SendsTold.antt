@@ -200,10 +200,10 @@ sent_own : (e : DeskEvent) (b : Bool) → sent_on_event e ≡ true → IsOwn e b
 sent_own (event.Dispatched position r words quit) b is own = own
 sent_own (event.Edited edit answer) b is own = absurd (false≢true is)
 
-abbrev IsOwnEntry : ℕ → EntryData → Type 0
+abbrev pub IsOwnEntry : ℕ → EntryData → Type 0
 IsOwnEntry looper x = IsOwn x.plain.event (by_number x == looper_thread looper)
 
-all_own : (looper n : ℕ) (s : DeskState) (entries : List EntryData) (t : DeskState) → Replays looper n s entries t → All (IsOwnEntry looper) entries
+pub all_own : (looper n : ℕ) (s : DeskState) (entries : List EntryData) (t : DeskState) → Replays looper n s entries t → All (IsOwnEntry looper) entries
 all_own looper n s [] t e = All-nil (IsOwnEntry looper)
 all_own looper n s (x ∷ entries) t (u, (step, rest)) =
     All-cons (IsOwnEntry looper) x entries (is_own looper x.plain.by.0 x.plain.event step.by) (all_own looper (counted n x.plain.event) u entries t rest)

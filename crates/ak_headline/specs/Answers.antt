@@ -1,5 +1,5 @@
 -- Waiting sends, and the replies that they got.
-use Rattle.std.specs.Prelude.{◌≡◌, ◌<◌, ◌≤◌, ◌==◌, ◌⊎◌, ℕ, Bool, false, List, [], ◌∷◌, ◌++◌, Contains, filter, Option, None, Some, option_map, slice_get}
+use Rattle.std.specs.Prelude.{◌≡◌, ◌<◌, ◌≤◌, ◌==◌, ◌⊎◌, ℕ, suc, Bool, false, List, [], ◌∷◌, ◌++◌, Contains, filter, Option, None, Some, option_map, slice_get}
 use Rattle.ak_base.specs.Thread.{looper_thread}
 use Rattle.ak_message.specs.Message.{MessageData}
 use Rattle.ak_flatten.specs.declared.item.Duty.{Duty}
@@ -109,8 +109,9 @@ pub record IsSameMessage (asked item : ItemData) : Type 0 where
 pub data IsAnswerTo (h : Histories) (short : List ℕ) (looper position : ℕ) (item : ItemData) (text : List ℕ) : Type 0 where
   -- it was dispatched, and the text is that of the reply, or of the error in its place where it is too long
   to_dispatched : (reply : MessageData) → IsDispatchOf h looper position item (Some reply) → text ≡ spelling (fitting reply) → IsAnswerTo h short looper position item text
-  -- there was no memory for that text, which the looper's end tells
-  without_memory : (reply : MessageData) → IsDispatchOf h looper position item (Some reply) → Contains short looper → text ≡ none_text → IsAnswerTo h short looper position item text
+  -- there was no memory for that text, which the looper's end tells; it was its last dispatch
+  without_memory : (reply : MessageData) → IsDispatchOf h looper position item (Some reply) → dispatches (desk_list h looper) ≡ suc position → Contains short looper → text ≡ none_text
+      → IsAnswerTo h short looper position item text
   -- it was left
   to_left : dispatches (desk_list h looper) ≤ position → text ≡ none_text → IsAnswerTo h short looper position item text
 

@@ -30,7 +30,7 @@ EachLooper h P = Each P 0 h.ports.items h.desks.items
 abbrev pub IsAccounted : ℕ → PortData → DeskData → Type 0
 IsAccounted number port desk = (l : LooperFacts) × (steps : List Step) × (diary : IsDiary l steps) × (l.number ≡ number) × IsAccountedFor l steps diary port.entries desk.entries
 
--- each was dispatched, under its desk's lock, as the routing rules say for the looper's handlers at that moment
+-- each was dispatched, by an entry of its desk's one list, as the routing rules say for the looper's handlers at that moment
 abbrev pub IsByRule : ℕ → PortData → DeskData → Type 0
 IsByRule number port desk =
     (l : LooperFacts) × (l.number ≡ number) × (l.desk ≡ desk.opening)

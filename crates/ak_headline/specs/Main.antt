@@ -68,7 +68,7 @@ pub data IsAct (steps : List Step) : Type 0 where
   finds_shut : (looper : ℕ) → FindsShut looper steps → IsAct steps
   -- it edited the handlers of a looper
   edits : (looper : ℕ) → EntersEdit looper steps → IsAct steps
-  -- it made one entry at the roster, or found that a team is gone
+  -- it made one entry at the roster, or made none there
   enters_roster : (noted : Noted RosterEntry) → MayEnterRoster noted.entry.event → steps ≡ at_roster noted ∷ [] → IsAct steps
   finds_gone : (seen : List RosterEntry) → steps ≡ saw_roster seen ∷ [] → IsAct steps
 

@@ -44,7 +44,7 @@ pub record HasDone (h : Histories) (thread : ℕ) (steps : List Step) : Type 0 w
   pub at_ports : (looper : ℕ) → noted ports.by_number thread (port_list h looper) ≡ port_entries looper steps
   pub book_seen : All (StartsWith h.book) (book_sights steps)
 
--- the launch that started the looper's team
+-- a team was started with these numbers
 abbrev pub StartedTeam : LooperFacts → RosterEntry → Type 0
 StartedTeam l entry =
     (word : AppWord) × (place : ℕ) × (entry.event ≡ roster_event.Launch word (launch.Started place l.team l.first)) × (loopers_at l.heads place ≡ l.loopers)

@@ -21,7 +21,7 @@ use Rattle.ak_desk.specs.declared.entry.EntryRoute.{EntryRoute}
 use Rattle.ak_desk.specs.declared.entry.EntryRoute.TheVariants as went
 use Rattle.ak_desk.specs.Dispatch.{fitting}
 use Rattle.ak_desk.specs.Entry.{EntryData}
-use Rattle.ak_desk.specs.Machine.{IsHistory, StepReplies}
+use Rattle.ak_desk.specs.Machine.{IsHistory, StepReplies, dispatches}
 use Rattle.ak_diary.specs.Step.{Step, at_book, at_port, book_entries, book_sights, ran_short}
 use Rattle.ak_headline.specs.Answers.{cancels, opens, owes}
 
@@ -85,12 +85,13 @@ pub record Tally (n : ℕ) (entries : List EntryData) (left : List Taken) (steps
   pub filled : how_many (at_slot (fills n)) steps ≤ kept_in n entries + owing_in n left
   pub settled : (how_many (at_slot (fills n)) steps ≡ kept_in n entries + owing_in n left) ⊎ Any (IsSettled n) (book_sights steps)
 
--- an ask takes after its own opening: the thread took from no slot but those that it opened
+-- where the thread takes nothing from the slot, it writes no item that owes it to a looper up to that number
 abbrev pub SendsUp : ℕ → ℕ → List EntryData → List Step → Type 0
 SendsUp n number entries steps = (looper : ℕ) → looper ≤ number → how_many (at_slot (takes n)) steps ≡ 0 → how_many (sends_to n looper) steps ≡ 0
 
 -- ---- what was paid
--- the slot was filled with that text for a dispatch, or for an item that was left
+-- The slot was filled with that text for a dispatch, or for an item that was left. Where there was no memory for the text of a dispatch, none
+-- was dispatched behind it; others' edits may stand there
 pub record PaidForDispatch (opening : DeskState) (n : ℕ) (entries : List EntryData) (short : Bool) (text : List ℕ) : Type 0 where
   pub before : List EntryData
   pub entry : EntryData
@@ -109,7 +110,7 @@ pub record PaidForDispatch (opening : DeskState) (n : ℕ) (entries : List Entry
   pub leads_there : IsHistory opening before meets
   pub reply : MessageData
   pub replies : StepReplies meets route (Some item) words (Some reply)
-  pub text_is : (text ≡ spelling (fitting reply)) ⊎ ((short ≡ true) × (text ≡ none_text))
+  pub text_is : (text ≡ spelling (fitting reply)) ⊎ ((short ≡ true) × (dispatches behind ≡ 0) × (text ≡ none_text))
 
 pub record PaidForLeft (n : ℕ) (left : List Taken) (text : List ℕ) : Type 0 where
   pub taken : Taken

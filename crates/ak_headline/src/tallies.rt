@@ -15,8 +15,7 @@ pub fn loopers_tally()
     ak_route::forwards_are_to_later_loopers();
 }
 
-/// What a looper writes with a slot for which it did not ask is a message that it sends on, to a looper of a greater
-/// number.
+/// What a looper writes with a slot from which it takes nothing goes to a looper of a greater number.
 pub fn loopers_send_up()
     ensures { diaries.LoopersSendUp }
 {
@@ -25,7 +24,8 @@ pub fn loopers_send_up()
 
 /// What a looper fills a slot with is the text of the reply that the rules make for the item that owes it, with the
 /// handlers as its desk's list makes them there, or of the error in its place where it is too long. It is the text of
-/// no reply where there was no memory for that text, and for an item that was left.
+/// no reply where there was no memory for that text, which is so at its last dispatch alone, and for an item that was
+/// left.
 pub fn loopers_pay()
     ensures { diaries.LoopersPay }
 {}
