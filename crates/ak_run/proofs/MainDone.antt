@@ -1,11 +1,11 @@
--- At the end main's diary has all that main did.
-use Rattle.std.proofs.Common.{◌≡◌, ◌≢◌, ℕ, zero, suc, List, [], ◌∷◌, ◌++◌, map, All, sym, refl, ap, ◌∙◌, subst, append-nil, arith}
-use Rattle.std.proofs.lemmas.List.{map-append}
+-- At the end main's diary has all that main did, and the lists go on from what main had seen.
+use Rattle.std.proofs.Common.{◌≡◌, ◌≢◌, ℕ, zero, suc, List, [], ◌∷◌, ◌++◌, length, map, All, sym, refl, ap, ◌∙◌, subst, append-nil, arith}
+use Rattle.std.proofs.lemmas.List.{length-map, map-append}
 use Rattle.std.proofs.lemmas.List.Elements.{All-cons, All-head, All-map, All-tail, All-weaker}
 use Rattle.std.specs.Prelude.{option_map, slice_get, unwrap_or}
 use Rattle.ak_base.specs.Thread.{main_thread}
 use Rattle.ak_turn.specs.Entries.{AreByOthers}
-use Rattle.ak_turn.specs.Noted.{noted}
+use Rattle.ak_turn.specs.Noted.{Noted, noted}
 use Rattle.ak_turn.specs.Seats.{IsGiven, SeatData}
 use Rattle.ak_turn.proofs.Surface.{noted-others}
 use Rattle.ak_roster.specs.declared.entry.EntryWithObjects.{EntryWithObjects}
@@ -20,15 +20,19 @@ use Rattle.ak_port.specs.ReplySeats as at_books
 use Rattle.ak_port.specs.ReplySeats.{ReplySeat}
 use Rattle.ak_desk.specs.Desk.{DeskData}
 use Rattle.ak_diary.specs.declared.histories.Histories.{Histories}
-use Rattle.ak_diary.specs.Step.{Step, book_sights}
-use Rattle.ak_headline.specs.Run.{HasDone}
+use Rattle.ak_diary.specs.Step.{Step, book_sights, port_entries}
+use Rattle.ak_headline.specs.Run.{HasDone, port_list}
 use Rattle.ak_looper.specs.declared.kept_door.KeptDoor.{KeptDoor}
 use Rattle.ak_looper.specs.Rosters.{Object, RosterSeat, by_number, maker_of, plain_of}
 use Rattle.ak_run.specs.declared.gathering.Joined.{Joined}
 use Rattle.ak_run.specs.declared.run.Run.{Run}
+use Rattle.ak_run.specs.Ending.{EndsAs}
 use Rattle.ak_run.specs.Gathering.{AreBooksOf, AreGaining, GoesOnKnowing, IsGaining, IsJoined, IsRosterOf, joined_front}
 use Rattle.ak_run.specs.Recording.{EndsByOthers, Fronts, HasMainDiary, HasRecord, IsRecorded, PortsEndByOthers, fronts_of, list_at, member_front}
+use Rattle.ak_run.specs.Starting.{GoesOn}
 use Rattle.ak_run.proofs.Acts.{seen_still}
+use Rattle.ak_run.proofs.RosterTurn.{plain-append}
+use Rattle.ak_run.proofs.Standing.{starts_then_starts}
 
 -- what main did is in what its seat has seen
 module _ {L : Type 0} (by : L → ℕ) where
@@ -92,19 +96,60 @@ roster_ends seat roster main of = record {
   others = All-map (λ (entry : RosterEntry). maker_of entry ≢ main_thread) (λ (entry : EntryWithObjects Object). entry.plain) of.between (subst (λ (t : ℕ). AreByOthers by_number t of.between) main of.others);
 }
 
+-- behind what main's seats had seen others alone made entries
+pub record EndsByAllOthers (r : Run) (h : Histories) : Type 0 where
+  pub roster : EndsByOthers maker_of (plain_of r.roster_seat) h.roster.items
+  pub book : EndsByOthers at_books.maker_of r.hands.book_seat.front h.book
+  pub ports : PortsEndByOthers (map member_front r.members.items ++ []) h.ports.items
+
 -- main's seats saw nothing more while the threads were joined
-pub run_done : (r : Run) → HasRecord (fronts_of r) → (heads : List AppHead) (main : RosterSeat) (at_book : ReplySeat) (roster : RosterData KeptDoor Object) (book : List ReplyEntry) (js last : List Joined) (h : Histories) → GoesOnKnowing r.roster_seat main → GoesOnKnowing r.hands.book_seat at_book
+pub ends_by_others : (r : Run) (heads : List AppHead) (main : RosterSeat) (at_book : ReplySeat) (roster : RosterData KeptDoor Object) (book : List ReplyEntry) (js last : List Joined) (h : Histories) → GoesOnKnowing r.roster_seat main → GoesOnKnowing r.hands.book_seat at_book
     → All (IsJoined heads main at_book) js → map joined_front js ≡ map member_front r.members.items → AreGaining js last → AreBooksOf last h.ports.items h.desks.items → IsRosterOf main roster → (at_book.thread ≡ main_thread → EndsByOthers at_books.maker_of at_book.front book)
-    → h.roster.items ≡ plain_entries roster.entries → h.book ≡ book → HasMainDiary h
-run_done r has heads main at_book roster book js last h roster_on book_on joined same gains kept of ends h_roster h_book =
+    → h.roster.items ≡ plain_entries roster.entries → h.book ≡ book → EndsByAllOthers r h
+ends_by_others r heads main at_book roster book js last h roster_on book_on joined same gains kept of ends h_roster h_book =
     let by_main : main.thread ≡ main_thread = roster_on.thread ∙ r.roster_thread ∙ r.main in
-    let at_roster : EndsByOthers maker_of (plain_of r.roster_seat) h.roster.items =
-    subst (EndsByOthers maker_of (plain_of r.roster_seat)) (sym h_roster)
-    (subst (λ (l : List (EntryWithObjects Object)). EndsByOthers maker_of (plain_entries l) (plain_entries roster.entries)) roster_on.front (roster_ends main roster by_main of)) in
-    let at_the_book : EndsByOthers at_books.maker_of r.hands.book_seat.front h.book =
-    subst (EndsByOthers at_books.maker_of r.hands.book_seat.front) (sym h_book) (subst (λ (l : List ReplyEntry). EndsByOthers at_books.maker_of l book) book_on.front (ends (book_on.thread ∙ r.hands.thread ∙ r.main))) in
     let still = fronts_still js last gains in
     let mains : All IsMains last = still.1 (All-weaker (IsJoined heads main at_book) IsMains (λ j is. is.by_main) js joined) in
-    let at_all : PortsEndByOthers (map member_front r.members.items ++ []) h.ports.items =
-    subst (λ (l : List (List PortEntry)). PortsEndByOthers l h.ports.items) (still.0 ∙ same ∙ sym (append-nil (map member_front r.members.items))) (ports_end last h.ports.items h.desks.items mains kept) in
-    record { main = has.did; main_diary = has.recorded.diary; main_done = main_done has.did (fronts_of r) h has.recorded at_roster at_the_book at_all }
+    record {
+      roster =
+          subst (EndsByOthers maker_of (plain_of r.roster_seat)) (sym h_roster)
+          (subst (λ (l : List (EntryWithObjects Object)). EndsByOthers maker_of (plain_entries l) (plain_entries roster.entries)) roster_on.front (roster_ends main roster by_main of));
+      book =
+          subst (EndsByOthers at_books.maker_of r.hands.book_seat.front) (sym h_book)
+          (subst (λ (l : List ReplyEntry). EndsByOthers at_books.maker_of l book) book_on.front (ends (book_on.thread ∙ r.hands.thread ∙ r.main)));
+      ports = subst (λ (l : List (List PortEntry)). PortsEndByOthers l h.ports.items) (still.0 ∙ same ∙ sym (append-nil (map member_front r.members.items))) (ports_end last h.ports.items h.desks.items mains kept);
+    }
+
+pub run_done : (r : Run) (h : Histories) → HasRecord (fronts_of r) → EndsByAllOthers r h → HasMainDiary h
+run_done r h has ends = record { main = has.did; main_diary = has.recorded.diary; main_done = main_done has.did (fronts_of r) h has.recorded ends.roster ends.book ends.ports }
+
+-- ---- the histories are those of this run
+as_many_fronts : (fronts : List (List PortEntry)) (ports : List PortData) → PortsEndByOthers fronts ports → length ports ≡ length fronts
+as_many_fronts [] [] ends = refl
+as_many_fronts (front ∷ fronts) (port ∷ ports) ends = ap suc (as_many_fronts fronts ports ends.1)
+as_many_fronts [] (port ∷ ports) ends = absurd ends
+as_many_fronts (front ∷ fronts) [] ends = absurd ends
+
+pub ends_as : (r : Run) (h : Histories) → EndsByAllOthers r h → EndsAs r h
+ends_as r h ends =
+    let fronts = map member_front r.members.items in
+    record {
+      loopers = as_many_fronts (fronts ++ []) h.ports.items ends.ports ∙ ap (λ (l : List (List PortEntry)). length l) (append-nil fronts) ∙ length-map r.members.items member_front;
+      roster = (ends.roster.between, ends.roster.goes_on);
+      book = (ends.book.between, ends.book.goes_on);
+      ports = λ looper. ([], ports_at_end (fronts ++ []) h.ports.items ends.ports looper ∙ sym (append-nil (noted at_ports.by_number main_thread (list_at (fronts ++ []) looper))));
+    }
+
+-- so they were the run's before, while it went on to its end
+pub ends_further : (r r' : Run) (h : Histories) → GoesOn r r' → EndsAs r' h → EndsAs r h
+ends_further r r' h goes is =
+    let by_main : (looper : ℕ) (s : Run) → List (Noted PortEntry) = λ looper s. noted at_ports.by_number main_thread (list_at (fronts_of s).ports looper) in
+    let more = goes.recorded [] in
+    record {
+      loopers = is.loopers ∙ goes.count;
+      roster =
+          starts_then_starts (plain_of r.roster_seat) (plain_of r'.roster_seat) h.roster.items
+          (plain_entries goes.on.0, ap (λ (l : List (EntryWithObjects Object)). plain_entries l) goes.on.1 ∙ plain-append r.roster_seat.front goes.on.0) is.roster;
+      book = starts_then_starts r.hands.book_seat.front r'.hands.book_seat.front h.book more.goes.book_on is.book;
+      ports = λ looper. starts_then_starts (by_main looper r) (by_main looper r') (noted at_ports.by_number main_thread (port_list h looper)) (port_entries looper more.steps, more.goes.ports looper) (is.ports looper);
+    }

@@ -85,9 +85,9 @@ module _ (r r' : Run) (place : ℕ) (m : Member) (door : Door) (within : place <
       let ports = before new in
       let at_place : list_at (set ports place front) place ≡ front = get_or-set_same ports place front [] (within_all new) in
       let goes = both_record place both.steps (plain_of r.roster_seat) r.hands.book_seat.front r'.hands.book_seat.front ports (set ports place front) both.acts
-          (subst (λ (p : List PortEntry). GoesAtBoth place both.steps r.hands.book_seat.front r'.hands.book_seat.front p (list_at (set ports place front) place)) (sym (there r.members.items new place m within here))
-          (subst (λ (p : List PortEntry). GoesAtBoth place both.steps r.hands.book_seat.front r'.hands.book_seat.front m.door.port_seat.front p) (sym at_place) both.goes))
-          (λ other differ. get_or-set_other ports place other front [] differ) in
+      (subst (λ (p : List PortEntry). GoesAtBoth place both.steps r.hands.book_seat.front r'.hands.book_seat.front p (list_at (set ports place front) place)) (sym (there r.members.items new place m within here))
+      (subst (λ (p : List PortEntry). GoesAtBoth place both.steps r.hands.book_seat.front r'.hands.book_seat.front m.door.port_seat.front p) (sym at_place) both.goes))
+      (λ other differ. get_or-set_other ports place other front [] differ) in
       subst (Records (fronts_with r new)) (sym (ap (λ (s : RosterSeat). fronts (plain_of s) r'.hands.book_seat.front (map member_front r'.members.items ++ new)) roster ∙ ap (λ l. fronts (plain_of r.roster_seat) r'.hands.book_seat.front l) (ports_are new))) goes
 
 -- ---- a new port
@@ -124,19 +124,21 @@ team_made plans team first shared t kept new = All-cons (AddsAtPort []) (new_fro
 -- the run goes on, main shuts its port or does nothing there, and the looper is put behind the others
 pub start_acts : (r s u v : Run) (door : Door) (front : List PortEntry) (x : Member) → s.members ≡ r.members → s.roster_seat.front ≡ r.roster_seat.front → s.hands.book_seat.front ≡ r.hands.book_seat.front → RecordsBeside s u
     → AddsAtPort front door.port_seat.front → x.door ≡ door → v.members.items ≡ u.members.items ++ x ∷ [] → v.roster_seat ≡ u.roster_seat → v.hands ≡ u.hands → RecordsStart front r v
-start_acts r s u v door front x members roster book goes adds x_door v_items v_roster v_hands = record { beside = λ new.
-    let last = door.port_seat.front in
-    let us = map member_front u.members.items in
-    let split = beside_same r s members roster book (front ∷ new) in
-    let closed = new_port_acts (plain_of u.roster_seat) u.hands.book_seat.front us new front last adds in
-    let pushed : map member_front v.members.items ++ new ≡ us ++ last ∷ new =
-    ap (λ (ms : List Member). map member_front ms ++ new) v_items ∙ ap (λ l. l ++ new) (map-append member_front u.members.items (x ∷ [])) ∙ append_assoc us (member_front x ∷ []) new ∙ ap (λ (d : Door). us ++ d.port_seat.front ∷ new) x_door in
-    let same : fronts_with v new ≡ fronts (plain_of u.roster_seat) u.hands.book_seat.front (us ++ last ∷ new) =
-    ap (λ (y : RosterSeat). fronts (plain_of y) v.hands.book_seat.front (map member_front v.members.items ++ new)) v_roster
-    ∙ ap (λ h. fronts (plain_of u.roster_seat) h.book_seat.front (map member_front v.members.items ++ new)) v_hands
-    ∙ ap (fronts (plain_of u.roster_seat) u.hands.book_seat.front) pushed in
-    records_then (fronts_with r (front ∷ new)) (fronts_with s (front ∷ new)) (fronts_with v new) split
-    (records_then (fronts_with s (front ∷ new)) (fronts_with u (front ∷ new)) (fronts_with v new) (goes (front ∷ new)) (subst (Records (fronts_with u (front ∷ new))) (sym same) closed)) }
+start_acts r s u v door front x members roster book goes adds x_door v_items v_roster v_hands = record {
+  beside = λ new.
+      let last = door.port_seat.front in
+      let us = map member_front u.members.items in
+      let split = beside_same r s members roster book (front ∷ new) in
+      let closed = new_port_acts (plain_of u.roster_seat) u.hands.book_seat.front us new front last adds in
+      let pushed : map member_front v.members.items ++ new ≡ us ++ last ∷ new =
+      ap (λ (ms : List Member). map member_front ms ++ new) v_items ∙ ap (λ l. l ++ new) (map-append member_front u.members.items (x ∷ [])) ∙ append_assoc us (member_front x ∷ []) new ∙ ap (λ (d : Door). us ++ d.port_seat.front ∷ new) x_door in
+      let same : fronts_with v new ≡ fronts (plain_of u.roster_seat) u.hands.book_seat.front (us ++ last ∷ new) =
+      ap (λ (y : RosterSeat). fronts (plain_of y) v.hands.book_seat.front (map member_front v.members.items ++ new)) v_roster
+      ∙ ap (λ h. fronts (plain_of u.roster_seat) h.book_seat.front (map member_front v.members.items ++ new)) v_hands
+      ∙ ap (fronts (plain_of u.roster_seat) u.hands.book_seat.front) pushed in
+      records_then (fronts_with r (front ∷ new)) (fronts_with s (front ∷ new)) (fronts_with v new) split
+      (records_then (fronts_with s (front ∷ new)) (fronts_with u (front ∷ new)) (fronts_with v new) (goes (front ∷ new)) (subst (Records (fronts_with u (front ∷ new))) (sym same) closed));
+}
 
 -- ---- main's turn at the roster
 module _ (seat given seat' : RosterSeat) (book book' : Book) (more : ℕ) (idle : seat.turn ≡ false) (thread : seat.thread ≡ main_thread) (seen : IsGiven by_number seat given) (known : KnowsWhole by_number given)

@@ -1,12 +1,19 @@
--- A run that ended: what its histories tell of the loopers, and who made them.
+-- A run that ended: what its histories tell of the loopers, who made them, and from where they go on.
 use Rattle.std.specs.Prelude.{◌≡◌, ◌<◌, ℕ, List, length, All}
+use Rattle.ak_base.specs.Thread.{main_thread}
+use Rattle.ak_turn.specs.Entries.{StartsWith}
+use Rattle.ak_turn.specs.Noted.{noted}
 use Rattle.ak_roster.specs.declared.head.AppHead.{AppHead}
 use Rattle.ak_roster.specs.Machine.{state_of}
 use Rattle.ak_port.specs.declared.port_entry.PortEntry.{PortEntry}
 use Rattle.ak_port.specs.declared.reply_entry.ReplyEntry.{ReplyEntry}
+use Rattle.ak_port.specs.PortCalls as at_ports
 use Rattle.ak_diary.specs.declared.histories.Histories.{Histories}
 use Rattle.ak_diary.specs.Histories.{AreHistories}
 use Rattle.ak_headline.specs.Run.{HasLooper, IsOfRun, port_list}
+use Rattle.ak_looper.specs.Rosters.{plain_of}
+use Rattle.ak_run.specs.declared.run.Run.{Run}
+use Rattle.ak_run.specs.Recording.{fronts_of, list_at}
 
 -- Each list is one that its object's machine allows; there are a port and a desk for each looper that was started, and no others. Each
 -- looper has its diary, which has all that its thread did; those with these numbers found no memory. No thread but main and the loopers'
@@ -17,3 +24,13 @@ pub record IsRunOfLoopers (heads : List AppHead) (short : List ℕ) (h : Histori
   pub loopers : (looper : ℕ) → looper < length h.ports.items → HasLooper heads short h looper
   pub book_makers : All (λ (entry : ReplyEntry). IsOfRun h entry.by.0) h.book
   pub port_makers : (looper : ℕ) → All (λ (entry : PortEntry). IsOfRun h entry.by.0) (port_list h looper)
+
+-- The histories are those of this run
+pub record EndsAs (r : Run) (h : Histories) : Type 0 where
+  -- a port for each of its loopers
+  pub loopers : length h.ports.items ≡ length r.members.items
+  -- the lists that all share go on from what main had seen of them
+  pub roster : StartsWith h.roster.items (plain_of r.roster_seat)
+  pub book : StartsWith h.book r.hands.book_seat.front
+  -- each entry that main had made at a port stands there, in order, with all that stood before it
+  pub ports : (looper : ℕ) → StartsWith (noted at_ports.by_number main_thread (port_list h looper)) (noted at_ports.by_number main_thread (list_at (fronts_of r).ports looper))

@@ -27,7 +27,7 @@ impl Run {
     ghost use Rattle.ak_describe.specs.Whole.{heads_of};
     ghost use Rattle.ak_headline.specs.Headline.{EachGotOneReply, EachLooper, IsAccounted, IsByRule};
     ghost use Rattle.ak_headline.specs.Run.{IsRun};
-    ghost use Rattle.ak_run.specs.Ending.{IsRunOfLoopers};
+    ghost use Rattle.ak_run.specs.Ending.{EndsAs, IsRunOfLoopers};
     ghost use Rattle.ak_run.specs.Recording.{HasMainDiary};
     ghost use Rattle.ak_run.specs.Running.{IsRunning};
 
@@ -35,13 +35,15 @@ impl Run {
     /// looper's diary has all that its thread did, at whatever object, and main's diary all that main did; at the ports and the reply
     /// book no other thread made an entry. The messages that a looper dispatched, followed by those that it left, are exactly those that
     /// its port accepted, in order and each once; each was dispatched as the rules say for the handlers at that moment; and each accepted
-    /// waiting send got one reply, the one that the rules make for it. Takes no memory.
+    /// waiting send got one reply, the one that the rules make for it. The lists go on from what main had seen, so they are this run's. Takes no
+    /// memory.
     pub fn end<R: Threads + Wait>(mut self, rt: &R) -> Ended
         requires running { IsRunning self }
         ensures run { IsRun (heads_of self.apps.items) result.short result.histories }
         ensures accepted { EachLooper result.histories IsAccounted }
         ensures dispatched { EachLooper result.histories IsByRule }
         ensures answered { EachGotOneReply result.short result.histories }
+        ensures same { EndsAs self result.histories }
     {
         runs_are_accounted();
         runs_go_by_rule();
@@ -55,6 +57,7 @@ impl Run {
         requires running { IsRunning self }
         ensures run { IsRunOfLoopers (heads_of self.apps.items) result.short result.histories }
         ensures main { HasMainDiary result.histories }
+        ensures same { EndsAs self result.histories }
     {
         holders_are_told();
         loopers_are_of_their_teams();

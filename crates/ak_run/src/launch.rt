@@ -1,7 +1,8 @@
 //! Launches.
-ghost use Rattle.std.specs.Prelude.{◌≡◌, ◌<◌, ℕ, List, length};
+ghost use Rattle.std.specs.Prelude.{◌≡◌, ◌<◌, ◌≤◌, ℕ, List, length};
 ghost use Rattle.ak_roster.specs.Answers.{IsWord};
 ghost use Rattle.ak_run.specs.Running.{IsRunning};
+ghost use Rattle.ak_run.specs.Sending.{looper_count};
 ghost use Rattle.ak_run.specs.Starting.{HasEnteredLaunch};
 
 use crate::greeting::send;
@@ -44,6 +45,8 @@ impl Run {
         requires running { IsRunning self.old }
         requires word { IsWord word.now }
         ensures running { IsRunning self.new }
+        ensures apps { self.new.apps ≡ self.old.apps }
+        ensures count { looper_count self.old ≤ looper_count self.new }
     {
         let Ok(gates) = clones(*self.members.allocator(), gate) else {
             return LaunchAnswer::NoMemory;
@@ -73,6 +76,8 @@ impl Run {
         requires running { IsRunning self.old }
         requires word { IsWord word.now }
         ensures launch { HasEnteredLaunch self.old self.new result }
+        ensures apps { self.new.apps ≡ self.old.apps }
+        ensures count { looper_count self.new ≡ looper_count self.old }
     {
         let alloc = *self.members.allocator();
         let shared = &self.shared;
@@ -103,6 +108,8 @@ impl Run {
         requires running { IsRunning self.old }
         requires there { first < length self.old.members.items }
         ensures running { IsRunning self.new }
+        ensures apps { self.new.apps ≡ self.old.apps }
+        ensures count { looper_count self.new ≡ looper_count self.old }
     {
         let alloc = *self.members.allocator();
         if let Some(message) = arguments {

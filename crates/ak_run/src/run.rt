@@ -65,6 +65,7 @@ fn heads_of(alloc: Global, apps: &[AppText]) -> Result<Vec<AppHead>, NoMemory>
 
 impl Run {
     ghost use Rattle.ak_run.specs.Running.{IsRunning};
+    ghost use Rattle.ak_run.specs.Sending.{looper_count};
 
     /// A run of these applications, which are as a description gives them, and in which nothing was done. It makes room for what its end
     /// needs. Answers `NoMemory` where memory ran out.
@@ -73,6 +74,7 @@ impl Run {
         requires heads { IsHeads (heads_of apps.items) }
         ensures running { IfOk result (λ run. IsRunning run) }
         ensures apps { IfOk result (λ run. run.apps.items ≡ apps.items) }
+        ensures none { IfOk result (λ run. looper_count run ≡ 0) }
     {
         let heads = heads_of(alloc, &apps)?;
         let roster = RosterBook::new(alloc, heads)?;

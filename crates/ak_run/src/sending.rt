@@ -1,6 +1,8 @@
 //! What main does at the loopers that were started.
-ghost use Rattle.std.specs.Prelude.{◌≡◌, ◌<◌, ◌≤◌, ◌↔◌, None, length, IfSome, IsErrOf};
+ghost use Rattle.std.specs.Prelude.{◌≡◌, ◌<◌, ◌≤◌, ◌↔◌, None, length, IfOk, IfSome, IsErrOf};
 ghost use Rattle.ak_message.specs.Fields.{specifier_count};
+ghost use Rattle.ak_flatten.specs.Item.{spelled};
+ghost use Rattle.ak_flatten.specs.Laws.{Spells};
 ghost use Rattle.ak_flatten.specs.Limits.{flat_limit};
 ghost use Rattle.ak_flatten.specs.Spelling.{spelling};
 ghost use Rattle.ak_port.specs.PortCalls.{HasAnswered};
@@ -46,6 +48,7 @@ impl Run {
         ensures not_blocked { IsErrOf result SendFault.WouldBlock → ⊥ }
         ensures running { IsRunning self.new }
         ensures count { looper_count self.new ≡ looper_count self.old }
+        ensures apps { self.new.apps ≡ self.old.apps }
     {
         let alloc = *self.members.allocator();
         let door = &mut self.members[looper as usize].door;
@@ -76,6 +79,7 @@ impl Run {
         ensures too_long { IsErrOf result SendFault.TooLong ↔ (flat_limit < length (spelling message.now)) }
         ensures running { IsRunning self.new }
         ensures count { looper_count self.new ≡ looper_count self.old }
+        ensures apps { self.new.apps ≡ self.old.apps }
     {
         let alloc = *self.members.allocator();
         let door = &mut self.members[looper as usize].door;
@@ -96,8 +100,11 @@ impl Run {
         requires back { envelope.back ≡ None }
         ensures answered { AsksAt looper (item_in envelope Duty.None message.now) result self.old self.new }
         ensures too_long { IsErrOf result SendFault.TooLong ↔ (flat_limit < length (spelling message.now)) }
+        ensures message { IfOk result (λ reply. reply.message ≡ spelled reply.flat) }
+        ensures spells { IfOk result (λ reply. Spells reply.flat reply.message) }
         ensures running { IsRunning self.new }
         ensures count { looper_count self.new ≡ looper_count self.old }
+        ensures apps { self.new.apps ≡ self.old.apps }
     {
         let alloc = *self.members.allocator();
         let door = &mut self.members[looper as usize].door;
@@ -119,6 +126,7 @@ impl Run {
         ensures answered { AnswersAtDesk looper (edit_entry edit result) self.old self.new }
         ensures running { IsRunning self.new }
         ensures count { looper_count self.new ≡ looper_count self.old }
+        ensures apps { self.new.apps ≡ self.old.apps }
     {
         let door = &mut self.members[looper as usize].door;
         edit_shared(

@@ -4,6 +4,7 @@ use Rattle.ak_roster.specs.declared.head.AppHead.{AppHead}
 use Rattle.ak_describe.specs.Whole.{heads_of}
 use Rattle.ak_headline.specs.Run.{IsRun}
 use Rattle.ak_run.proofs.Endings.{runs_on, same_heads_of, whole}
+use Rattle.ak_run.proofs.MainDone.{ends_further}
 use Rattle.ak_run.proofs.run.Run.end.Goals as goal
 
 pub gathered-requires : goal.gathered-requires
@@ -19,4 +20,5 @@ returns g c =
       accepted = c.runs_are_accounted.ensures later ended.short ended.histories run;
       dispatched = c.runs_go_by_rule.ensures later ended.short ended.histories run;
       answered = c.each_waiting_send_got_one_reply.ensures later ended.short ended.histories run;
+      same = ends_further c.args.self c.leave_all.new.self ended.histories c.leave_all.ensures c.gathered.ensures.same;
     }

@@ -44,4 +44,6 @@ returns g c =
       launch = has_entered r _ c.requires.running (record { apps = refl; shared = refl; joined = refl; ports = refl; desks = refl }) refl (same_book r _ l.ensures.book_seat) (ap (λ s. s.front) l.ensures.book_seat) c.lock-turn.new.seat c.book.result.now l.new.book
           (c.lock-turn.ensures.opening ∙ ap (λ (b : Book). Some b.heads) (sym value)) c.lock-turn.ensures.seen c.lock-turn.ensures.known (ap (λ (b : Book). b.entries) value ∙ c.lock-turn.ensures.list)
           c.finish.ensures.same c.finish.ensures.entered c.finish.ensures.known l.ensures.by_main l.result comes;
+      apps = refl;
+      count = refl;
     }

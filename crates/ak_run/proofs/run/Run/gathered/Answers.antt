@@ -11,7 +11,7 @@ use Rattle.ak_run.proofs.Endings.{all_joined, as_many, book_below, roster_below}
 use Rattle.ak_run.proofs.Paired.{kept_leads, ways_lead}
 use Rattle.ak_run.proofs.Taking.{all_gain_further, heads_still, of_all, ways_of_all}
 use Rattle.ak_run.proofs.Telling.{is_run}
-use Rattle.ak_run.proofs.MainDone.{run_done}
+use Rattle.ak_run.proofs.MainDone.{ends_as, ends_by_others, run_done}
 use Rattle.ak_run.proofs.run.Run.gathered.Goals as goal
 
 -- there are no more loopers than there is room for
@@ -64,6 +64,10 @@ returns g c =
     let book = c.keep_book-book.result in
     let h : Histories = record { roster = c.into_entries.result; book = book; ports = c.keep_all.new.ports; desks = c.keep_all.new.desks } in
     let last = c.take_all_ways.new.loopers.items in
+    let ends =
+    ends_by_others r runs.heads all.new.roster_seat all.new.book_seat kept book js last h all.ensures.roster all.ensures.book (all.ensures.joined runs.heads r.shared runs.stands.each) all.ensures.fronts
+    (all_gain_further js c.take_kept.new.loopers.items last c.take_kept.ensures.gaining c.take_all_ways.ensures.gaining) c.keep_all.ensures c.keep_roster-roster.ensures c.keep_book-book.ensures.ends
+    (c.into_entries.ensures ∙ ap (λ (b : Book). plain_entries b.entries) c.take_doors.ensures.after) refl in
     record {
       run =
           subst (λ (heads : List AppHead). IsRunOfLoopers heads c.from_vec.result h) runs.stands.heads_are
@@ -80,8 +84,6 @@ returns g c =
           (roster_below r runs all.new.roster_seat all.ensures.roster js all.ensures.numbers) (book_below r runs all.new.roster_seat all.ensures.roster js all.ensures.numbers all.new.book_seat all.ensures.book)
           c.holders_are_told.ensures.holders c.holders_are_told.ensures.strangers c.seats_tell_strangers.ensures.entries c.loopers_are_of_their_teams.ensures.owns c.loopers_are_of_their_teams.ensures.launches
           c.from_vec.result (c.from_vec.ensures ∙ all.ensures.short));
-      main =
-          run_done r runs.recorded runs.heads all.new.roster_seat all.new.book_seat kept book js last h all.ensures.roster all.ensures.book (all.ensures.joined runs.heads r.shared runs.stands.each) all.ensures.fronts
-          (all_gain_further js c.take_kept.new.loopers.items last c.take_kept.ensures.gaining c.take_all_ways.ensures.gaining) c.keep_all.ensures c.keep_roster-roster.ensures c.keep_book-book.ensures.ends
-          (c.into_entries.ensures ∙ ap (λ (b : Book). plain_entries b.entries) c.take_doors.ensures.after) refl;
+      main = run_done r h runs.recorded ends;
+      same = ends_as r h ends;
     }
