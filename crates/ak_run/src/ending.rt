@@ -19,7 +19,7 @@ use std::thread::Threads;
 pub struct Ended {
     /// The history of each of its objects.
     pub histories: Histories,
-    /// The numbers of the loopers that ended for want of memory.
+    /// The numbers of the loopers whose diaries tell that they found no memory.
     pub short: Items<u32>,
 }
 
@@ -31,12 +31,12 @@ impl Run {
     ghost use Rattle.ak_run.specs.Recording.{HasMainDiary};
     ghost use Rattle.ak_run.specs.Running.{IsRunning};
 
-    /// Ends what runs, joins all threads and keeps the histories. For each looper that was started there are a port and a desk. Each
-    /// looper's diary has all that its thread did, at whatever object, and main's diary all that main did; at the ports and the reply
-    /// book no other thread made an entry. The messages that a looper dispatched, followed by those that it left, are exactly those that
-    /// its port accepted, in order and each once; each was dispatched as the rules say for the handlers at that moment; and each accepted
-    /// waiting send got one reply, the one that the rules make for it. The lists go on from what main had seen, so they are this run's. Takes no
-    /// memory.
+    /// Ends what runs, joins all threads and keeps the histories, which go on from what main had seen. For each looper that was started
+    /// there are a port and a desk. Each looper's diary has all that its thread did at the roster, the reply book, every port and its own
+    /// desk, and main's diary all that main did but its edits; at the ports and the reply book no other thread made an entry. The messages
+    /// that a looper dispatched, followed by those that it left, are exactly those that its port accepted, in order and each once; each was
+    /// dispatched as the rules say for the handlers at that moment; and each accepted waiting send got one reply, the one that the rules
+    /// make for it. Takes no memory.
     pub fn end<R: Threads + Wait>(mut self, rt: &R) -> Ended
         requires running { IsRunning self }
         ensures run { IsRun (heads_of self.apps.items) result.short result.histories }

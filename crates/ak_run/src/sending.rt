@@ -63,7 +63,7 @@ impl Run {
         )
     }
 
-    /// Posts to that looper without waiting for room.
+    /// Posts to that looper without waiting for room. That it does not wait is told by no clause.
     pub fn post_at_once<R: Wait>(
         &mut self,
         rt: &R,
