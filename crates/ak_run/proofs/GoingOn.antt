@@ -1,15 +1,19 @@
 -- A run goes on, call after call.
 use Rattle.std.proofs.Common.{◌≡◌, ℕ, ◌+◌, List, length, ◌++◌, Some, ap, sym, subst, [], ◌∙◌, arith, append_assoc}
 use Rattle.ak_turn.specs.Entries.{StartsWith}
+use Rattle.ak_roster.specs.declared.entry.EntryWithObjects.{EntryWithObjects}
 use Rattle.ak_roster.specs.declared.head.AppHead.{AppHead}
+use Rattle.ak_roster.specs.Roster.{plain_entries}
 use Rattle.ak_port.specs.declared.port_entry.PortEntry.{PortEntry}
+use Rattle.ak_looper.specs.Rosters.{Object, RosterSeat, plain_of}
 use Rattle.ak_run.specs.declared.run.Run.{Run}
 use Rattle.ak_run.specs.Counting.{started_by_main}
-use Rattle.ak_run.specs.Recording.{HasRecord, Records, RecordsBeside, fronts_of, fronts_with}
+use Rattle.ak_run.specs.Recording.{HasRecord, MainGoesOn, MainGoesOnWith, Records, RecordsBeside, fronts_of, fronts_with}
 use Rattle.ak_run.specs.Running.{IsRunning, KeepsRest, Stands}
 use Rattle.ak_run.specs.Starting.{GoesOn, GoesOnWith}
+use Rattle.ak_run.proofs.Acts.{records_then}
 use Rattle.ak_run.proofs.Recorded.{beside_then, record_on}
-use Rattle.ak_run.proofs.RosterTurn.{RosterOn}
+use Rattle.ak_run.proofs.RosterTurn.{RosterOn, plain-append}
 use Rattle.ak_run.proofs.Standing.{BookOn, SameLoopers, stands_on, starts_then_starts}
 
 -- what Some holds
@@ -92,4 +96,25 @@ all_run n r s heads new stands started has goes more = record {
   stands = goes.stands heads stands;
   all = goes.started heads stands ∙ started ∙ sym goes.count;
   recorded = record_on (fronts_with r new) (fronts_of s) more has;
+}
+
+-- ---- what main made before stands
+pub plain_on : (seat seat' : RosterSeat) → StartsWith seat'.front seat.front → StartsWith (plain_of seat') (plain_of seat)
+plain_on seat seat' on = (plain_entries on.0, ap (λ (l : List (EntryWithObjects Object)). plain_entries l) on.1 ∙ plain-append seat.front on.0)
+
+pub main_goes : (r r' : Run) → GoesOn r r' → MainGoesOn r r'
+main_goes r r' goes = record { records = goes.recorded []; roster_on = plain_on r.roster_seat r'.roster_seat goes.on }
+
+-- the team whose ports were new starts
+pub main_goes_then : (new : List (List PortEntry)) (r s t : Run) → MainGoesOnWith new r s → StartsWith t.roster_seat.front s.roster_seat.front → Records (fronts_with s new) (fronts_of t) → MainGoesOn r t
+main_goes_then new r s t one on more = record {
+  records = records_then (fronts_of r) (fronts_with s new) (fronts_of t) one.records more;
+  roster_on = starts_then_starts (plain_of r.roster_seat) (plain_of s.roster_seat) (plain_of t.roster_seat) one.roster_on (plain_on s.roster_seat t.roster_seat on);
+}
+
+-- one after another
+pub main_goes_on : (r s t : Run) → MainGoesOn r s → MainGoesOn s t → MainGoesOn r t
+main_goes_on r s t one two = record {
+  records = records_then (fronts_of r) (fronts_of s) (fronts_of t) one.records two.records;
+  roster_on = starts_then_starts (plain_of r.roster_seat) (plain_of s.roster_seat) (plain_of t.roster_seat) one.roster_on two.roster_on;
 }

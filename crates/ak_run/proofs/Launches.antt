@@ -10,6 +10,7 @@ use Rattle.ak_roster.specs.declared.head.AppHead.{AppHead}
 use Rattle.ak_roster.specs.Roster.{objects_of, state}
 use Rattle.ak_action.specs.declared.state.DeskState.{DeskState}
 use Rattle.ak_describe.specs.declared.described.AppText.{AppText}
+use Rattle.ak_port.specs.declared.port_entry.PortEntry.{PortEntry}
 use Rattle.ak_looper.specs.Rosters.{Object, RosterSeat, by_number, plain_of}
 use Rattle.ak_looper.specs.Stands.{StartsTeam}
 use Rattle.ak_run.specs.declared.launching.Launch.{Launch}
@@ -21,10 +22,11 @@ use Rattle.ak_run.specs.Counting.{started_by_main}
 use Rattle.ak_run.specs.Jobs.{HasWays, IsStartedIn, facts_in}
 use Rattle.ak_run.specs.Launching.{Book, ByMain, ComesTo, HasEntered, HasStarted}
 use Rattle.ak_run.specs.NewTeam.{IsNewTeam, IsOneOf}
-use Rattle.ak_run.specs.Recording.{HasRecord, Records, RecordsBeside, fronts, fronts_of, fronts_with, member_front, team_fronts}
+use Rattle.ak_run.specs.Recording.{MainGoesOnWith, Records, RecordsBeside, fronts, fronts_of, fronts_with, member_front, team_fronts}
 use Rattle.ak_run.specs.Running.{IsRunning, KeepsRest, Stands}
-use Rattle.ak_run.specs.Starting.{HasEnteredLaunch, MayStartTeam}
-use Rattle.ak_run.proofs.GoingOn.{some_same}
+use Rattle.ak_run.specs.Starting.{HasEnteredLaunch, MayStartTeam, launched_fronts}
+use Rattle.ak_run.proofs.Acts.{records_then}
+use Rattle.ak_run.proofs.GoingOn.{plain_on, some_same}
 use Rattle.ak_run.proofs.Recorded.{ports_made, record_on, team_made, turn_acts}
 use Rattle.ak_run.proofs.RosterTurn.{RosterOn, goes_on, sees_all, started_at_turn}
 use Rattle.ak_run.proofs.Standing.{BookOn, same_loopers, stands_on}
@@ -95,6 +97,26 @@ module _ (r r' : Run) (is : IsRunning r) (keeps : KeepsRest r r') (members : r'.
       nothing_more : (m : ℕ) → m + 0 ≡ m
       nothing_more m = omega arith
 
+  -- the ports of a team were made, and its launch entered
+  team_enters : (t : StartedTeam) → HasStarted r.apps.items r.shared book book' t → Records (fronts_of r) (fronts_with r' (team_fronts t.new))
+  team_enters t h =
+      let ports = map member_front r.members.items in
+      let new = team_fronts t.new in
+      let made = subst (λ l. Records (fronts (plain_of r.roster_seat) r.hands.book_seat.front l) (fronts_with r new)) (sym (append-nil ports))
+      (ports_made (plain_of r.roster_seat) r.hands.book_seat.front ports new (team_made h.plans t.team.number t.team.first r.shared t.new h.kept h.new)) in
+      records_then (fronts_of r) (fronts_with r new) (fronts_with r' new) made (turn_beside t.team.loopers h.entered new)
+
+  -- so what main made goes on, whatever it comes to
+  enters_by : (n : ℕ) → HasEntered n book book' → (new : List (List PortEntry)) → Records (fronts_of r) (fronts_with r' new) → MainGoesOnWith new r r'
+  enters_by n entered new records = record { records = records; roster_on = plain_on r.roster_seat r'.roster_seat (on n entered).on }
+
+  pub enters : (l : Launch) → ComesTo r.apps.items r.shared book book' l → MainGoesOnWith (launched_fronts l) r r'
+  enters (launch.Started t) comes = enters_by t.team.loopers comes.entered (team_fronts t.new) (team_enters t comes)
+  enters (launch.Running team first) comes = enters_by 0 comes.0 [] (turn_beside 0 comes.0 [])
+  enters launch.NotFound comes = enters_by 0 comes [] (turn_beside 0 comes [])
+  enters launch.Limit comes = enters_by 0 comes [] (turn_beside 0 comes [])
+  enters launch.NoMemory comes = enters_by 0 comes [] (turn_beside 0 comes [])
+
   -- a team was started
   team_starts : (t : StartedTeam) → HasStarted r.apps.items r.shared book book' t → HasEnteredLaunch r r' (launch.Started t)
   team_starts t h =
@@ -120,16 +142,8 @@ module _ (r r' : Run) (is : IsRunning r) (keeps : KeepsRest r r') (members : r'.
         },
         omega (arith, h.count, h.few),
         started n entered,
-        record_on (fronts_with r (team_fronts t.new)) (fronts_with r' (team_fronts t.new)) (turn_beside n entered (team_fronts t.new)) made,
+        record_on (fronts_of r) (fronts_with r' (team_fronts t.new)) (team_enters t h) is.recorded,
       )
-    where
-      -- its ports were made before
-      made : HasRecord (fronts_with r (team_fronts t.new))
-      made =
-          let ports = map member_front r.members.items in
-          let before : HasRecord (fronts (plain_of r.roster_seat) r.hands.book_seat.front ports) = subst (λ l. HasRecord (fronts (plain_of r.roster_seat) r.hands.book_seat.front l)) (append-nil ports) is.recorded in
-          record_on (fronts (plain_of r.roster_seat) r.hands.book_seat.front ports) (fronts_with r (team_fronts t.new))
-          (ports_made (plain_of r.roster_seat) r.hands.book_seat.front ports (team_fronts t.new) (team_made h.plans t.team.number t.team.first r.shared t.new h.kept h.new)) before
 
   pub has_entered : (l : Launch) → ComesTo r.apps.items r.shared book book' l → HasEnteredLaunch r r' l
   has_entered (launch.Started t) comes = team_starts t comes

@@ -31,7 +31,7 @@ use Rattle.ak_run.specs.Gathering.{AreBooksOf, AreGaining, GoesOnKnowing, IsGain
 use Rattle.ak_run.specs.Recording.{EndsByOthers, Fronts, HasMainDiary, HasRecord, IsRecorded, PortsEndByOthers, fronts_of, list_at, member_front}
 use Rattle.ak_run.specs.Starting.{GoesOn}
 use Rattle.ak_run.proofs.Acts.{seen_still}
-use Rattle.ak_run.proofs.RosterTurn.{plain-append}
+use Rattle.ak_run.proofs.GoingOn.{plain_on}
 use Rattle.ak_run.proofs.Standing.{starts_then_starts}
 
 -- what main did is in what its seat has seen
@@ -147,9 +147,7 @@ ends_further r r' h goes is =
     let more = goes.recorded [] in
     record {
       loopers = is.loopers ∙ goes.count;
-      roster =
-          starts_then_starts (plain_of r.roster_seat) (plain_of r'.roster_seat) h.roster.items
-          (plain_entries goes.on.0, ap (λ (l : List (EntryWithObjects Object)). plain_entries l) goes.on.1 ∙ plain-append r.roster_seat.front goes.on.0) is.roster;
+      roster = starts_then_starts (plain_of r.roster_seat) (plain_of r'.roster_seat) h.roster.items (plain_on r.roster_seat r'.roster_seat goes.on) is.roster;
       book = starts_then_starts r.hands.book_seat.front r'.hands.book_seat.front h.book more.goes.book_on is.book;
       ports = λ looper. starts_then_starts (by_main looper r) (by_main looper r') (noted at_ports.by_number main_thread (port_list h looper)) (port_entries looper more.steps, more.goes.ports looper) (is.ports looper);
     }

@@ -83,6 +83,15 @@ pub record Records (a b : Fronts) : Type 0 where
 abbrev pub RecordsBeside : Run → Run → Type 0
 RecordsBeside r r' = (new : List (List PortEntry)) → Records (fronts_with r new) (fronts_with r' new)
 
+-- by all that main did from one time to the next, with the new ports of a team that is about to start; the roster's list goes on from what
+-- main had seen
+pub record MainGoesOnWith (new : List (List PortEntry)) (r r' : Run) : Type 0 where
+  pub records : Records (fronts_of r) (fronts_with r' new)
+  pub roster_on : StartsWith (plain_of r'.roster_seat) (plain_of r.roster_seat)
+
+abbrev pub MainGoesOn : Run → Run → Type 0
+MainGoesOn r r' = MainGoesOnWith [] r r'
+
 -- by the start of the looper with that port, which is new no more
 pub record RecordsStart (port : List PortEntry) (r r' : Run) : Type 0 where
   pub beside : (new : List (List PortEntry)) → Records (fronts_with r (port ∷ new)) (fronts_with r' new)

@@ -8,6 +8,7 @@ use Rattle.ak_turn.specs.Steps.{names_with}
 use Rattle.ak_roster.specs.declared.head.AppHead.{AppHead}
 use Rattle.ak_action.specs.declared.plan.PlanParts.{PlanParts}
 use Rattle.ak_action.specs.declared.state.DeskState.{DeskState}
+use Rattle.ak_port.specs.declared.port_entry.PortEntry.{PortEntry}
 use Rattle.ak_port.specs.ReplySeats as books
 use Rattle.ak_looper.specs.Rosters as rosters
 use Rattle.ak_looper.specs.Rosters.{LeadsTo}
@@ -94,6 +95,14 @@ HasEnteredLaunch r r' (launch.Running team first) = IsRunning r' × (first < len
 HasEnteredLaunch r r' launch.NotFound = IsRunning r'
 HasEnteredLaunch r r' launch.Limit = IsRunning r'
 HasEnteredLaunch r r' launch.NoMemory = IsRunning r'
+
+-- the new ports of the team that is to start
+abbrev pub launched_fronts : Launch → List (List PortEntry)
+launched_fronts (launch.Started s) = team_fronts s.new
+launched_fronts (launch.Running team first) = []
+launched_fronts launch.NotFound = []
+launched_fronts launch.Limit = []
+launched_fronts launch.NoMemory = []
 
 -- ---- while the loopers of a team start
 -- so many were started, and these are to follow

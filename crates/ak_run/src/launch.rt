@@ -1,9 +1,10 @@
 //! Launches.
 ghost use Rattle.std.specs.Prelude.{◌≡◌, ◌<◌, ◌≤◌, ℕ, List, length};
 ghost use Rattle.ak_roster.specs.Answers.{IsWord};
+ghost use Rattle.ak_run.specs.Recording.{MainGoesOn, MainGoesOnWith};
 ghost use Rattle.ak_run.specs.Running.{IsRunning};
 ghost use Rattle.ak_run.specs.Sending.{looper_count};
-ghost use Rattle.ak_run.specs.Starting.{HasEnteredLaunch};
+ghost use Rattle.ak_run.specs.Starting.{HasEnteredLaunch, launched_fronts};
 
 use crate::greeting::send;
 use crate::launching::{Launch, StartedTeam, launch_at_turn};
@@ -47,6 +48,7 @@ impl Run {
         ensures running { IsRunning self.new }
         ensures apps { self.new.apps ≡ self.old.apps }
         ensures count { looper_count self.old ≤ looper_count self.new }
+        ensures goes_on { MainGoesOn self.old self.new }
     {
         let Ok(gates) = clones(*self.members.allocator(), gate) else {
             return LaunchAnswer::NoMemory;
@@ -78,6 +80,7 @@ impl Run {
         ensures launch { HasEnteredLaunch self.old self.new result }
         ensures apps { self.new.apps ≡ self.old.apps }
         ensures count { looper_count self.new ≡ looper_count self.old }
+        ensures goes_on { MainGoesOnWith (launched_fronts result) self.old self.new }
     {
         let alloc = *self.members.allocator();
         let shared = &self.shared;
@@ -110,6 +113,7 @@ impl Run {
         ensures running { IsRunning self.new }
         ensures apps { self.new.apps ≡ self.old.apps }
         ensures count { looper_count self.new ≡ looper_count self.old }
+        ensures goes_on { MainGoesOn self.old self.new }
     {
         let alloc = *self.members.allocator();
         if let Some(message) = arguments {

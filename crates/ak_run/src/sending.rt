@@ -9,6 +9,7 @@ ghost use Rattle.ak_port.specs.PortCalls.{HasAnswered};
 ghost use Rattle.ak_messenger.specs.Sends.{item_in, post_event};
 ghost use Rattle.ak_desk.specs.Desk.{edit_entry};
 ghost use Rattle.ak_run.specs.Doors.{KeepsSeats};
+ghost use Rattle.ak_run.specs.Recording.{MainGoesOn};
 ghost use Rattle.ak_run.specs.Running.{IsRunning};
 ghost use Rattle.ak_run.specs.Sending.{AnswersAtDesk, AnswersAtPort, AsksAt, looper_count};
 
@@ -49,6 +50,7 @@ impl Run {
         ensures running { IsRunning self.new }
         ensures count { looper_count self.new ≡ looper_count self.old }
         ensures apps { self.new.apps ≡ self.old.apps }
+        ensures goes_on { MainGoesOn self.old self.new }
     {
         let alloc = *self.members.allocator();
         let door = &mut self.members[looper as usize].door;
@@ -80,6 +82,7 @@ impl Run {
         ensures running { IsRunning self.new }
         ensures count { looper_count self.new ≡ looper_count self.old }
         ensures apps { self.new.apps ≡ self.old.apps }
+        ensures goes_on { MainGoesOn self.old self.new }
     {
         let alloc = *self.members.allocator();
         let door = &mut self.members[looper as usize].door;
@@ -105,6 +108,7 @@ impl Run {
         ensures running { IsRunning self.new }
         ensures count { looper_count self.new ≡ looper_count self.old }
         ensures apps { self.new.apps ≡ self.old.apps }
+        ensures goes_on { MainGoesOn self.old self.new }
     {
         let alloc = *self.members.allocator();
         let door = &mut self.members[looper as usize].door;
@@ -127,6 +131,7 @@ impl Run {
         ensures running { IsRunning self.new }
         ensures count { looper_count self.new ≡ looper_count self.old }
         ensures apps { self.new.apps ≡ self.old.apps }
+        ensures goes_on { MainGoesOn self.old self.new }
     {
         let door = &mut self.members[looper as usize].door;
         edit_shared(

@@ -5,7 +5,7 @@ use Rattle.ak_flatten.specs.declared.item.Duty.TheVariants as duty
 use Rattle.ak_messenger.specs.Sends.{item_in}
 use Rattle.ak_run.proofs.Acting.{ask_acts}
 use Rattle.ak_run.proofs.Calls.{keeps_itself, main_has, one_goes, port_after, port_before}
-use Rattle.ak_run.proofs.GoingOn.{still_running}
+use Rattle.ak_run.proofs.GoingOn.{main_goes, still_running}
 use Rattle.ak_run.proofs.run.Run.ask.Goals as goal
 
 pub ask-requires-clause-thread : goal.ask-requires-clause-thread
@@ -35,3 +35,10 @@ returns-clause-running g c =
 
 pub returns-clause-count : goal.returns-clause-count
 returns-clause-count g c = length-set c.args.self.now.members.items c.args.looper _
+
+pub returns-clause-goes_on : goal.returns-clause-goes_on
+returns-clause-goes_on g c =
+    let r = c.args.self.now in
+    let m = c.index_mut.result.now in
+    main_goes r _ (one_goes r _ c.args.looper m _ c.requires.there (sym c.index_mut.ensures.value) (record { port = c.ask.ensures.seat; desk = keeps_itself m.door.desk_seat }) refl refl (record { apps = refl; shared = refl; joined = refl; ports = refl; desks = refl }) refl (record { keeps = c.ask.ensures.book_seat; known = c.ask.ensures.book_knows_still })
+    (ask_acts c.args.looper (item_in c.args.envelope duty.None c.args.message.now) _ _ _ _ _ _ (r.hands.thread ∙ r.main) (main_has _ c.requires.running.heads r c.args.looper m c.requires.there (sym c.index_mut.ensures.value) c.requires.running.stands) c.ask.result c.ask.ensures.answered))

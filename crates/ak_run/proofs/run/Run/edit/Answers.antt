@@ -4,7 +4,7 @@ use Rattle.std.proofs.lemmas.List.{length-set}
 use Rattle.ak_desk.specs.Desk.{edit_entry}
 use Rattle.ak_run.proofs.Acting.{adds_nothing}
 use Rattle.ak_run.proofs.Calls.{desk_after, desk_before, desk_keeps, keeps_itself, main_has, one_goes, port_alone}
-use Rattle.ak_run.proofs.GoingOn.{still_running}
+use Rattle.ak_run.proofs.GoingOn.{main_goes, still_running}
 use Rattle.ak_run.proofs.Standing.{same_book}
 use Rattle.ak_run.proofs.run.Run.edit.Goals as goal
 
@@ -35,3 +35,10 @@ returns-clause-running g c =
 
 pub returns-clause-count : goal.returns-clause-count
 returns-clause-count g c = length-set c.args.self.now.members.items c.args.looper _
+
+pub returns-clause-goes_on : goal.returns-clause-goes_on
+returns-clause-goes_on g c =
+    let r = c.args.self.now in
+    let m = c.index_mut.result.now in
+    main_goes r _ (one_goes r _ c.args.looper m _ c.requires.there (sym c.index_mut.ensures.value) (record { port = keeps_itself m.door.port_seat; desk = (desk_keeps (edit_entry c.args.edit c.edit_shared.result) r.hands.clock c.edit_shared.new.clock m.door.desk_seat c.edit_shared.new.seat c.edit_shared.ensures.answered).0 }) refl refl (record { apps = refl; shared = refl; joined = refl; ports = refl; desks = refl }) refl (same_book r _ refl)
+    (port_alone c.args.looper r.hands.book_seat _ m.door.port_seat.front _ refl (adds_nothing m.door.port_seat.front _ refl)))

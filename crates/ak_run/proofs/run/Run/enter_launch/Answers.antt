@@ -3,7 +3,7 @@ use Rattle.std.proofs.Common.{List, refl, ap, sym, subst, ◌∙◌, Some}
 use Rattle.ak_base.specs.declared.thread.ThreadId.{ThreadId}
 use Rattle.ak_describe.specs.declared.described.AppText.{AppText}
 use Rattle.ak_run.specs.Launching.{Book, ComesTo}
-use Rattle.ak_run.proofs.Launches.{comes_entered, has_entered, is_next}
+use Rattle.ak_run.proofs.Launches.{comes_entered, enters, has_entered, is_next}
 use Rattle.ak_run.proofs.RosterTurn.{RosterOn, goes_on}
 use Rattle.ak_run.proofs.Standing.{same_book}
 use Rattle.ak_run.proofs.run.Run.enter_launch.Goals as goal
@@ -46,4 +46,7 @@ returns g c =
           c.finish.ensures.same c.finish.ensures.entered c.finish.ensures.known l.ensures.by_main l.result comes;
       apps = refl;
       count = refl;
+      goes_on = enters r _ c.requires.running (record { apps = refl; shared = refl; joined = refl; ports = refl; desks = refl }) refl (same_book r _ l.ensures.book_seat) (ap (λ s. s.front) l.ensures.book_seat) c.lock-turn.new.seat c.book.result.now l.new.book
+          (c.lock-turn.ensures.opening ∙ ap (λ (b : Book). Some b.heads) (sym value)) c.lock-turn.ensures.seen c.lock-turn.ensures.known (ap (λ (b : Book). b.entries) value ∙ c.lock-turn.ensures.list)
+          c.finish.ensures.same c.finish.ensures.entered c.finish.ensures.known l.ensures.by_main l.result comes;
     }

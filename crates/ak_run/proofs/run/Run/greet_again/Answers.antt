@@ -2,7 +2,7 @@
 use Rattle.std.proofs.Common.{refl, sym, ◌∙◌}
 use Rattle.std.proofs.lemmas.List.{length-set}
 use Rattle.ak_run.proofs.Calls.{goes_same, main_has, one_goes, port_alone, seats_of}
-use Rattle.ak_run.proofs.GoingOn.{still_running}
+use Rattle.ak_run.proofs.GoingOn.{main_goes, still_running}
 use Rattle.ak_run.proofs.Standing.{same_book}
 use Rattle.ak_run.proofs.run.Run.greet_again.Goals as goal
 
@@ -22,6 +22,8 @@ returns-then-is_err g c =
           (port_alone c.args.first r.hands.book_seat _ _ _ c.send.ensures.book_seat (c.send.ensures.door.adds (main_has _ c.requires.running.heads r c.args.first m c.requires.there (sym c.index_mut.ensures.value) c.requires.running.stands)))) c.requires.running;
       apps = refl;
       count = length-set r.members.items c.args.first _;
+      goes_on = main_goes r _ (one_goes r _ c.args.first m door c.requires.there (sym c.index_mut.ensures.value) (seats_of m.door door c.send.ensures.door) refl refl (record { apps = refl; shared = refl; joined = refl; ports = refl; desks = refl }) refl (same_book r _ c.send.ensures.book_seat)
+          (port_alone c.args.first r.hands.book_seat _ _ _ c.send.ensures.book_seat (c.send.ensures.door.adds (main_has _ c.requires.running.heads r c.args.first m c.requires.there (sym c.index_mut.ensures.value) c.requires.running.stands))));
     }
 
 pub returns-else-is_err : goal.returns-else-is_err
@@ -34,7 +36,9 @@ returns-else-is_err g c =
           (port_alone c.args.first r.hands.book_seat _ _ _ c.send.ensures.book_seat (c.send.ensures.door.adds (main_has _ c.requires.running.heads r c.args.first m c.requires.there (sym c.index_mut.ensures.value) c.requires.running.stands)))) c.requires.running;
       apps = refl;
       count = length-set r.members.items c.args.first _;
+      goes_on = main_goes r _ (one_goes r _ c.args.first m door c.requires.there (sym c.index_mut.ensures.value) (seats_of m.door door c.send.ensures.door) refl refl (record { apps = refl; shared = refl; joined = refl; ports = refl; desks = refl }) refl (same_book r _ c.send.ensures.book_seat)
+          (port_alone c.args.first r.hands.book_seat _ _ _ c.send.ensures.book_seat (c.send.ensures.door.adds (main_has _ c.requires.running.heads r c.args.first m c.requires.there (sym c.index_mut.ensures.value) c.requires.running.stands))));
     }
 
 pub returns-in_default : goal.returns-in_default
-returns-in_default g c = record { running = still_running c.args.self.now _ (goes_same c.args.self.now _ (record { apps = refl; shared = refl; joined = refl; ports = refl; desks = refl }) refl refl refl) c.requires.running; apps = refl; count = refl }
+returns-in_default g c = record { running = still_running c.args.self.now _ (goes_same c.args.self.now _ (record { apps = refl; shared = refl; joined = refl; ports = refl; desks = refl }) refl refl refl) c.requires.running; apps = refl; count = refl; goes_on = main_goes c.args.self.now _ (goes_same c.args.self.now _ (record { apps = refl; shared = refl; joined = refl; ports = refl; desks = refl }) refl refl refl) }
