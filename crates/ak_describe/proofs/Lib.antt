@@ -6,3 +6,4 @@ pub mod ground
 pub mod Lasts
 pub mod lines
 pub mod names
+pub mod Surface

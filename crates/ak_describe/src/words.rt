@@ -1,6 +1,6 @@
 //! Reads words of a line by themselves. A reader of several answers what it read and the words behind it.
 
-ghost use Rattle.std.specs.Prelude.{◌≡◌, ◌&&◌, pos, int_le, unsigned_abs, option_map};
+ghost use Rattle.std.specs.Prelude.{◌≡◌, ◌&&◌, pos, int_le, unsigned_abs, option_map, IfOk};
 ghost use Rattle.ak_base.specs.Word.{is_word};
 ghost use Rattle.ak_base.specs.Option.{where_true};
 ghost use Rattle.ak_message.specs.Payload.{uint_within};
@@ -10,7 +10,7 @@ ghost use Rattle.ak_describe.specs.Words as reads;
 ghost use Rattle.ak_describe.specs.Words.{texts};
 
 use crate::fault::FormFault;
-use ak_base::{AppWord, Code, Text, is_signature, is_word, read_int};
+use ak_base::{AppWord, Code, NoMemory, Text, is_signature, is_word, read_int};
 use ak_message::{Kind, Word};
 use ak_roster::Mode;
 use std::alloc::Global;
@@ -118,21 +118,33 @@ pub(crate) fn code_of(word: &[u8]) -> Option<Code>
     }
 }
 
-/// How a word names an application: a team by its number, or by a signature, or by a name.
+/// How a word names an application: a team by its number, or by a signature, or by a name, which is a word
+/// without a slash. A number is one that is printed so, up to 4,294,967,295. `None` where the word names none.
+/// Answers `NoMemory` where memory ran out.
 #[tactic(auto, unfolding(crate::specs::Words::app_word_of))]
+pub fn read_app_word(alloc: Global, word: &[u8]) -> Result<Option<AppWord>, NoMemory>
+    ensures { IfOk result (λ app. app ≡ reads.app_word_of word.now) }
+{
+    if let Some(team) = number_within(word, 0, u32::MAX) {
+        return Ok(Some(AppWord::Team(team)));
+    }
+    if is_signature(word) {
+        return Ok(Some(AppWord::Signature(Text::from_word(alloc, word)?)));
+    }
+    if is_app_name(word) {
+        return Ok(Some(AppWord::Name(Text::from_word(alloc, word)?)));
+    }
+    Ok(None)
+}
+
+/// How a word names an application.
 pub(crate) fn app_word_of(alloc: Global, word: &[u8]) -> Result<AppWord, FormFault>
     ensures { Gives (λ w. w) result (reads.app_word_of word.now) }
 {
-    if let Some(team) = number_within(word, 0, u32::MAX) {
-        return Ok(AppWord::Team(team));
+    match read_app_word(alloc, word)? {
+        Some(app) => Ok(app),
+        None => Err(FormFault::BadValue),
     }
-    if is_signature(word) {
-        return Ok(AppWord::Signature(Text::from_word(alloc, word)?));
-    }
-    if is_app_name(word) {
-        return Ok(AppWord::Name(Text::from_word(alloc, word)?));
-    }
-    Err(FormFault::BadValue)
 }
 
 // ---- words in order

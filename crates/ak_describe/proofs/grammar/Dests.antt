@@ -58,14 +58,14 @@ named_takes word a none e = by_test (is_signature word) refl e where
         no_team_of : (n : ℕ) → WritesNumber 0 4294967295 word n → ⊥
         no_team_of n written = let read = number_again 0 4294967295 word n (omega arith) written in absurd cc
 
-app_word_takes : (word : List ℕ) (a : AppWord) → app_word_of word ≡ Some a → SaysAppWord word a
+pub app_word_takes : (word : List ℕ) (a : AppWord) → app_word_of word ≡ Some a → SaysAppWord word a
 unfolding app_word_of
 app_word_takes word a e = by_number (number_within word 0 4294967295) refl e where
   by_number : (o : Option ℕ) → number_within word 0 4294967295 ≡ o → team_or_name o word ≡ Some a → SaysAppWord word a
   by_number (Some team) is e = subst (λ (x : AppWord). SaysAppWord word x) (some_is (app.Team team) a e) (number_takes 0 4294967295 word team (omega arith) is)
   by_number None is e = named_takes word a is e
 
-app_word_again : (word : List ℕ) (a : AppWord) → SaysAppWord word a → app_word_of word ≡ Some a
+pub app_word_again : (word : List ℕ) (a : AppWord) → SaysAppWord word a → app_word_of word ≡ Some a
 unfolding app_word_of
 app_word_again word (app.Team team) is = ap (λ (o : Option ℕ). team_or_name o word) (number_again 0 4294967295 word team (omega arith) is)
 app_word_again word (app.Signature signature) is =
