@@ -1,0 +1,9 @@
+pub mod Heys
+pub mod InOrder
+pub mod Launches
+pub mod Locks
+pub mod Numbers
+pub mod Outcomes
+pub mod Posts
+pub mod Saying
+pub mod Whole

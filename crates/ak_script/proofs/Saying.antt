@@ -1,0 +1,77 @@
+-- Exactly the words that say a statement are read as it, by what each form says.
+use Rattle.std.proofs.Common.{◌≡◌, ℕ, Bool, true, false, if◌then◌else◌, List, [], ◌∷◌, codes, Option, Some, None, Ok, refl, ap, sym, subst, ◌∙◌}
+use Rattle.std.specs.Str.{bytes_eq}
+use Rattle.std.proofs.lemmas.Slice.Eq.{bytes_eq-Decides}
+use Rattle.ak_script.specs.declared.verb.Verb.{Verb}
+use Rattle.ak_script.specs.declared.verb.Verb.TheVariants as verb
+use Rattle.ak_script.specs.Forms.{verb_of, said_by, statement_of}
+use Rattle.ak_script.specs.Says.{SaysStatement, StatementsAreRead}
+use Rattle.ak_script.specs.Statement.{StatementData, launch_statement, hey_statement, post_statement, lock_statement}
+use Rattle.ak_script.proofs.Heys.{hey_takes, hey_again}
+use Rattle.ak_script.proofs.Launches.{launch_takes, launch_again}
+use Rattle.ak_script.proofs.Locks.{lock_takes, lock_again}
+use Rattle.ak_script.proofs.Posts.{post_takes, post_again}
+
+-- ---- the first word
+abbrev word_of : Verb → List ℕ
+word_of verb.Launch = codes "launch"
+word_of verb.Hey = codes "hey"
+word_of verb.Post = codes "post"
+word_of verb.Lock = codes "lock"
+word_of verb.Together = codes "together"
+
+verb_is : (word : List ℕ) (v : Verb) → verb_of word ≡ Some v → word ≡ word_of v
+verb_is word v e = by_launch (bytes_eq word (codes "launch")) refl e where
+  is : (key : List ℕ) → bytes_eq word key ≡ true → word ≡ key
+  is key t = (bytes_eq-Decides word key).0 t
+
+  same : (u : Verb) → word ≡ word_of u → Some u ≡ Some v → word ≡ word_of v
+  same u at f = let equal : u ≡ v = cc in at ∙ ap word_of equal
+
+  by_together : (b : Bool) → bytes_eq word (codes "together") ≡ b → (if b then Some verb.Together else None) ≡ Some v → word ≡ word_of v
+  by_together true t f = same verb.Together (is (codes "together") t) f
+  by_together false t f = absurd cc
+
+  by_lock : (b : Bool) → bytes_eq word (codes "lock") ≡ b
+      → (if b then Some verb.Lock else if bytes_eq word (codes "together") then Some verb.Together else None) ≡ Some v → word ≡ word_of v
+  by_lock true t f = same verb.Lock (is (codes "lock") t) f
+  by_lock false t f = by_together (bytes_eq word (codes "together")) refl f
+
+  by_post : (b : Bool) → bytes_eq word (codes "post") ≡ b
+      → (if b then Some verb.Post else if bytes_eq word (codes "lock") then Some verb.Lock else if bytes_eq word (codes "together") then Some verb.Together else None) ≡ Some v → word ≡ word_of v
+  by_post true t f = same verb.Post (is (codes "post") t) f
+  by_post false t f = by_lock (bytes_eq word (codes "lock")) refl f
+
+  by_hey : (b : Bool) → bytes_eq word (codes "hey") ≡ b
+      → (if b then Some verb.Hey else if bytes_eq word (codes "post") then Some verb.Post else if bytes_eq word (codes "lock") then Some verb.Lock else if bytes_eq word (codes "together") then Some verb.Together else None) ≡ Some v → word ≡ word_of v
+  by_hey true t f = same verb.Hey (is (codes "hey") t) f
+  by_hey false t f = by_post (bytes_eq word (codes "post")) refl f
+
+  by_launch : (b : Bool) → bytes_eq word (codes "launch") ≡ b
+      → (if b then Some verb.Launch else if bytes_eq word (codes "hey") then Some verb.Hey else if bytes_eq word (codes "post") then Some verb.Post else if bytes_eq word (codes "lock") then Some verb.Lock else if bytes_eq word (codes "together") then Some verb.Together else None) ≡ Some v → word ≡ word_of v
+  by_launch true t f = same verb.Launch (is (codes "launch") t) f
+  by_launch false t f = by_hey (bytes_eq word (codes "hey")) refl f
+
+-- ---- what the words say
+taken : (word : List ℕ) (words : List (List ℕ)) (x : StatementData) (o : Option Verb) → verb_of word ≡ o → said_by o words ≡ Ok x → SaysStatement (word ∷ words) x
+taken word words x None is e = absurd cc
+taken word words x (Some verb.Launch) is e = subst (λ (w : List ℕ). SaysStatement (w ∷ words) x) (sym (verb_is word verb.Launch is)) (launch_takes words x e)
+taken word words x (Some verb.Hey) is e = subst (λ (w : List ℕ). SaysStatement (w ∷ words) x) (sym (verb_is word verb.Hey is)) (hey_takes words x e)
+taken word words x (Some verb.Post) is e = subst (λ (w : List ℕ). SaysStatement (w ∷ words) x) (sym (verb_is word verb.Post is)) (post_takes words x e)
+taken word words x (Some verb.Lock) is e = subst (λ (w : List ℕ). SaysStatement (w ∷ words) x) (sym (verb_is word verb.Lock is)) (lock_takes words x e)
+taken word words x (Some verb.Together) is e = absurd cc
+
+takes : (words : List (List ℕ)) (x : StatementData) → statement_of words ≡ Ok x → SaysStatement words x
+unfolding statement_of
+takes [] x e = absurd cc
+takes (word ∷ words) x e = taken word words x (verb_of word) refl e
+
+again : (words : List (List ℕ)) (x : StatementData) → SaysStatement words x → statement_of words ≡ Ok x
+unfolding statement_of
+again words (launch_statement s) p = ap statement_of p.1 ∙ launch_again p.0 s p.2
+again words (hey_statement s) p = ap statement_of p.1 ∙ hey_again p.0 s p.2
+again words (post_statement s) p = ap statement_of p.1 ∙ post_again p.0 s p.2
+again words (lock_statement s) p = ap statement_of p.1 ∙ lock_again p.0 s p.2
+
+pub statements_are_read : StatementsAreRead
+statements_are_read words x = (takes words x, again words x)

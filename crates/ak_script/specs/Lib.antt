@@ -1,0 +1,12 @@
+pub mod Answers
+pub mod Facts
+pub mod Faults
+pub mod Forms
+pub mod Laws
+pub mod Limits
+pub mod Messages
+pub mod Pass
+pub mod Says
+pub mod Script
+pub mod Seen
+pub mod Statement

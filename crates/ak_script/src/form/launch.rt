@@ -1,0 +1,147 @@
+//! `launch`
+
+ghost use Rattle.std.specs.Prelude.{◌≡◌, ◌≤◌, [], length, IfOk, IfSome};
+ghost use Rattle.ak_base.specs.Limited.{limited_map};
+ghost use Rattle.ak_base.specs.declared.limited.Limited.TheVariants.{Within};
+ghost use Rattle.ak_message.specs.Limits.{value_limit};
+ghost use Rattle.ak_roster.specs.Answers.{IsWord};
+ghost use Rattle.ak_describe.specs.Made as made;
+ghost use Rattle.ak_describe.specs.Words.{texts};
+ghost use Rattle.ak_script.specs.Answers.{Gives, Tells};
+ghost use Rattle.ak_script.specs.Faults as faults;
+ghost use Rattle.ak_script.specs.Forms as reads;
+ghost use Rattle.ak_script.specs.Seen.{items_of, statement_seen};
+
+use crate::fault::{FormFault, StatementFault};
+use crate::messages::{arguments_message, is_short};
+use crate::statement::{Launch, Statement};
+use crate::words::{behind, ends, first_of};
+use ak_base::{AppWord, Limited, NoMemory, Text, is_path, is_signature};
+use ak_message::{ParseFault, VALUE_LIMIT, Word, read_quoted};
+use std::alloc::Global;
+
+/// `WORD`, or `WORD args TEXT ..`
+pub(crate) fn launch_of(alloc: Global, words: &[Word]) -> Result<Statement, StatementFault>
+    ensures { Tells statement_seen result (reads.launch_of (texts words.now)) }
+{
+    let Some((word, words)) = first_of(words) else {
+        return Err(StatementFault::BadValue);
+    };
+    let Some(word) = launch_word(alloc, word)? else {
+        return Err(StatementFault::BadValue);
+    };
+    launched(alloc, word, words)
+}
+
+// A path or a signature.
+fn launch_word(alloc: Global, word: &[u8]) -> Result<Option<AppWord>, NoMemory>
+    ensures word { IfOk result (λ w. w ≡ reads.launch_word word.now) }
+    ensures launched { IfOk result (λ w. IfSome w IsWord) }
+{
+    if is_path(word) {
+        return Ok(Some(AppWord::Path(Text::from_word(alloc, word)?)));
+    }
+    if is_signature(word) {
+        return Ok(Some(AppWord::Signature(Text::from_word(alloc, word)?)));
+    }
+    Ok(None)
+}
+
+// With the words behind the one that names the application.
+fn launched(alloc: Global, word: AppWord, words: &[Word]) -> Result<Statement, StatementFault>
+    requires { IsWord word }
+    ensures { Tells statement_seen result (reads.launched word (texts words.now)) }
+{
+    if ends(words) {
+        return Ok(Statement::Launch(Launch {
+            word,
+            arguments: None,
+        }));
+    }
+    match arguments_at(alloc, words)? {
+        Limited::Within(texts) => launch_kept(alloc, word, texts),
+        Limited::Over => Err(StatementFault::Limit),
+    }
+}
+
+// With these arguments, where the message that tells of them has at most 4,096 bytes of flat text.
+fn launch_kept(alloc: Global, word: AppWord, texts: Vec<Text>) -> Result<Statement, StatementFault>
+    requires word { IsWord word }
+    requires few { length texts.items ≤ value_limit }
+    ensures { Tells statement_seen result (reads.launch_kept word texts.items) }
+{
+    let message = arguments_message(alloc, &texts)?;
+    if !is_short(&message) {
+        return Err(StatementFault::Limit);
+    }
+    Ok(Statement::Launch(Launch {
+        word,
+        arguments: Some(message),
+    }))
+}
+
+// `args TEXT ..`
+#[tactic(auto, unfolding(crate::specs::Forms::arguments_at))]
+fn arguments_at(alloc: Global, words: &[Word]) -> Result<Limited<Vec<Text>>, FormFault>
+    ensures texts { Gives (limited_map items_of) result (reads.arguments_at (texts words.now)) }
+    ensures few { IfOk result (λ read. reads.FewTexts (limited_map items_of read)) }
+{
+    let Some(words) = behind(words, b"args") else {
+        return Err(FormFault::BadValue);
+    };
+    if ends(words) {
+        return Err(FormFault::BadValue);
+    }
+    texts_in(alloc, words)
+}
+
+// Texts in quotes.
+#[tactic(auto, unfolding(crate::specs::Forms::texts_behind))]
+fn texts_in(alloc: Global, words: &[Word]) -> Result<Limited<Vec<Text>>, FormFault>
+    ensures texts { Gives (limited_map items_of) result (reads.texts_behind (Within []) (texts words.now)) }
+    ensures few { IfOk result (λ read. reads.FewTexts (limited_map items_of read)) }
+{
+    let mut read = Limited::Within(Vec::new(alloc));
+    for word in words {
+        let text = quoted_from(alloc, word.bytes.as_slice())?;
+        read = with_text(read, text)?;
+    }
+    Ok(read)
+}
+
+// A text in quotes, where it is not too long.
+fn quoted_from(alloc: Global, word: &[u8]) -> Result<Limited<Text>, FormFault>
+    ensures { Gives (λ t. t) result (made.quoted_from word.now) }
+{
+    kept(read_quoted(alloc, word))
+}
+
+// What was read, where it passes no limit.
+fn kept(read: Result<Text, ParseFault>) -> Result<Limited<Text>, FormFault>
+    ensures { result ≡ faults.kept read }
+{
+    match read {
+        Ok(text) => Ok(Limited::Within(text)),
+        Err(ParseFault::Limit) => Ok(Limited::Over),
+        Err(ParseFault::BadValue) => Err(FormFault::BadValue),
+        Err(ParseFault::NoMemory) => Err(FormFault::NoMemory),
+    }
+}
+
+// One more text, where it is not too long and there are not 255.
+fn with_text(read: Limited<Vec<Text>>, text: Limited<Text>) -> Result<Limited<Vec<Text>>, NoMemory>
+    ensures more { IfOk result (λ more. limited_map items_of more ≡ reads.with_text (limited_map items_of read) text) }
+    ensures few { IfOk result (λ more. reads.FewTexts (limited_map items_of more)) }
+{
+    let Limited::Within(mut texts) = read else {
+        return Ok(Limited::Over);
+    };
+    let Limited::Within(text) = text else {
+        return Ok(Limited::Over);
+    };
+    if texts.len() >= VALUE_LIMIT {
+        return Ok(Limited::Over);
+    }
+    texts.push(text)?;
+    Ok(Limited::Within(texts))
+}

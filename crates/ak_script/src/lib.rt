@@ -1,0 +1,25 @@
+//! Scripts. `read_script` answers the script that an input is the text of: its applications, and the statements that
+//! are to be carried out, or the first line with a fault, and the first of its faults. The first pass goes line
+//! by line, through descriptions and statements; where it finds nothing, names are looked up. Nothing here
+//! waits, and nothing is shared.
+#![tactic(auto)]
+
+mod fault;
+mod form;
+mod front;
+mod laws;
+mod messages;
+mod part;
+mod reading;
+mod said;
+mod script;
+mod so_far;
+mod statement;
+mod verb;
+mod words;
+
+pub use fault::ScriptFault;
+pub use laws::{scripts_are_whole, scripts_or_refusals, statements_are_read};
+pub use reading::read_script;
+pub use script::{STATEMENT_LIMIT, Script};
+pub use statement::{Hey, Launch, Lock, Post, Statement};

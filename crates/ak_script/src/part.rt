@@ -1,0 +1,10 @@
+/// What the next line of an input may be.
+#[derive(Clone, Copy, Debug, PartialEq, Eq)]
+pub(crate) enum Part {
+    /// The first line, which says the version.
+    Front,
+    /// A line that describes applications, or the one that begins the statements.
+    Descriptions,
+    /// A statement.
+    Statements,
+}

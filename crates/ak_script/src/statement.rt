@@ -1,0 +1,64 @@
+//! What a statement is.
+ghost use Rattle.std.proofs.Props.{props};
+ghost use Rattle.std.specs.Prelude.{◌≤◌, length, IfSome};
+ghost use Rattle.ak_flatten.specs.Limits.{flat_limit};
+ghost use Rattle.ak_flatten.specs.Spelling.{spelling};
+ghost use Rattle.ak_roster.specs.Answers.{IsWord};
+ghost use Rattle.ak_script.specs.Facts.{word-prop};
+
+use ak_base::AppWord;
+use ak_desk::Edit;
+use ak_message::{Message, Target};
+
+/// Launches the first application that the word fits. (The Be Book, BRoster: Launch().)
+#[derive(Drop)]
+pub struct Launch {
+    /// A path or a signature.
+    pub word: AppWord,
+    /// What its own looper is told of its arguments, where there are some. Its flat text has at most 4,096 bytes.
+    pub arguments: Option<Message>,
+    ghost word_is: { IsWord word } by { word-prop word },
+    ghost fits: { IfSome arguments (λ message. length (spelling message) ≤ flat_limit) } by { Prim.hlevel props },
+}
+
+/// Asks the first looper of the least running team that the word fits, and waits for the reply. (`hey`)
+#[derive(Drop)]
+pub struct Hey {
+    pub app: AppWord,
+    /// Its flat text has at most 4,096 bytes.
+    pub message: Message,
+    ghost fits: { length (spelling message) ≤ flat_limit },
+}
+
+/// Posts to a looper of the least running team that the word fits. (The Be Book, BMessenger: SendMessage().)
+#[derive(Drop)]
+pub struct Post {
+    pub app: AppWord,
+    /// The place of the looper in its application, counted from 0.
+    pub looper: u32,
+    pub target: Target,
+    pub dropped: bool,
+    /// Whether it waits for room.
+    pub waits: bool,
+    /// Its flat text has at most 4,096 bytes.
+    pub message: Message,
+    ghost fits: { length (spelling message) ≤ flat_limit },
+}
+
+/// Locks a looper of the least running team that the word fits, and edits its handlers.
+#[derive(Drop)]
+pub struct Lock {
+    pub app: AppWord,
+    /// The place of the looper in its application, counted from 0.
+    pub looper: u32,
+    pub edit: Edit,
+}
+
+/// One statement of a script.
+#[derive(Drop)]
+pub enum Statement {
+    Launch(Launch),
+    Hey(Hey),
+    Post(Post),
+    Lock(Lock),
+}

@@ -1,0 +1,135 @@
+//! Reads words of a line in their order. A reader answers what it read and the words behind it.
+
+ghost use Rattle.std.specs.Prelude.{◌≡◌, ◌≤◌, ◌&&◌, pos, int_le, unsigned_abs, codes, option_map, IfSome};
+ghost use Rattle.ak_base.specs.Option.{where_true};
+ghost use Rattle.ak_message.specs.Payload.{uint_within};
+ghost use Rattle.ak_describe.specs.Seen.{word_and_rest, rest_seen};
+ghost use Rattle.ak_describe.specs.Words as reads;
+ghost use Rattle.ak_describe.specs.Words.{texts};
+ghost use Rattle.ak_script.specs.Forms as forms;
+ghost use Rattle.ak_script.specs.Seen.{bytes_seen, read_and_rest};
+
+use ak_base::read_int;
+use ak_message::Word;
+
+/// The first of the words.
+pub(crate) fn first_of(words: &[Word]) -> Option<(&[u8], &[Word])>
+    ensures { option_map word_and_rest result ≡ reads.first_of (texts words.now) }
+{
+    let (first, rest) = words.split_first()?;
+    Some((first.bytes.as_slice(), rest))
+}
+
+/// The words behind that one, if it is the first.
+pub(crate) fn behind<'a>(words: &'a [Word], word: &[u8]) -> Option<&'a [Word]>
+    ensures { option_map rest_seen result ≡ reads.behind (texts words.now) word.now }
+{
+    let (first, rest) = words.split_first()?;
+    if first.bytes.as_slice() == word {
+        Some(rest)
+    } else {
+        None
+    }
+}
+
+/// Whether no word is left.
+pub(crate) fn ends(words: &[Word]) -> bool
+    ensures { result ≡ reads.ends (texts words.now) }
+{
+    words.is_empty()
+}
+
+/// One word alone.
+pub(crate) fn only(words: &[Word]) -> Option<&[u8]>
+    ensures { option_map bytes_seen result ≡ forms.only (texts words.now) }
+{
+    let (word, rest) = first_of(words)?;
+    if ends(rest) { Some(word) } else { None }
+}
+
+// ---- numbers
+// The number that a word writes, up to that one.
+fn number_up_to(word: &[u8], most: u64) -> Option<u64>
+    ensures number { result ≡ uint_within most word.now }
+    ensures within { IfSome result (λ n. n ≤ most) }
+{
+    match read_int(word) {
+        Some(number) => whole_up_to(number, most),
+        None => None,
+    }
+}
+
+// The number, where it is not below zero and not above the other.
+fn whole_up_to(number: i128, most: u64) -> Option<u64>
+    ensures number { result ≡ option_map unsigned_abs (where_true (int_le (pos 0) number && int_le number (pos most)) number) }
+    ensures within { IfSome result (λ n. n ≤ most) }
+{
+    if 0 <= number && number <= i128::from(most) {
+        Some(number as u64)
+    } else {
+        None
+    }
+}
+
+/// The token that a word writes.
+pub(crate) fn token_of(word: &[u8]) -> Option<u64>
+    ensures { result ≡ forms.token_of word.now }
+{
+    number_up_to(word, u64::MAX)
+}
+
+/// A number behind its key, up to this one, or none where the key does not stand there.
+#[tactic(auto, unfolding(crate::specs::Forms::number_behind))]
+fn number_behind<'a>(words: &'a [Word], key: &[u8], most: u64) -> Option<(Option<u64>, &'a [Word])>
+    ensures number { option_map read_and_rest result ≡ forms.number_behind key.now most (texts words.now) }
+    ensures within { IfSome result (λ x. IfSome x.0 (λ n. n ≤ most)) }
+{
+    match behind(words, key) {
+        Some(rest) => number_at(rest, most),
+        None => Some((None, words)),
+    }
+}
+
+fn number_at(words: &[Word], most: u64) -> Option<(Option<u64>, &[Word])>
+    ensures number { option_map read_and_rest result ≡ forms.number_at most (texts words.now) }
+    ensures within { IfSome result (λ x. IfSome x.0 (λ n. n ≤ most)) }
+{
+    let (word, rest) = first_of(words)?;
+    let number = number_up_to(word, most)?;
+    Some((Some(number), rest))
+}
+
+/// The place of a looper in its application, which is its own where none is given.
+pub(crate) fn looper_at(words: &[Word]) -> Option<(u32, &[Word])>
+    ensures { option_map read_and_rest result ≡ forms.looper_at (texts words.now) }
+{
+    let (place, rest) = number_behind(words, b"looper", u64::from(u32::MAX))?;
+    Some((or_zero(place), rest))
+}
+
+fn or_zero(place: Option<u64>) -> u32
+    requires { IfSome place (λ n. n ≤ 4294967295) }
+    ensures { result ≡ forms.or_zero place }
+{
+    match place {
+        Some(place) => place as u32,
+        None => 0,
+    }
+}
+
+/// The token of a handler, where one is given.
+pub(crate) fn token_behind(words: &[Word]) -> Option<(Option<u64>, &[Word])>
+    ensures { option_map read_and_rest result ≡ forms.number_behind (codes "token") forms.most_token (texts words.now) }
+{
+    number_behind(words, b"token", u64::MAX)
+}
+
+/// Whether that word is the first, and those behind it.
+pub(crate) fn flag_behind<'a>(words: &'a [Word], key: &[u8]) -> (bool, &'a [Word])
+    ensures { read_and_rest result ≡ forms.flag_behind key.now (texts words.now) }
+{
+    match behind(words, key) {
+        Some(rest) => (true, rest),
+        None => (false, words),
+    }
+}
