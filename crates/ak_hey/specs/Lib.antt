@@ -1,0 +1,11 @@
+pub mod Answers
+pub mod Bracketed
+pub mod Brackets
+pub mod Draft
+pub mod Grammar
+pub mod Hey
+pub mod Kindred
+pub mod Laws
+pub mod Seen
+pub mod Values
+pub mod Words
