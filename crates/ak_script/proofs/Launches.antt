@@ -22,7 +22,7 @@ use Rattle.ak_script.specs.Forms.{launch_word, with_text, texts_behind, some_tex
 use Rattle.ak_script.specs.Messages.{arguments_of}
 use Rattle.ak_script.specs.Says.{SaysLaunched, SayTexts, SayArguments, SayWhatIsTold, SaysLaunch, SaysStatement}
 use Rattle.ak_script.specs.Statement.{LaunchData, StatementData, launch_statement}
-use Rattle.ak_script.proofs.Heys.{short_is, is_short_again}
+use Rattle.ak_script.proofs.Outcomes.{short_is, is_short_again}
 use Rattle.ak_script.proofs.InOrder.{behind_is, ends_is, first_is}
 use Rattle.ak_script.proofs.Outcomes.{bind_is, kept_is, read_is, within_is}
 

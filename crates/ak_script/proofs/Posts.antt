@@ -17,7 +17,7 @@ use Rattle.ak_describe.proofs.Surface.{app_word_takes, app_word_again}
 use Rattle.ak_script.specs.Forms.{Way, flag_behind, flag_from, flagged, is_short, looper_at, most_token, number_behind, post_kept, post_of, target_of, way_at}
 use Rattle.ak_script.specs.Says.{SayFlag, SayNumber, SayPlace, SayTarget, SaysPost, SaysStatement}
 use Rattle.ak_script.specs.Statement.{PostData, StatementData, post_statement}
-use Rattle.ak_script.proofs.Heys.{short_is, is_short_again}
+use Rattle.ak_script.proofs.Outcomes.{short_is, is_short_again}
 use Rattle.ak_script.proofs.InOrder.{behind_is, equal_is, first_is}
 use Rattle.ak_script.proofs.Numbers.{number_is, keyed_again, place_is, place_again}
 use Rattle.ak_script.proofs.Outcomes.{bind_is, kept_is, read_is, within_is}

@@ -66,7 +66,7 @@ few_in : (p : Part) (s : SoFar) (line : Line) (t : SoFar) → Few s → line_in 
 few_in part.Front s line t few e = subst Few (unless_is line.number (front_fault (texts line.words)) (record s { part = part.Descriptions }) t e) few
 few_in part.Descriptions s line t few e = few_described s line _ t few e
 few_in part.Statements s line t few e =
-    let b = bound (at_line line.number (statement_of (texts line.words))) (statement_added s line.number) t e in
+    let b = bound (at_line line.number (statement_of line.words)) (statement_added s line.number) t e in
     few_added s line.number b.value t b.then_is
 
 few_line : (s : SoFar) (line : Line) (t : SoFar) → Few s → line_said s line ≡ Ok t → Few t

@@ -23,6 +23,7 @@ Gives view (Err e) read = Fails e read
 -- ---- a statement: its faults are those of these kinds
 abbrev pub IsRefused : {Y : Type 0} → StatementFault → Result Y RefusalKind → Type 0
 IsRefused faults.UnknownLine read = read ≡ Err refusal.UnknownLine
+IsRefused (faults.BadHey column) read = read ≡ Err (refusal.BadHey column)
 IsRefused faults.BadValue read = read ≡ Err refusal.BadValue
 IsRefused faults.Limit read = read ≡ Err refusal.Limit
 IsRefused faults.NotYet read = read ≡ Err refusal.NotYet

@@ -9,6 +9,8 @@ use Rattle.ak_message.specs.declared.lines.LinesFault.{LinesFault}
 use Rattle.ak_message.specs.declared.lines.LinesFault.TheVariants as lines
 use Rattle.ak_describe.specs.declared.fault.DescribeFault.{DescribeFault}
 use Rattle.ak_describe.specs.declared.fault.DescribeFault.TheVariants as descriptions
+use Rattle.ak_hey.specs.declared.fault.HeyFault.{HeyFault}
+use Rattle.ak_hey.specs.declared.fault.HeyFault.TheVariants as hey
 use Rattle.ak_script.specs.declared.fault.FormFault.{FormFault}
 use Rattle.ak_script.specs.declared.fault.FormFault.TheVariants as form
 use Rattle.ak_script.specs.declared.fault.ScriptFault.{ScriptFault}
@@ -27,6 +29,7 @@ describe_fault descriptions.NoMemory = script.NoMemory
 -- of the line with that number
 abbrev pub fault_at : StatementFault → ℕ → ScriptFault
 fault_at faults.UnknownLine line = script.Refused line refusal.UnknownLine
+fault_at (faults.BadHey column) line = script.Refused line (refusal.BadHey column)
 fault_at faults.BadValue line = script.Refused line refusal.BadValue
 fault_at faults.Limit line = script.Refused line refusal.Limit
 fault_at faults.NotYet line = script.Refused line refusal.NotYet
@@ -35,6 +38,11 @@ fault_at faults.NoMemory line = script.NoMemory
 abbrev pub form_fault : FormFault → StatementFault
 form_fault form.BadValue = faults.BadValue
 form_fault form.NoMemory = faults.NoMemory
+
+abbrev pub hey_fault : HeyFault → StatementFault
+hey_fault (hey.Bad column) = faults.BadHey column
+hey_fault hey.TooLong = faults.Limit
+hey_fault hey.NoMemory = faults.NoMemory
 
 -- what was read, where it passes no limit; what passes one was read without it
 abbrev pub kept : {T : Type 0} → Result T ParseFault → Result (Limited T) FormFault

@@ -1,5 +1,5 @@
 -- The forms of statements: what the words of a line say, or its first fault.
-use Rattle.std.specs.Prelude.{ℕ, Bool, true, false, not, ◌≤◌, ◌&&◌, ◌||◌, nat_lt, nat_le, if◌then◌else◌, List, [], ◌∷◌, ◌++◌, length, codes, Option, Some, None, option_map, Result, Ok, Err}
+use Rattle.std.specs.Prelude.{ℕ, Bool, true, false, ◌≤◌, nat_lt, nat_le, if◌then◌else◌, List, [], ◌∷◌, ◌++◌, length, codes, Option, Some, None, option_map, Result, Ok, Err}
 use Rattle.std.specs.Str.{bytes_eq}
 use Rattle.ak_base.specs.AppName.{is_path, is_signature}
 use Rattle.ak_base.specs.Option.{where_true, ◌>>=◌}
@@ -12,6 +12,7 @@ use Rattle.ak_base.specs.declared.limited.Limited.{Limited}
 use Rattle.ak_base.specs.declared.limited.Limited.TheVariants.{Within, Over}
 use Rattle.ak_desk.specs.declared.entry.Edit.{Edit}
 use Rattle.ak_desk.specs.declared.entry.Edit.TheVariants as edit
+use Rattle.ak_message.specs.declared.line.Word.{Word}
 use Rattle.ak_message.specs.declared.address.Target.{Target}
 use Rattle.ak_message.specs.declared.address.Target.TheVariants as target
 use Rattle.ak_message.specs.Limits.{value_limit}
@@ -22,16 +23,12 @@ use Rattle.ak_flatten.specs.Limits.{flat_limit}
 use Rattle.ak_flatten.specs.Spelling.{spelling}
 use Rattle.ak_describe.specs.Made.{quoted_from}
 use Rattle.ak_describe.specs.Pass.{or_bad, or_limit}
-use Rattle.ak_describe.specs.Words.{app_word_of, behind, ends, first_of}
+use Rattle.ak_describe.specs.Words.{app_word_of, behind, ends, first_of, texts}
+use Rattle.ak_hey.specs.Hey as lines
 use Rattle.ak_script.specs.declared.verb.Verb.{Verb}
 use Rattle.ak_script.specs.declared.verb.Verb.TheVariants as verb
-use Rattle.ak_script.specs.Messages.{arguments_of, get_of}
+use Rattle.ak_script.specs.Messages.{arguments_of}
 use Rattle.ak_script.specs.Statement.{StatementData, launch_statement, hey_statement, post_statement, lock_statement}
-
--- a line of another form is not run yet
-abbrev pub or_not_yet : {A B : Type 0} → Option A → (A → Result B RefusalKind) → Result B RefusalKind
-or_not_yet None f = Err refusal.NotYet
-or_not_yet (Some x) f = f x
 
 -- a message has at most 4,096 bytes of flat text
 abbrev pub is_short : MessageData → Bool
@@ -119,30 +116,17 @@ abbrev pub launch_of : List (List ℕ) → Result StatementData RefusalKind
 launch_of words = or_bad (first_of words) (λ first. or_bad (launch_word first.0) (λ word. launched word first.1))
 
 -- ---- `hey`
--- a property is a word, and none that parts a hey line
-abbrev pub is_reserved : List ℕ → Bool
-is_reserved word = bytes_eq word (codes "of") || bytes_eq word (codes "to") || bytes_eq word (codes "with") || bytes_eq word (codes "and")
+abbrev pub asked : AppWord → MessageData → Result StatementData RefusalKind
+asked word m = Ok (hey_statement (record { app = word; message = m }))
 
-abbrev pub is_property : List ℕ → Bool
-is_property word = is_word word && not (is_reserved word)
+-- what is no hey line is told by its column, and a message that passes a limit by that
+abbrev pub hey_from : Result (AppWord × Limited MessageData) ℕ → Result StatementData RefusalKind
+hey_from (Ok line) = or_limit line.1 (asked line.0)
+hey_from (Err column) = Err (refusal.BadHey column)
 
--- one property alone
-unfoldable pub only_property : List (List ℕ) → Option (List ℕ)
-only_property words = only words >>= λ word. where_true (is_property word) word
-
--- `APP get PROPERTY`: how the application is named, and the property
-unfoldable pub get_words : List (List ℕ) → Option (List ℕ × List ℕ)
-get_words words = do
-  named ← first_of words
-  rest ← behind named.1 (codes "get")
-  property ← only_property rest
-  Some (named.0, property)
-
-abbrev pub hey_kept : AppWord → MessageData → Result StatementData RefusalKind
-hey_kept word message = if is_short message then Ok (hey_statement (record { app = word; message = message })) else Err refusal.Limit
-
-abbrev pub hey_of : List (List ℕ) → Result StatementData RefusalKind
-hey_of words = or_not_yet (get_words words) (λ w. or_not_yet (app_word_of w.0) (λ word. hey_kept word (get_of w.1)))
+-- a hey line, with its first word
+abbrev pub hey_of : List Word → Result StatementData RefusalKind
+hey_of words = hey_from (lines.hey_of (lines.end_of words) words)
 
 -- ---- `post`
 -- for whom and how a message is posted
@@ -243,15 +227,16 @@ verb_of word =
     else if bytes_eq word (codes "together") then Some verb.Together
     else None
 
-abbrev pub said_by : Option Verb → List (List ℕ) → Result StatementData RefusalKind
-said_by None words = Err refusal.UnknownLine
-said_by (Some verb.Launch) words = launch_of words
-said_by (Some verb.Hey) words = hey_of words
-said_by (Some verb.Post) words = post_of words
-said_by (Some verb.Lock) words = lock_of words
-said_by (Some verb.Together) words = Err refusal.NotYet
+-- by what the first word says, by all words, and by the bytes of those behind it
+abbrev pub said_by : Option Verb → List Word → List (List ℕ) → Result StatementData RefusalKind
+said_by None all words = Err refusal.UnknownLine
+said_by (Some verb.Launch) all words = launch_of words
+said_by (Some verb.Hey) all words = hey_of all
+said_by (Some verb.Post) all words = post_of words
+said_by (Some verb.Lock) all words = lock_of words
+said_by (Some verb.Together) all words = Err refusal.NotYet
 
 -- by the words of its line, of which the first one says what it is
-unfoldable pub statement_of : List (List ℕ) → Result StatementData RefusalKind
+unfoldable pub statement_of : List Word → Result StatementData RefusalKind
 statement_of [] = Err refusal.UnknownLine
-statement_of (word ∷ words) = said_by (verb_of word) words
+statement_of (word ∷ words) = said_by (verb_of word.bytes) (word ∷ words) (texts words)

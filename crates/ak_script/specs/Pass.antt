@@ -80,7 +80,7 @@ statement_added s number statement =
     else Err (refused_at number refusal.Limit)
 
 abbrev pub statement_line : SoFar → Line → Result SoFar Refusal
-statement_line s line = then_read (at_line line.number (statement_of (texts line.words))) (statement_added s line.number)
+statement_line s line = then_read (at_line line.number (statement_of line.words)) (statement_added s line.number)
 
 -- ---- all lines
 abbrev pub line_in : Part → SoFar → Line → Result SoFar Refusal

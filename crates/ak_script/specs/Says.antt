@@ -1,11 +1,13 @@
 -- Which words say a statement: what stands behind the first word, part by part.
-use Rattle.std.specs.Prelude.{◌≡◌, ◌≢◌, ◌↔◌, ℕ, ◌≤◌, true, List, [], ◌∷◌, ◌++◌, length, codes, Bool, false, Option, Some, None, Ok}
+use Rattle.std.specs.Prelude.{◌≡◌, ◌≢◌, ◌↔◌, ◌⊎◌, ℕ, ◌≤◌, true, List, [], ◌∷◌, ◌++◌, length, codes, Bool, false, Option, Some, None, Ok, Err}
 use Rattle.ak_base.specs.declared.app_word.AppWord.{AppWord}
 use Rattle.ak_base.specs.declared.app_word.AppWord.TheVariants as app
+use Rattle.ak_base.specs.declared.ending.RefusalKind.TheVariants as refusal
 use Rattle.ak_base.specs.declared.limited.Limited.TheVariants.{Within}
 use Rattle.ak_base.specs.AppName.{is_path, is_signature}
 use Rattle.ak_message.specs.Message.{MessageData}
 use Rattle.ak_message.specs.Reading.{read_message}
+use Rattle.ak_message.specs.declared.line.Word.{Word}
 use Rattle.ak_message.specs.declared.address.Target.{Target}
 use Rattle.ak_message.specs.declared.address.Target.TheVariants as target
 use Rattle.ak_message.specs.Limits.{value_limit}
@@ -13,12 +15,16 @@ use Rattle.ak_flatten.specs.Limits.{flat_limit}
 use Rattle.ak_flatten.specs.Spelling.{spelling}
 use Rattle.ak_describe.specs.Made.{quoted_from}
 use Rattle.ak_describe.specs.Grammar.{SaysAppWord, WritesNumber}
+use Rattle.ak_describe.specs.Words.{texts}
+use Rattle.ak_hey.specs.Grammar.{IsHey}
+use Rattle.ak_hey.specs.Hey.{end_of}
+use Rattle.ak_hey.specs.Laws.{IsFirstBad, EndsEarly}
 use Rattle.ak_desk.specs.declared.entry.Edit.{Edit}
 use Rattle.ak_desk.specs.declared.entry.Edit.TheVariants as edit
 use Rattle.ak_base.specs.Word.{is_word}
-use Rattle.ak_script.specs.Forms.{is_property, most_looper, most_token, or_zero, statement_of}
-use Rattle.ak_script.specs.Messages.{arguments_of, get_of}
-use Rattle.ak_script.specs.Statement.{LaunchData, HeyData, PostData, LockData, StatementData, launch_statement, hey_statement, post_statement, lock_statement}
+use Rattle.ak_script.specs.Forms.{most_looper, most_token, or_zero, statement_of}
+use Rattle.ak_script.specs.Messages.{arguments_of}
+use Rattle.ak_script.specs.Statement.{LaunchData, PostData, LockData, StatementData, launch_statement, hey_statement, post_statement, lock_statement}
 
 -- what is launched is named by a path or a signature
 abbrev pub SaysLaunched : List ℕ → AppWord → Type 0
@@ -56,16 +62,6 @@ pub record SaysLaunch (words : List (List ℕ)) (s : LaunchData) : Type 0 where
   pub parts : words ≡ named ∷ rest
   pub word_is : SaysLaunched named s.word
   pub told : SayWhatIsTold rest s.arguments
-
--- `APP get PROPERTY`, whose message has at most 4,096 bytes of flat text
-pub record SaysHey (words : List (List ℕ)) (s : HeyData) : Type 0 where
-  pub named : List ℕ
-  pub property : List ℕ
-  pub parts : words ≡ named ∷ codes "get" ∷ property ∷ []
-  pub app_is : SaysAppWord named s.app
-  pub askable : is_property property ≡ true
-  pub message_is : s.message ≡ get_of property
-  pub short : length (spelling s.message) ≤ flat_limit
 
 -- ---- parts that may be left out
 -- a key and a number up to this one, or nothing
@@ -140,10 +136,17 @@ Behind key words says = (rest : List (List ℕ)) × (words ≡ key ∷ rest) × 
 -- these words, of which the first one says what it is, are the statement
 abbrev pub SaysStatement : List (List ℕ) → StatementData → Type 0
 SaysStatement words (launch_statement s) = Behind (codes "launch") words (λ (rest : List (List ℕ)). SaysLaunch rest s)
-SaysStatement words (hey_statement s) = Behind (codes "hey") words (λ (rest : List (List ℕ)). SaysHey rest s)
+SaysStatement words (hey_statement s) = IsHey words s.app (Within s.message)
 SaysStatement words (post_statement s) = Behind (codes "post") words (λ (rest : List (List ℕ)). SaysPost rest s)
 SaysStatement words (lock_statement s) = Behind (codes "lock") words (λ (rest : List (List ℕ)). SaysLock rest s)
 
 -- exactly the words that say a statement are read as it
 abbrev pub StatementsAreRead : Type 0
-StatementsAreRead = (words : List (List ℕ)) (s : StatementData) → (statement_of words ≡ Ok s) ↔ SaysStatement words s
+StatementsAreRead = (words : List Word) (s : StatementData) → (statement_of words ≡ Ok s) ↔ SaysStatement (texts words) s
+
+-- a line that begins with `hey` and is no hey line is told at the first word with which none goes on, or behind the last one where it
+-- ends too early
+abbrev pub BadHeysAreTold : Type 0
+BadHeysAreTold =
+    (words : List Word) (rest : List (List ℕ)) (column : ℕ) → texts words ≡ codes "hey" ∷ rest → statement_of words ≡ Err (refusal.BadHey column)
+    → IsFirstBad words column ⊎ EndsEarly (end_of words) words column

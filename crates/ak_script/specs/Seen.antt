@@ -46,10 +46,6 @@ so_far_of s = record { part = s.part; descriptions = s.descriptions; statements 
 abbrev pub script_seen : Script → ScriptData
 script_seen s = record { apps = s.apps.items; statements = statements_seen s.statements.items }
 
--- bytes of two words
-abbrev pub two_seen : Bor (List ℕ) × Bor (List ℕ) → List ℕ × List ℕ
-two_seen x = (x.0.now, x.1.now)
-
 abbrev pub bytes_seen : Bor (List ℕ) → List ℕ
 bytes_seen x = x.now
 

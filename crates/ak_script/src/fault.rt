@@ -3,6 +3,7 @@ ghost use Rattle.ak_script.specs.Faults.{fault_at};
 
 use ak_base::{NoMemory, RefusalKind};
 use ak_describe::DescribeFault;
+use ak_hey::HeyFault;
 use ak_message::LinesFault;
 use std::alloc::AllocFailed;
 use std::error::Error;
@@ -115,6 +116,9 @@ impl<T: Drop> From<AllocFailed<T>> for FormFault {
 pub(crate) enum StatementFault {
     /// Its first word begins no statement.
     UnknownLine,
+    /// It is no hey line: the column of the first byte of the first word with which none goes on, or the one
+    /// past the last byte.
+    BadHey(u32),
     /// Its further words are not of its form.
     BadValue,
     /// A limit is passed.
@@ -131,6 +135,7 @@ impl StatementFault {
     {
         match self {
             StatementFault::UnknownLine => refused(line, RefusalKind::UnknownLine),
+            StatementFault::BadHey(column) => refused(line, RefusalKind::BadHey(column)),
             StatementFault::BadValue => refused(line, RefusalKind::BadValue),
             StatementFault::Limit => refused(line, RefusalKind::Limit),
             StatementFault::NotYet => refused(line, RefusalKind::NotYet),
@@ -178,6 +183,21 @@ impl From<FormFault> for StatementFault {
         match fault {
             FormFault::BadValue => StatementFault::BadValue,
             FormFault::NoMemory => StatementFault::NoMemory,
+        }
+    }
+}
+
+impl From<HeyFault> for StatementFault {
+    ghost use Rattle.std.specs.Prelude.{◌≡◌};
+    ghost use Rattle.ak_script.specs.Faults.{hey_fault};
+
+    ghost from_gives = { λ f e. e ≡ hey_fault f };
+
+    fn from(fault: HeyFault) -> StatementFault {
+        match fault {
+            HeyFault::Bad { column } => StatementFault::BadHey(column),
+            HeyFault::TooLong => StatementFault::Limit,
+            HeyFault::NoMemory => StatementFault::NoMemory,
         }
     }
 }

@@ -19,7 +19,7 @@ mod verb;
 mod words;
 
 pub use fault::ScriptFault;
-pub use laws::{scripts_are_whole, scripts_or_refusals, statements_are_read};
+pub use laws::{bad_heys_are_told, scripts_are_whole, scripts_or_refusals, statements_are_read};
 pub use reading::read_script;
 pub use script::{STATEMENT_LIMIT, Script};
 pub use statement::{Hey, Launch, Lock, Post, Statement};

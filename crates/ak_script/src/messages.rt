@@ -5,30 +5,12 @@ ghost use Rattle.ak_message.specs.Fields.{field_named};
 ghost use Rattle.ak_message.specs.Limits.{field_limit, value_limit};
 ghost use Rattle.ak_property.specs.Suites.{texts_field};
 ghost use Rattle.ak_script.specs.Forms.{is_short};
-ghost use Rattle.ak_script.specs.Messages.{arguments_of, specifier_of, get_of};
+ghost use Rattle.ak_script.specs.Messages.{arguments_of};
 
 use ak_base::{Code, NoMemory, Text};
 use ak_flatten::{FLAT_LIMIT, flat_len};
 use ak_message::{Message, Value};
 use std::alloc::Global;
-
-fn specifier(alloc: Global, property: Text) -> Result<Message, NoMemory>
-    ensures { IfOk result (λ m. m ≡ specifier_of property) }
-{
-    let mut specifier = Message::new(alloc, Code(1));
-    specifier.add_fitting(b"property", Value::Text(property))?;
-    Ok(specifier)
-}
-
-/// The message that gets a property: one specifier, the direct one of that name.
-pub(crate) fn get_message(alloc: Global, property: Text) -> Result<Message, NoMemory>
-    ensures { IfOk result (λ m. m ≡ get_of property) }
-{
-    let specifier = specifier(alloc, property)?;
-    let mut message = Message::new(alloc, Code::GET);
-    message.add_fitting(b"specifiers", Value::from_message(alloc, specifier)?)?;
-    Ok(message)
-}
 
 /// The message that tells of arguments, at most 255: how many there are, and each of them.
 pub(crate) fn arguments_message(alloc: Global, texts: &[Text]) -> Result<Message, NoMemory>

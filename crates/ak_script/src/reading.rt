@@ -18,12 +18,13 @@ use std::alloc::Global;
 /// The script that the input is the text of. Refused with the first fault. An input of over 1,048,576 bytes is
 /// `InputTooLong`, before all else. Then the first pass goes line by line: the first line is `kit 1`, and behind
 /// it stand lines that describe applications, then the line `script`, and statements, at most 8,000. A line that
-/// begins otherwise, or may not stand there, is an `UnknownLine`; one with other further words is a `BadValue`,
-/// one that gives a name again, or passes a limit, is told by that, and a statement of a form that is not run yet
-/// is `NotYet`. A line without words is told behind all lines before it, and an application without a looper,
-/// where the lines end with it, is `Unfinished`. Where the first pass finds nothing, the second one goes over the
-/// names in the descriptions: `UnknownName`, `ChainLoop` or `AskOrder`. An input in which no line says anything
-/// is the empty script. Answers `NoMemory` where memory ran out.
+/// begins otherwise, or may not stand there, is an `UnknownLine`; one that begins with `hey` and is no hey line is
+/// `BadHey`, at its column; any other one with other further words is a `BadValue`, one that gives a name again, or
+/// passes a limit, is told by that, and a block of sessions, which is not run yet, is `NotYet`. A line without
+/// words is told behind all lines before it, and an application without a looper, where the lines end with it, is
+/// `Unfinished`. Where the first pass finds nothing, the second one goes over the names in the descriptions:
+/// `UnknownName`, `ChainLoop` or `AskOrder`. An input in which no line says anything is the empty script. Answers
+/// `NoMemory` where memory ran out.
 #[tactic(auto, unfolding(crate::specs::Script::script_of))]
 pub fn read_script(alloc: Global, input: &[u8]) -> Result<Script, ScriptFault>
     ensures answer { Answers script_seen result (reads.script_of input.now) }

@@ -1,6 +1,5 @@
 //! What a line says as a statement.
 
-ghost use Rattle.ak_describe.specs.Words.{texts};
 ghost use Rattle.ak_script.specs.Answers.{Tells};
 ghost use Rattle.ak_script.specs.Forms as reads;
 ghost use Rattle.ak_script.specs.Seen.{statement_seen};
@@ -18,19 +17,19 @@ use std::alloc::Global;
 /// The statement that the words of a line say, of which the first one says what it is.
 #[tactic(auto, unfolding(crate::specs::Forms::statement_of))]
 pub(crate) fn statement_of(alloc: Global, words: &[Word]) -> Result<Statement, StatementFault>
-    ensures { Tells statement_seen result (reads.statement_of (texts words.now)) }
+    ensures { Tells statement_seen result (reads.statement_of words.now) }
 {
-    let Some((first, words)) = words.split_first() else {
+    let Some((first, rest)) = words.split_first() else {
         return Err(StatementFault::UnknownLine);
     };
     let Some(verb) = verb_of(first.bytes.as_slice()) else {
         return Err(StatementFault::UnknownLine);
     };
     match verb {
-        Verb::Launch => launch_of(alloc, words),
+        Verb::Launch => launch_of(alloc, rest),
         Verb::Hey => hey_of(alloc, words),
-        Verb::Post => post_of(alloc, words),
-        Verb::Lock => lock_of(alloc, words),
+        Verb::Post => post_of(alloc, rest),
+        Verb::Lock => lock_of(alloc, rest),
         Verb::Together => Err(StatementFault::NotYet),
     }
 }
