@@ -1,5 +1,5 @@
 -- What main does at one port, at the book for an ask, and at the roster, by what its calls say of its seats.
-use Rattle.std.proofs.Common.{◌≡◌, ◌≢◌, ◌⊎◌, ℕ, ◌≤◌, List, [], ◌∷◌, ◌++◌, length, All, Any, Option, None, Some, Result, Ok, Err, true, refl, sym, ap, ◌∙◌, subst, append_assoc, append-nil, inl, inr, ⊎_elim, arith}
+use Rattle.std.proofs.Common.{◌≡◌, ◌≢◌, ◌⊎◌, ℕ, ◌≤◌, List, [], ◌∷◌, ◌++◌, length, All, Any, Option, None, Some, Result, Ok, Err, true, map, refl, sym, ap, ◌∙◌, subst, append_assoc, append-nil, inl, inr, ⊎_elim, arith}
 use Rattle.std.specs.Prelude.{IfSome}
 use Rattle.std.proofs.lemmas.List.{map-append}
 use Rattle.std.proofs.lemmas.List.Elements.{All-append, All-cons, All-head, All-map, All-nil, Contains-push_cases}
@@ -36,12 +36,15 @@ use Rattle.ak_messenger.specs.declared.asking.Reply.{Reply}
 use Rattle.ak_messenger.specs.declared.envelope.Envelope.{Envelope}
 use Rattle.ak_messenger.specs.declared.fault.SendFault.{SendFault}
 use Rattle.ak_messenger.specs.declared.fault.SendFault.TheVariants as fault
-use Rattle.ak_diary.specs.Step.{Step, at_book, at_port, at_roster, saw_book}
+use Rattle.ak_diary.specs.Step.{Step, at_book, at_port, at_roster, desk_entries, saw_book}
 use Rattle.ak_diary.specs.Wants.{Cancels, Converses, IsRefusedBy, Withdraws}
-use Rattle.ak_headline.specs.Main.{IsMainDiary, MayEnterPort, MayEnterRoster, MayRefuse, asks, asks_in_vain, begun, enters_roster, owes_no_slot}
+use Rattle.ak_headline.specs.Main.{IsMainDiary, MayEnterPort, MayEnterRoster, MayRefuse, asks, asks_in_vain, begun, enters_port, enters_roster, owes_no_slot}
 use Rattle.ak_looper.specs.Rosters.{Object, by_number, maker_of}
-use Rattle.ak_run.specs.Recording.{AddsAtPort, Records, fronts, list_at}
-use Rattle.ak_run.proofs.Acts.{GoesAtBoth, May, adds_there, both_then, nothing_done, one_act, steps_there, there_diary}
+use Rattle.ak_run.specs.declared.run.Run.{Run}
+use Rattle.ak_run.specs.Doing.{Answered, AskedSo, EnteredSo, EntersLast, RefusedBy, address_of}
+use Rattle.ak_run.specs.Entering.{AreAtPorts}
+use Rattle.ak_run.specs.Recording.{AddsAtPort, GoesBy, fronts, fronts_of, list_at}
+use Rattle.ak_run.proofs.Acts.{GoesAtBoth, May, adds_there, both_then, no_book, no_roster, nothing_goes, one_act, steps_there, there_diary}
 
 -- ---- main's seat goes on
 module _ {O L : Type 0} (by : L → ℕ) (a b : SeatData O L) (main : a.thread ≡ main_thread) where
@@ -55,7 +58,7 @@ module _ {O L : Type 0} (by : L → ℕ) (a b : SeatData O L) (main : a.thread �
   seen_on : HasSeen by a b → StartsWith b.front a.front
   seen_on seen = (seen.between, ap (λ s. s.front) seen.after)
 
-  called_on : (entry : L) → HasCalled by entry a b → StartsWith b.front a.front
+  pub called_on : (entry : L) → HasCalled by entry a b → StartsWith b.front a.front
   called_on entry call = (call.between ++ entry ∷ [], ap (λ s. s.front) call.after ∙ append_assoc a.front call.between (entry ∷ []))
 
 -- ---- at one port
@@ -117,15 +120,21 @@ filled_before : (n : ℕ) (flat : List ℕ) (k l : Clock) (b b' : ReplySeat) (en
 filled_before n flat k l b b' entered fills =
     any_before (λ (x : ReplyEntry). x.event ≡ slot_event.Filled n flat) entered.before (at_books.entry_now k entered.before (slot_event.Taken n)) (λ same. cc) (subst (FillsWith n flat) entered.front fills)
 
--- what main did at both, as acts
-pub record ActsAtBoth (looper : ℕ) (book book' : List ReplyEntry) (port port' : List PortEntry) : Type 0 where
+-- what main did at both, as acts of which that holds
+pub record ActsAtBoth (looper : ℕ) (P : List Step → Type 0) (book book' : List ReplyEntry) (port port' : List PortEntry) : Type 0 where
   pub steps : List Step
+  pub so : P steps
   pub acts : IsMainDiary steps
   pub goes : GoesAtBoth looper steps book book' port port'
 
 -- at the port alone
-pub port_acts : (looper : ℕ) (book : List ReplyEntry) (a b : List PortEntry) → AddsAtPort a b → ActsAtBoth looper book book a b
-port_acts looper book a b adds = record { steps = steps_there looper adds.added; acts = there_diary looper adds.added adds.may; goes = adds_there looper adds.added book a b adds.noted_is }
+pub port_acts : (looper : ℕ) (book : List ReplyEntry) (a b : List PortEntry) → AddsAtPort a b → ActsAtBoth looper AreAtPorts book book a b
+port_acts looper book a b adds = record {
+  steps = steps_there looper adds.added;
+  so = record { no_roster = no_roster looper adds.added; no_book = no_book looper adds.added };
+  acts = there_diary looper adds.added adds.may;
+  goes = adds_there looper adds.added book a b adds.noted_is;
+}
 
 -- steps of which P holds
 record DoesAtBoth (looper : ℕ) (P : List Step → Type 0) (book book' : List ReplyEntry) (port port' : List PortEntry) : Type 0 where
@@ -151,6 +160,7 @@ module _ (looper : ℕ) where
     book_seen = All-nil (StartsWith b.front);
     noted_port = same_port port;
     elsewhere = λ other differ. refl;
+    no_edits = λ other. refl;
   }
 
   at_the_port : (e : PortEvent) (k l : Clock) (a b : PortSeat) (book : List ReplyEntry) → a.thread ≡ main_thread → (entered : at_ports.HasEntered k l e a b) → GoesAtBoth looper (at_port looper (noted_there e k l a b entered) ∷ []) book book a.front b.front
@@ -168,6 +178,7 @@ module _ (looper : ℕ) where
     book_seen = All-nil (StartsWith b.front);
     noted_port = same_port port;
     elsewhere = λ other differ. refl;
+    no_edits = λ other. refl;
   }
 
   sees_book : (k l : Clock) (a b : ReplySeat) (port : List PortEntry) → a.thread ≡ main_thread → at_books.HasLooked k l a b → GoesAtBoth looper (saw_book b.front ∷ []) a.front b.front port port
@@ -178,6 +189,7 @@ module _ (looper : ℕ) where
     book_seen = All-cons (StartsWith b.front) b.front [] ([], sym (append-nil b.front)) (All-nil (StartsWith b.front));
     noted_port = same_port port;
     elsewhere = λ other differ. refl;
+    no_edits = λ other. refl;
   }
 
   -- a slot is closed
@@ -191,16 +203,33 @@ module _ (looper : ℕ) where
     goes = sees_book k l a b port main found.looked;
   }
 
+  -- one entry at the port, or none, by what it answers, where main has seen its list to that entry
+  pub answers_so : (e : Option PortEvent) (k l : Clock) (a b : PortSeat) (book : List ReplyEntry) (r' : Run) → a.thread ≡ main_thread → list_at (fronts_of r').ports looper ≡ b.front → IfSome e MayEnterPort → at_ports.HasAnswered e k l a b
+      → ActsAtBoth looper (λ steps. EnteredSo looper r' steps e) book book a.front b.front
+  answers_so None k l a b book r' main sees may looked = record { steps = []; so = refl; acts = begun; goes = looks_at_port k l a b book main looked }
+  answers_so (Some e) k l a b book r' main sees may entered =
+      let y = noted_there e k l a b entered in
+      record {
+        steps = at_port looper y ∷ [];
+        so = record { enters = record { noted = y; event_is = refl; is = refl }; last = sees ∙ entered.front };
+        acts = one_act (at_port looper y ∷ []) (enters_port looper e may (record { noted = y; event_is = refl; is = refl }));
+        goes = at_the_port e k l a b book main entered;
+      }
+
   -- the looper that is asked
-  module _ (item : ItemData) (c c' : Clock) (b b' : ReplySeat) (s s' : PortSeat) (book_main : b.thread ≡ main_thread) (port_main : s.thread ≡ main_thread) where
+  module _ (item : ItemData) (c c' : Clock) (b b' : ReplySeat) (s s' : PortSeat) (book_main : b.thread ≡ main_thread) (port_main : s.thread ≡ main_thread) (r' : Run) (sees : list_at (fronts_of r').ports looper ≡ s'.front) where
     abbrev to : Address
-    to = record { looper = looper; target = item.target }
+    to = address_of looper item
 
     later_main : (n : ℕ) (k : Clock) (b1 : ReplySeat) → HasEnteredBook c k (slot_event.Opened n) b b1 → b1.thread ≡ main_thread
     later_main n k b1 opened = ap (λ (x : ReplySeat). x.thread) opened.entered.called.after ∙ book_main
 
     -- a slot was opened, the item written, and taken what the slot was filled with
-    converses : (n : ℕ) (k : Clock) (b1 : ReplySeat) (flat : List ℕ) → HasEnteredBook c k (slot_event.Opened n) b b1 → HasConversed item k c' b1 b' s s' n flat → ActsAtBoth looper b.front b'.front s.front s'.front
+    record Conversed (n : ℕ) (flat : List ℕ) (steps : List Step) : Type 0 where
+      does : Converses to item flat steps
+      slot_is : does.slot ≡ n
+
+    converses : (n : ℕ) (k : Clock) (b1 : ReplySeat) (flat : List ℕ) → HasEnteredBook c k (slot_event.Opened n) b b1 → HasConversed item k c' b1 b' s s' n flat → ActsAtBoth looper (Conversed n flat) b.front b'.front s.front s'.front
     converses n k b1 flat opened h =
         let asked : ItemData = record item { duty = duty.Slot n } in
         let position = h.written.0 in
@@ -221,6 +250,7 @@ module _ (looper : ℕ) where
         } in
         record {
           steps = at_book x ∷ at_port looper y ∷ at_book z ∷ [];
+          so = record { does = does; slot_is = refl };
           acts = one_act (at_book x ∷ at_port looper y ∷ at_book z ∷ []) (asks to item flat does);
           goes =
               both_then looper (at_book x ∷ []) (at_port looper y ∷ at_book z ∷ []) b.front b1.front b'.front s.front s.front s'.front (at_the_book (slot_event.Opened n) c k b b1 s.front book_main opened.entered)
@@ -228,46 +258,68 @@ module _ (looper : ℕ) where
               (at_the_book (slot_event.Taken n) h.between c' b1 b' s'.front (later_main n k b1 opened) h.collected.taken.entered));
         }
 
-    -- the item was refused, and the slot closed
-    withdraws : (e : Option PortEvent) → MayRefuse e → (n : ℕ) (k between : Clock) (b1 : ReplySeat) → HasEnteredBook c k (slot_event.Opened n) b b1 → DoesAtBoth looper (IsRefusedBy looper e) b1.front b1.front s.front s'.front → HasClosed n between c' b1 b'
-        → ActsAtBoth looper b.front b'.front s.front s'.front
-    withdraws e may n k between b1 opened refused closing =
+    -- the item was refused, by steps of which P holds, and the slot closed
+    record Withdrew (e : Option PortEvent) (P : List Step → Type 0) (steps : List Step) : Type 0 where
+      does : Withdraws to e steps
+      refused_so : P does.refused
+
+    withdraws : (e : Option PortEvent) (P : List Step → Type 0) → ((steps : List Step) → P steps → IsRefusedBy looper e steps) → MayRefuse e → (n : ℕ) (k between : Clock) (b1 : ReplySeat) → HasEnteredBook c k (slot_event.Opened n) b b1
+        → DoesAtBoth looper P b1.front b1.front s.front s'.front → HasClosed n between c' b1 b' → ActsAtBoth looper (Withdrew e P) b.front b'.front s.front s'.front
+    withdraws e P tells may n k between b1 opened refused closing =
         let x = noted_in_book (slot_event.Opened n) c k b b1 opened.entered in
         let last = closes n between c' b1 b' s'.front (later_main n k b1 opened) closing in
         let does : Withdraws to e (at_book x ∷ refused.steps ++ last.steps) =
-        record { slot = n; opened = x; refused = refused.steps; closing = last.steps; opened_is = refl; refused_is = refused.does; closes = last.does; is = refl } in
+        record { slot = n; opened = x; refused = refused.steps; closing = last.steps; opened_is = refl; refused_is = tells refused.steps refused.does; closes = last.does; is = refl } in
         record {
           steps = at_book x ∷ refused.steps ++ last.steps;
+          so = record { does = does; refused_so = refused.does };
           acts = one_act (at_book x ∷ refused.steps ++ last.steps) (asks_in_vain to e may does);
           goes =
               both_then looper (at_book x ∷ []) (refused.steps ++ last.steps) b.front b1.front b'.front s.front s.front s'.front (at_the_book (slot_event.Opened n) c k b b1 s.front book_main opened.entered)
               (both_then looper refused.steps last.steps b1.front b1.front b'.front s.front s'.front s'.front refused.goes last.goes);
         }
 
-    -- the port gave a reason
-    withdraws_so : (e : PortEvent) → MayRefuse (Some e) → (n : ℕ) (k between : Clock) (b1 : ReplySeat) → HasEnteredBook c k (slot_event.Opened n) b b1 → at_ports.HasEntered k between e s s' → HasClosed n between c' b1 b' → ActsAtBoth looper b.front b'.front s.front s'.front
+    -- the port gave a reason, in the last entry that main has seen there
+    withdraws_so : (e : PortEvent) → MayRefuse (Some e) → (n : ℕ) (k between : Clock) (b1 : ReplySeat) → HasEnteredBook c k (slot_event.Opened n) b b1 → at_ports.HasEntered k between e s s' → HasClosed n between c' b1 b'
+        → ActsAtBoth looper (RefusedBy looper item e r') b.front b'.front s.front s'.front
     withdraws_so e may n k between b1 opened entered closing =
         let y = noted_there e k between s s' entered in
-        withdraws (Some e) may n k between b1 opened (record { steps = at_port looper y ∷ []; does = record { noted = y; event_is = refl; is = refl }; goes = at_the_port e k between s s' b1.front port_main entered }) closing
+        let P = EntersLast looper e r' in
+        let refused : DoesAtBoth looper P b1.front b1.front s.front s'.front =
+        record { steps = at_port looper y ∷ []; does = record { enters = record { noted = y; event_is = refl; is = refl }; last = sees ∙ entered.front }; goes = at_the_port e k between s s' b1.front port_main entered } in
+        let all = withdraws (Some e) P (λ steps is. is.enters) may n k between b1 opened refused closing in
+        record { steps = all.steps; so = record { withdraws = all.so.does; refused = all.so.refused_so }; acts = all.acts; goes = all.goes }
+
+    -- whatever holds of them
+    anyhow : (P : List Step → Type 0) → ActsAtBoth looper P b.front b'.front s.front s'.front → ActsAtBoth looper (λ steps. Unit {0}) b.front b'.front s.front s'.front
+    anyhow P does = record { steps = does.steps; so = tt; acts = does.acts; goes = does.goes }
 
     -- memory was wanting
-    in_vain_later : (h : HasAsked item c c' b b' s s' (Err fault.NoMemory)) → (HasGivenUp item h.clock c' h.seat b' s s' h.slot fault.NoMemory ⊎ ((flat : List ℕ) × HasConversed item h.clock c' h.seat b' s s' h.slot flat)) → ActsAtBoth looper b.front b'.front s.front s'.front
-    in_vain_later h (inl up) = withdraws None tt h.slot h.clock up.between h.seat h.opened (record { steps = []; does = refl; goes = looks_at_port h.clock up.between s s' h.seat.front port_main up.refused.looked }) up.closed
-    in_vain_later h (inr both) = converses h.slot h.clock h.seat both.0 h.opened both.1
+    in_vain_later : (h : HasAsked item c c' b b' s s' (Err fault.NoMemory)) → (HasGivenUp item h.clock c' h.seat b' s s' h.slot fault.NoMemory ⊎ ((flat : List ℕ) × HasConversed item h.clock c' h.seat b' s s' h.slot flat)) → ActsAtBoth looper (λ steps. Unit {0}) b.front b'.front s.front s'.front
+    in_vain_later h (inl up) =
+        let P : List Step → Type 0 = λ steps. steps ≡ [] in
+        anyhow (Withdrew None P) (withdraws None P (λ steps is. is) tt h.slot h.clock up.between h.seat h.opened (record { steps = []; does = refl; goes = looks_at_port h.clock up.between s s' h.seat.front port_main up.refused.looked }) up.closed)
+    in_vain_later h (inr both) = anyhow (Conversed h.slot both.0) (converses h.slot h.clock h.seat both.0 h.opened both.1)
 
-    nothing : (a : ReplySeat) (p : PortSeat) → a ≡ b → p ≡ s → ActsAtBoth looper b.front a.front s.front p.front
+    nothing : (a : ReplySeat) (p : PortSeat) → a ≡ b → p ≡ s → ActsAtBoth looper (λ steps. steps ≡ []) b.front a.front s.front p.front
     nothing a p same_book same_seat =
-        subst (λ (x : ReplySeat). ActsAtBoth looper b.front x.front s.front p.front) (sym same_book)
-        (subst (λ (x : PortSeat). ActsAtBoth looper b.front b.front s.front x.front) (sym same_seat) (record { steps = []; acts = begun; goes = adds_there looper [] b.front s.front s.front (same_port s.front) }))
+        subst (λ (x : ReplySeat). ActsAtBoth looper (λ steps. steps ≡ []) b.front x.front s.front p.front) (sym same_book)
+        (subst (λ (x : PortSeat). ActsAtBoth looper (λ steps. steps ≡ []) b.front b.front s.front x.front) (sym same_seat) (record { steps = []; so = refl; acts = begun; goes = adds_there looper [] b.front s.front s.front (same_port s.front) }))
 
-    in_vain : HasLackedMemory item c c' b b' s s' → ActsAtBoth looper b.front b'.front s.front s'.front
-    in_vain (asking.before_all none) = nothing b' s' none.book none.port
+    in_vain : HasLackedMemory item c c' b b' s s' → ActsAtBoth looper (λ steps. Unit {0}) b.front b'.front s.front s'.front
+    in_vain (asking.before_all none) = anyhow (λ steps. steps ≡ []) (nothing b' s' none.book none.port)
     in_vain (asking.for_the_slot none) =
-        subst (λ (x : PortSeat). ActsAtBoth looper b.front b'.front s.front x.front) (sym none.port) (record { steps = []; acts = begun; goes = looks_at_book c c' b b' s.front book_main none.looked.looked })
+        subst (λ (x : PortSeat). ActsAtBoth looper (λ steps. Unit {0}) b.front b'.front s.front x.front) (sym none.port) (record { steps = []; so = tt; acts = begun; goes = looks_at_book c c' b b' s.front book_main none.looked.looked })
     in_vain (asking.later h) = in_vain_later h h.became
 
-    pub ask_acts : (sent : Result Reply SendFault) → AskTells item c c' b b' s s' sent → ActsAtBoth looper b.front b'.front s.front s'.front
-    ask_acts (Ok reply) h = converses h.slot h.clock h.seat reply.flat h.opened h.became.1
+    -- it was answered, from the slot that it opened
+    answered : (reply : Reply) → HasAsked item c c' b b' s s' (Ok reply) → ActsAtBoth looper (Answered looper item reply) b.front b'.front s.front s'.front
+    answered reply h =
+        let all = converses h.slot h.clock h.seat reply.flat h.opened h.became.1 in
+        record { steps = all.steps; so = record { converses = all.so.does; slot_is = all.so.slot_is ∙ sym h.became.0 }; acts = all.acts; goes = all.goes }
+
+    pub ask_acts : (sent : Result Reply SendFault) → AskTells item c c' b b' s s' sent → ActsAtBoth looper (AskedSo looper item sent r') b.front b'.front s.front s'.front
+    ask_acts (Ok reply) h = answered reply h
     ask_acts (Err fault.TooLong) h = nothing b' s' h.book h.port
     ask_acts (Err fault.NoMemory) h = in_vain h
     ask_acts (Err fault.BadPort) h = withdraws_so event.Refused tt h.slot h.clock h.became.between h.seat h.opened h.became.refused h.became.closed
@@ -281,36 +333,41 @@ Entries = List (EntryWithObjects Object)
 plain-append : (xs ys : Entries) → plain_entries (xs ++ ys) ≡ plain_entries xs ++ plain_entries ys
 plain-append xs ys = map-append (λ (entry : EntryWithObjects Object). entry.plain) xs ys
 
--- main had its turn there, and made one entry or none
-pub roster_acts : (front between added : Entries) (book : List ReplyEntry) (ports : List (List PortEntry)) → AreByOthers by_number main_thread between → length added ≤ 1 → All (λ (e : EntryWithObjects Object). e.plain.by.0 ≡ main_thread) added
-    → All (λ (e : EntryWithObjects Object). MayEnterRoster e.plain.event) added → Records (fronts (plain_entries front) book ports) (fronts (plain_entries ((front ++ between) ++ added)) book ports)
-roster_acts front between added book ports others few mine may = by_added added few mine may
-  where
-    before : List RosterEntry
-    before = plain_entries front ++ plain_entries between
+-- an entry there, behind that list
+abbrev pub turn_step : Entries → EntryWithObjects Object → Step
+turn_step before entry = at_roster (note (plain_entries before) entry.plain)
 
-    none_more : noted maker_of main_thread before ≡ noted maker_of main_thread (plain_entries front)
-    none_more = noted-others maker_of main_thread (plain_entries front) (plain_entries between) (All-map (λ (entry : RosterEntry). entry.by.0 ≢ main_thread) (λ (entry : EntryWithObjects Object). entry.plain) between others)
+-- main had its turn there, and made one entry or none
+pub roster_goes : (front between before added : Entries) (book : List ReplyEntry) (ports : List (List PortEntry)) → before ≡ front ++ between → AreByOthers by_number main_thread between → length added ≤ 1
+    → All (λ (e : EntryWithObjects Object). e.plain.by.0 ≡ main_thread) added → All (λ (e : EntryWithObjects Object). MayEnterRoster e.plain.event) added
+    → GoesBy (map (turn_step before) added) (fronts (plain_entries front) book ports) (fronts (plain_entries (before ++ added)) book ports)
+roster_goes front between before added book ports seen others few mine may = by_added added few mine may
+  where
+    none_more : noted maker_of main_thread (plain_entries before) ≡ noted maker_of main_thread (plain_entries front)
+    none_more =
+        ap (λ (l : Entries). noted maker_of main_thread (plain_entries l)) seen ∙ ap (noted maker_of main_thread) (plain-append front between)
+        ∙ noted-others maker_of main_thread (plain_entries front) (plain_entries between) (All-map (λ (entry : RosterEntry). entry.by.0 ≢ main_thread) (λ (entry : EntryWithObjects Object). entry.plain) between others)
 
     by_added : (xs : Entries) → length xs ≤ 1 → All (λ (e : EntryWithObjects Object). e.plain.by.0 ≡ main_thread) xs → All (λ (e : EntryWithObjects Object). MayEnterRoster e.plain.event) xs
-        → Records (fronts (plain_entries front) book ports) (fronts (plain_entries ((front ++ between) ++ xs)) book ports)
+        → GoesBy (map (turn_step before) xs) (fronts (plain_entries front) book ports) (fronts (plain_entries (before ++ xs)) book ports)
     by_added [] less by_main allowed =
-        nothing_done (fronts (plain_entries front) book ports) (fronts (plain_entries ((front ++ between) ++ [])) book ports)
-        (ap (λ (l : Entries). noted maker_of main_thread (plain_entries l)) (append-nil (front ++ between)) ∙ ap (noted maker_of main_thread) (plain-append front between) ∙ none_more) refl ([], sym (append-nil book)) (λ looper. refl)
+        nothing_goes (fronts (plain_entries front) book ports) (fronts (plain_entries (before ++ [])) book ports)
+        (ap (λ (l : Entries). noted maker_of main_thread (plain_entries l)) (append-nil before) ∙ none_more) refl ([], sym (append-nil book)) (λ looper. refl)
     by_added (x ∷ []) less by_main allowed =
-        let n : Noted RosterEntry = note before x.plain in
-        let is : plain_entries ((front ++ between) ++ x ∷ []) ≡ before ++ x.plain ∷ [] = plain-append (front ++ between) (x ∷ []) ∙ ap (λ l. l ++ x.plain ∷ []) (plain-append front between) in
+        let n : Noted RosterEntry = note (plain_entries before) x.plain in
         record {
-          steps = at_roster n ∷ [];
-          goes = record {
-            acts = one_act (at_roster n ∷ []) (enters_roster n (All-head (λ (e : EntryWithObjects Object). MayEnterRoster e.plain.event) x [] allowed) refl);
-            roster =
-                ap (noted maker_of main_thread) is ∙ noted-own maker_of main_thread before x.plain (All-head (λ (e : EntryWithObjects Object). e.plain.by.0 ≡ main_thread) x [] by_main)
-                ∙ ap (λ l. l ++ n ∷ []) none_more;
-            book = sym (append-nil (noted at_books.maker_of main_thread book));
-            book_on = ([], sym (append-nil book));
-            book_seen = All-nil (StartsWith book);
-            ports = λ looper. sym (append-nil (noted at_ports.by_number main_thread (list_at ports looper)));
-          };
+          acts = one_act (at_roster n ∷ []) (enters_roster n (All-head (λ (e : EntryWithObjects Object). MayEnterRoster e.plain.event) x [] allowed) refl);
+          roster =
+              ap (noted maker_of main_thread) (plain-append before (x ∷ [])) ∙ noted-own maker_of main_thread (plain_entries before) x.plain (All-head (λ (e : EntryWithObjects Object). e.plain.by.0 ≡ main_thread) x [] by_main)
+              ∙ ap (λ l. l ++ n ∷ []) none_more;
+          book = sym (append-nil (noted at_books.maker_of main_thread book));
+          book_on = ([], sym (append-nil book));
+          book_seen = All-nil (StartsWith book);
+          ports = λ looper. sym (append-nil (noted at_ports.by_number main_thread (list_at ports looper)));
         }
     by_added (x ∷ y ∷ zs) less by_main allowed = absurd (omega (arith, less))
+
+-- none of these is an edit
+pub turn_no_edits : (before added : Entries) (looper : ℕ) → desk_entries looper (map (turn_step before) added) ≡ []
+turn_no_edits before [] looper = refl
+turn_no_edits before (x ∷ xs) looper = turn_no_edits before xs looper

@@ -1,30 +1,43 @@
 -- Main's calls through its door to one looper.
-use Rattle.std.proofs.Common.{◌≡◌, ℕ, ◌<◌, false, List, [], length, refl, sym, ap, ◌∙◌, subst, append-nil, Option, None, Some, vec_capacity}
-use Rattle.std.specs.Prelude.{get_or, option_map, set, slice_get}
+use Rattle.std.proofs.Common.{◌≡◌, ℕ, ◌<◌, false, List, [], length, refl, sym, ap, ◌∙◌, subst, append_assoc, append-nil, ◌∷◌, ◌++◌, Option, None, Some, Result, vec_capacity}
+use Rattle.std.specs.Prelude.{IfSome, get_or, option_map, set, slice_get}
 use Rattle.std.proofs.lemmas.List.Elements.{All-get_or}
 use Rattle.std.proofs.lemmas.List.{get_or-set_same, length-set}
 use Rattle.std.proofs.lemmas.Option.{slice_get_read}
 use Rattle.ak_base.specs.Thread.{main_thread}
 use Rattle.ak_turn.specs.Called.{KeepsSeat}
+use Rattle.ak_turn.specs.Entries.{StartsWith}
 use Rattle.ak_turn.specs.Seats.{IsGiven, SeatData, at_leisure}
 use Rattle.ak_turn.specs.declared.clock.Clock.{Clock}
 use Rattle.ak_roster.specs.declared.head.AppHead.{AppHead}
 use Rattle.ak_port.specs.declared.port_entry.PortEntry.{PortEntry}
+use Rattle.ak_port.specs.declared.port_entry.PortEvent.{PortEvent}
+use Rattle.ak_port.specs.PortCalls as at_ports
 use Rattle.ak_port.specs.ReplySeats.{ReplySeat}
+use Rattle.ak_flatten.specs.Item.{ItemData}
+use Rattle.ak_messenger.specs.Asks.{AskTells}
+use Rattle.ak_messenger.specs.declared.asking.Reply.{Reply}
+use Rattle.ak_messenger.specs.declared.fault.SendFault.{SendFault}
 use Rattle.ak_desk.specs.declared.entry.DeskEvent.{DeskEvent}
 use Rattle.ak_desk.specs.Shared as desks
 use Rattle.ak_desk.specs.Shared.{DeskSeat}
+use Rattle.ak_diary.specs.Step.{Step}
+use Rattle.ak_headline.specs.Main.{MayEnterPort}
 use Rattle.ak_looper.specs.declared.door.Door.{Door}
 use Rattle.ak_run.specs.declared.member.Member.{Member}
 use Rattle.ak_run.specs.declared.run.Run.{Run}
+use Rattle.ak_run.specs.Doing.{AskedSo, DoesSo, EnteredSo}
 use Rattle.ak_run.specs.Doors.{KeepsDoor, KeepsSeats}
-use Rattle.ak_run.specs.Recording.{AddsAtPort}
+use Rattle.ak_run.specs.Entering.{AreAtPorts}
+use Rattle.ak_run.specs.Recording.{AddsAtPort, fronts_of}
 use Rattle.ak_run.specs.Running.{IsMember, IsStanding, KeepsRest, Stands}
 use Rattle.ak_run.specs.Sending.{desk_seat_of, port_seat_of}
 use Rattle.ak_run.specs.Starting.{GoesOn}
-use Rattle.ak_run.proofs.Acting.{ActsAtBoth, port_acts}
-use Rattle.ak_run.proofs.GoingOn.{goes_beside}
-use Rattle.ak_run.proofs.Recorded.{beside_same, call_acts}
+use Rattle.ak_run.proofs.Acting.{ActsAtBoth, answers_so, ask_acts, port_acts}
+use Rattle.ak_run.proofs.Acts.{same_goes}
+use Rattle.ak_run.proofs.Doing.{does_so}
+use Rattle.ak_run.proofs.GoingOn.{goes_beside, plain_on, same_desks, set_desks}
+use Rattle.ak_run.proofs.Recorded.{beside_same, call_goes, fronts_same, sees_front}
 use Rattle.ak_run.proofs.Standing.{BookOn, nothing_entered, one_called, same_book, same_loopers}
 
 -- ---- seats
@@ -44,10 +57,18 @@ turn_keeps by a b c idle given keeps = record {
 
 -- what a call at the port leaves of the door
 pub seats_of : (door door' : Door) → KeepsDoor door door' → KeepsSeats door door'
-seats_of door door' keeps = record { port = keeps.port_seat; desk = subst (KeepsSeat door.desk_seat) (sym keeps.desk_seat) (keeps_itself door.desk_seat) }
+seats_of door door' keeps = record {
+  port = keeps.port_seat;
+  desk = subst (KeepsSeat door.desk_seat) (sym keeps.desk_seat) (keeps_itself door.desk_seat);
+  desk_on = ([], ap (λ (s : DeskSeat). s.front) keeps.desk_seat ∙ sym (append-nil door.desk_seat.front));
+}
 
--- a call at a desk changes the seat's front and its own entries alone, and of the clock the time
-pub desk_keeps : (e : Option DeskEvent) (k l : Clock) (a b : DeskSeat) → desks.HasAnswered e k l a b → KeepsSeat a b × (l.thread ≡ k.thread)
+-- nothing was called at the desk
+pub desk_same : (d : Door) → StartsWith d.desk_seat.front d.desk_seat.front
+desk_same d = ([], sym (append-nil d.desk_seat.front))
+
+-- a call at a desk changes the seat's front and its own entries alone, and of the clock the time; the front goes on
+pub desk_keeps : (e : Option DeskEvent) (k l : Clock) (a b : DeskSeat) → desks.HasAnswered e k l a b → KeepsSeat a b × StartsWith b.front a.front × (l.thread ≡ k.thread)
 desk_keeps None k l a b looked =
     let after = looked.seen.after in (
       record {
@@ -58,6 +79,7 @@ desk_keeps None k l a b looked =
         turn = ap (λ s. s.turn) after;
         names = ap (λ s. s.names) after;
       },
+      (looked.seen.between, ap (λ s. s.front) after),
       ap (λ (c : Clock). c.thread) looked.clocked,
     )
 desk_keeps (Some event) k l a b entered =
@@ -70,6 +92,7 @@ desk_keeps (Some event) k l a b entered =
         turn = ap (λ s. s.turn) after;
         names = ap (λ s. s.names) after;
       },
+      (entered.called.between ++ _ ∷ [], ap (λ s. s.front) after ∙ append_assoc a.front entered.called.between _),
       ap (λ (c : Clock). c.thread) entered.clocked,
     )
 
@@ -82,19 +105,49 @@ main_has next heads r place m within there stands =
     was.by_main
 
 -- a call through it
-pub one_goes : (r r' : Run) (place : ℕ) (m : Member) (door : Door) → place < length r.members.items → get_or r.members.items place m ≡ m → KeepsSeats m.door door
-    → r'.members.items ≡ set r.members.items place (record m { door = door }) → vec_capacity r'.members ≡ vec_capacity r.members → KeepsRest r r' → r'.roster_seat ≡ r.roster_seat → BookOn r r'
-    → ActsAtBoth place r.hands.book_seat.front r'.hands.book_seat.front m.door.port_seat.front door.port_seat.front → GoesOn r r'
-one_goes r r' place m door within there keeps is capacity rest roster book acts =
-    goes_beside r r' rest (λ heads next stands. nothing_entered heads r.roster_seat r'.roster_seat roster stands.roster_known)
-    ([], ap (λ s. s.front) roster ∙ sym (append-nil r.roster_seat.front)) book
-    (λ next heads stands. one_called next heads r r' place m door within there keeps is capacity stands)
-    (ap length is ∙ length-set r.members.items place (record m { door = door }))
-    (call_acts r r' place m door within there is roster acts)
+module _ (r r' : Run) (place : ℕ) (m : Member) (door : Door) (within : place < length r.members.items) (there : get_or r.members.items place m ≡ m) (is : r'.members.items ≡ set r.members.items place (record m { door = door })) (roster : r'.roster_seat ≡ r.roster_seat) where
+  pub roster_front : StartsWith r'.roster_seat.front r.roster_seat.front
+  roster_front = ([], ap (λ s. s.front) roster ∙ sym (append-nil r.roster_seat.front))
+
+  abbrev pub Acts : (List Step → Type 0) → Type 0
+  Acts P = ActsAtBoth place P r.hands.book_seat.front r'.hands.book_seat.front m.door.port_seat.front door.port_seat.front
+
+  pub one_goes : (P : List Step → Type 0) → KeepsSeats m.door door → vec_capacity r'.members ≡ vec_capacity r.members → KeepsRest r r' → BookOn r r' → Acts P → GoesOn r r'
+  one_goes P keeps capacity rest book acts =
+      goes_beside r r' rest (λ heads next stands. nothing_entered heads r.roster_seat r'.roster_seat roster stands.roster_known) roster_front book
+      (λ next heads stands. one_called next heads r r' place m door within there keeps is capacity stands)
+      (ap length is ∙ length-set r.members.items place (record m { door = door }))
+      (λ new. record { steps = acts.steps; goes = call_goes r r' place m door within there is acts.steps roster acts.acts acts.goes new; no_edits = acts.goes.no_edits })
+      (set_desks r r' place m (record m { door = door }) within there is keeps.desk_on)
+
+  -- and what main did by it
+  pub one_does : (P : List Step → Type 0) → StartsWith door.desk_seat.front m.door.desk_seat.front → Acts P → DoesSo P r r'
+  one_does P desk_on acts =
+      does_so P acts.steps r r' acts.so (call_goes r r' place m door within there is acts.steps roster acts.acts acts.goes []) (plain_on r.roster_seat r'.roster_seat roster_front)
+      (set_desks r r' place m (record m { door = door }) within there is desk_on) acts.goes.no_edits
+
+  -- by one entry at its port, or none, by what it answers
+  pub post_acts : (e : Option PortEvent) (k l : Clock) → m.door.port_seat.thread ≡ main_thread → IfSome e MayEnterPort → at_ports.HasAnswered e k l m.door.port_seat door.port_seat → r'.hands.book_seat ≡ r.hands.book_seat → Acts (λ steps. EnteredSo place r' steps e)
+  post_acts e k l main may answered book =
+      subst (λ (s : ReplySeat). ActsAtBoth place (λ steps. EnteredSo place r' steps e) r.hands.book_seat.front s.front m.door.port_seat.front door.port_seat.front) (sym book)
+      (answers_so place e k l m.door.port_seat door.port_seat r.hands.book_seat.front r' main (sees_front r r' place m door within there is) may answered)
+
+  pub post_goes : (e : Option PortEvent) (k l : Clock) → m.door.port_seat.thread ≡ main_thread → IfSome e MayEnterPort → at_ports.HasAnswered e k l m.door.port_seat door.port_seat → r'.hands.book_seat ≡ r.hands.book_seat → KeepsSeats m.door door
+      → vec_capacity r'.members ≡ vec_capacity r.members → KeepsRest r r' → GoesOn r r'
+  post_goes e k l main may answered book keeps capacity rest = one_goes (λ steps. EnteredSo place r' steps e) keeps capacity rest (same_book r r' book) (post_acts e k l main may answered book)
+
+  -- by an ask
+  pub asked_acts : (item : ItemData) (k l : Clock) (sent : Result Reply SendFault) → r.hands.book_seat.thread ≡ main_thread → m.door.port_seat.thread ≡ main_thread → AskTells item k l r.hands.book_seat r'.hands.book_seat m.door.port_seat door.port_seat sent
+      → Acts (AskedSo place item sent r')
+  asked_acts item k l sent book_main main tells = ask_acts place item k l r.hands.book_seat r'.hands.book_seat m.door.port_seat door.port_seat book_main main r' (sees_front r r' place m door within there is) sent tells
+
+  pub ask_goes : (item : ItemData) (k l : Clock) (sent : Result Reply SendFault) → r.hands.book_seat.thread ≡ main_thread → m.door.port_seat.thread ≡ main_thread → AskTells item k l r.hands.book_seat r'.hands.book_seat m.door.port_seat door.port_seat sent
+      → KeepsSeats m.door door → vec_capacity r'.members ≡ vec_capacity r.members → KeepsRest r r' → BookOn r r' → GoesOn r r'
+  ask_goes item k l sent book_main main tells keeps capacity rest book = one_goes (AskedSo place item sent r') keeps capacity rest book (asked_acts item k l sent book_main main tells)
 
 -- which was at its port alone, by what it made there
-pub port_alone : (place : ℕ) (book book' : ReplySeat) (a b : List PortEntry) → book' ≡ book → AddsAtPort a b → ActsAtBoth place book.front book'.front a b
-port_alone place book book' a b same adds = subst (λ (s : ReplySeat). ActsAtBoth place book.front s.front a b) (sym same) (port_acts place book.front a b adds)
+pub port_alone : (place : ℕ) (book book' : ReplySeat) (a b : List PortEntry) → book' ≡ book → AddsAtPort a b → ActsAtBoth place AreAtPorts book.front book'.front a b
+port_alone place book book' a b same adds = subst (λ (s : ReplySeat). ActsAtBoth place AreAtPorts book.front s.front a b) (sym same) (port_acts place book.front a b adds)
 
 -- no call at all: nothing of it changed
 pub goes_same : (r r' : Run) → KeepsRest r r' → r'.members ≡ r.members → r'.roster_seat ≡ r.roster_seat → r'.hands.book_seat ≡ r.hands.book_seat → GoesOn r r'
@@ -102,7 +155,13 @@ goes_same r r' rest members roster book =
     goes_beside r r' rest (λ heads next stands. nothing_entered heads r.roster_seat r'.roster_seat roster stands.roster_known)
     ([], ap (λ s. s.front) roster ∙ sym (append-nil r.roster_seat.front)) (same_book r r' book)
     (λ next heads stands. same_loopers next heads r r' members stands) (ap (λ v. length v.items) members)
-    (beside_same r r' members (ap (λ s. s.front) roster) (ap (λ s. s.front) book))
+    (beside_same r r' members (ap (λ s. s.front) roster) (ap (λ s. s.front) book)) (same_desks r r' members)
+
+-- and main did nothing
+pub does_same : (P : List Step → Type 0) (r r' : Run) → P [] → r'.members ≡ r.members → r'.roster_seat ≡ r.roster_seat → r'.hands.book_seat.front ≡ r.hands.book_seat.front → DoesSo P r r'
+does_same P r r' so members roster book =
+    let front = ap (λ s. s.front) roster in
+    does_so P [] r r' so (same_goes (fronts_of r) (fronts_of r') (fronts_same r r' members front book [])) (plain_on r.roster_seat r'.roster_seat ([], front ∙ sym (append-nil r.roster_seat.front))) (same_desks r r' members) (λ looper. refl)
 
 -- it stands further
 pub stands_further : (r r' : Run) → GoesOn r r' → IsStanding r → IsStanding r'
@@ -113,7 +172,7 @@ module _ (ms : List Member) (place : ℕ) (m : Member) (within : place < length 
   there_before : get_or ms place m ≡ m → slice_get ms place ≡ Some m
   there_before there = slice_get_read ms (length ms) place m refl within (sym there)
 
-  there_after : (m' : Member) → slice_get (set ms place m') place ≡ Some m'
+  pub there_after : (m' : Member) → slice_get (set ms place m') place ≡ Some m'
   there_after m' = slice_get_read (set ms place m') (length ms) place m' (sym (length-set ms place m')) within (sym (get_or-set_same ms place m' m' within))
 
 pub port_before : (r : Run) (place : ℕ) (m : Member) → place < length r.members.items → get_or r.members.items place m ≡ m → port_seat_of r place ≡ Some m.door.port_seat

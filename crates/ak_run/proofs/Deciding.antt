@@ -8,6 +8,7 @@ use Rattle.ak_base.specs.declared.app_word.AppWord.{AppWord}
 use Rattle.ak_roster.specs.declared.answer.Decision.TheVariants as decision
 use Rattle.ak_roster.specs.declared.entry.LaunchOutcome.{LaunchOutcome}
 use Rattle.ak_roster.specs.declared.entry.LaunchOutcome.TheVariants as launch
+use Rattle.ak_roster.specs.declared.entry.RosterEvent.TheVariants as event
 use Rattle.ak_roster.specs.declared.head.AppHead.{AppHead}
 use Rattle.ak_roster.specs.Answers.{decision_of}
 use Rattle.ak_roster.specs.Machine.{launch_of, loopers_at}
@@ -38,12 +39,15 @@ head_at (a ∷ apps) zero head app there is = let same : head_of a ≡ head = cc
 head_at (a ∷ apps) (suc place) head app there is = head_at apps place head app there is
 
 -- a team that runs keeps it from starting
-pub running_comes : (apps : List AppText) (shared : Shared) (book book' : Book) (team : ℕ) (l : Launch) → HasEntered 0 book book' → IsRunningTeam book' team l → ComesTo apps shared book book' l
-running_comes apps shared book book' team (answer.Running number first) entered is = (entered, omega (arith, is.1, loopers_on 0 book book' entered))
-running_comes apps shared book book' team (answer.Started t) entered is = absurd is
-running_comes apps shared book book' team answer.NotFound entered is = absurd is
-running_comes apps shared book book' team answer.Limit entered is = absurd is
-running_comes apps shared book book' team answer.NoMemory entered is = absurd is
+pub running_comes : (apps : List AppText) (shared : Shared) (word : AppWord) (book book' : Book) (team : ℕ) (l : Launch) → HasEntered (Some (event.Launch word (launch.AlreadyRunning team))) 0 book book' → IsRunningTeam book' team l → ComesTo apps shared word book book' l
+running_comes apps shared word book book' team (answer.Running number first) entered is = (
+  subst (λ (n : ℕ). HasEntered (Some (event.Launch word (launch.AlreadyRunning n))) 0 book book') (sym is.0) entered,
+  omega (arith, is.1, loopers_on (Some (event.Launch word (launch.AlreadyRunning team))) 0 book book' entered),
+)
+running_comes apps shared word book book' team (answer.Started t) entered is = absurd is
+running_comes apps shared word book book' team answer.NotFound entered is = absurd is
+running_comes apps shared word book book' team answer.Limit entered is = absurd is
+running_comes apps shared word book book' team answer.NoMemory entered is = absurd is
 
 module _ (apps : List AppText) (book : Book) (word : AppWord) (place team first : ℕ) (heads : book.heads ≡ heads_of apps) (whole : All IsWholeApp apps) (told : decision.Starts place team first ≡ decision_of (launch_of book.heads (state book) word))
     (app : AppText) (app_is : app ≡ get_or apps place app) where

@@ -10,7 +10,9 @@ use Rattle.ak_roster.specs.declared.head.AppHead.{AppHead}
 use Rattle.ak_roster.specs.Roster.{RosterData, plain_entries}
 use Rattle.ak_describe.specs.Whole.{heads_of}
 use Rattle.ak_diary.specs.declared.histories.Histories.{Histories}
-use Rattle.ak_headline.specs.Run.{IsRun}
+use Rattle.ak_diary.specs.Step.{Step}
+use Rattle.ak_headline.specs.Main.{IsMainDiary}
+use Rattle.ak_headline.specs.Run.{HasDone, IsRun}
 use Rattle.ak_looper.specs.declared.kept_door.KeptDoor.{KeptDoor}
 use Rattle.ak_looper.specs.Rosters as rosters
 use Rattle.ak_looper.specs.Rosters.{Object, RosterSeat}
@@ -21,7 +23,6 @@ use Rattle.ak_run.specs.declared.run.Run.{Run}
 use Rattle.ak_run.specs.Counting.{started_in}
 use Rattle.ak_run.specs.Ending.{IsRunOfLoopers}
 use Rattle.ak_run.specs.Gathering.{GoesOnKnowing, IsJoined, IsRosterOf}
-use Rattle.ak_run.specs.Recording.{HasMainDiary}
 use Rattle.ak_run.specs.Running.{AreBelow, IsRunning}
 use Rattle.ak_run.specs.Starting.{GoesOn}
 use Rattle.ak_run.proofs.GoingOn.{still_running}
@@ -56,14 +57,14 @@ module _ (r : Run) (runs : IsRunning r) (main : RosterSeat) (on : GoesOnKnowing 
   book_below at_book on_book = still_below (length js) r.hands.book_seat at_book on_book (subst (λ (n : ℕ). AreBelow n r.hands.book_seat.names) (sym as_many) runs.stands.book_names)
 
 -- ---- the whole run: what is known of the loopers, with main's diary
-pub whole : (heads : List AppHead) (short : List ℕ) (h : Histories) → IsRunOfLoopers heads short h → HasMainDiary h → IsRun heads short h
-whole heads short h run main = record {
+pub whole : (heads : List AppHead) (short : List ℕ) (h : Histories) → IsRunOfLoopers heads short h → (main : List Step) → IsMainDiary main → HasDone h main_thread main → IsRun heads short h
+whole heads short h run main diary done = record {
   histories = run.histories;
   all = run.all;
   loopers = run.loopers;
-  main = main.main;
-  main_diary = main.main_diary;
-  main_done = main.main_done;
+  main = main;
+  main_diary = diary;
+  main_done = done;
   book_makers = run.book_makers;
   port_makers = run.port_makers;
 }

@@ -3,7 +3,7 @@ use Rattle.std.proofs.Common.{◌≡◌, ◌≢◌, ◌⊎◌, inl, inr, eq-eqb,
 use Rattle.std.specs.Prelude.{IfSome, IsTrue, IsFalse, slice_get, slice_index_or, unwrap_or, option_map, if◌then◌else◌}
 use Rattle.std.specs.List.{Any, find}
 use Rattle.std.proofs.lemmas.Option.{get_or_from_slice_get, slice_get_within}
-use Rattle.std.proofs.lemmas.List.Elements.{All-append, All-get_or, All-cons, All-filter, All-head, All-nil}
+use Rattle.std.proofs.lemmas.List.Elements.{All-append, All-get_or, All-cons, All-filter, All-head, All-nil, All-weaker}
 use mathlib.Core.Logic.{dite}
 use native.Mathlib.Decide.{ℕ_discrete}
 use Rattle.ak_base.proofs.Surface.{find-All}
@@ -38,9 +38,14 @@ use Rattle.ak_run.proofs.RosterTurn.{plain-append}
 all_at : {X : Type 0} (P : X → Type 0) (xs : List X) (i : ℕ) (x : X) → All P xs → slice_get xs i ≡ Some x → P x
 all_at P xs i x all is = subst P (get_or_from_slice_get xs i x x is) (All-get_or P xs i x (slice_get_within xs i x is) all)
 
+-- that a team is gone, where it ran
+abbrev pub gone_event : ℕ → Bool → Option RosterEvent
+gone_event team true = Some (event.Gone team)
+gone_event team false = None
+
 -- ---- one entry, or none
 module _ (book book' : Book) (clock clock' : Clock) where
-  pub one_entered : (n : ℕ) (what : RosterEvent) (objects : List (Option Object)) (doors : List KeptDoor) → MayEnterRoster what → clock.thread.0 ≡ main_thread → Enters what objects doors book book' clock clock' → count_of book.heads what ≡ n → HasEntered n book book'
+  pub one_entered : (n : ℕ) (what : RosterEvent) (objects : List (Option Object)) (doors : List KeptDoor) → MayEnterRoster what → clock.thread.0 ≡ main_thread → Enters what objects doors book book' clock clock' → count_of book.heads what ≡ n → HasEntered (Some what) n book book'
   one_entered n what objects doors may main enters count =
       let entry = new_entry clock book.entries what objects in
       record {
@@ -48,6 +53,7 @@ module _ (book book' : Book) (clock clock' : Clock) where
         added = entry ∷ [];
         entries = ap (λ (r : Book). r.entries) enters.0;
         one = omega arith;
+        events = refl;
         by_main = All-cons (λ (e : EntryWithObjects Object). e.plain.by.0 ≡ main_thread) entry [] main (All-nil (λ (e : EntryWithObjects Object). e.plain.by.0 ≡ main_thread));
         may = All-cons (λ (e : EntryWithObjects Object). MayEnterRoster e.plain.event) entry [] may (All-nil (λ (e : EntryWithObjects Object). MayEnterRoster e.plain.event));
         starts = plus_none (count_of book.heads what) n count;
@@ -56,19 +62,19 @@ module _ (book book' : Book) (clock clock' : Clock) where
       plus_none : (m n : ℕ) → m ≡ n → m + 0 ≡ n
       plus_none m n same = omega (arith, same)
 
-  pub none_entered : Stays book book' clock clock' → HasEntered 0 book book'
+  pub none_entered : Stays book book' clock clock' → HasEntered None 0 book book'
   none_entered stays = record {
     heads = ap (λ (r : Book). r.heads) stays.0;
     added = [];
     entries = ap (λ (r : Book). r.entries) stays.0 ∙ sym (append-nil book.entries);
     one = omega arith;
+    events = refl;
     by_main = All-nil (λ (e : EntryWithObjects Object). e.plain.by.0 ≡ main_thread);
     may = All-nil (λ (e : EntryWithObjects Object). MayEnterRoster e.plain.event);
     starts = refl;
   }
 
-  -- that a team is gone
-  pub gone_entered : (team : ℕ) (left : Bool) → clock.thread.0 ≡ main_thread → (IsTrue left → Enters (event.Gone team) [] book.doors book book' clock clock') → (IsFalse left → Stays book book' clock clock') → HasEntered 0 book book'
+  pub gone_entered : (team : ℕ) (left : Bool) → clock.thread.0 ≡ main_thread → (IsTrue left → Enters (event.Gone team) [] book.doors book book' clock clock') → (IsFalse left → Stays book book' clock clock') → HasEntered (gone_event team left) 0 book book'
   gone_entered team true main enters stays = one_entered 0 (event.Gone team) [] book.doors tt main (enters refl) refl
   gone_entered team false main enters stays = none_entered (stays refl)
 
@@ -86,10 +92,26 @@ none_started heads (launch.AlreadyRunning team) d is refused = refl
 none_started heads launch.NotFound d is refused = refl
 none_started heads launch.Limit d is refused = refl
 
+-- what was refused is what it came to
+abbrev pub refused_as : Decision → LaunchOutcome
+refused_as (decision.AlreadyRunning team) = launch.AlreadyRunning team
+refused_as decision.NotFound = launch.NotFound
+refused_as decision.Limit = launch.Limit
+refused_as (decision.Starts place team first) = launch.Started place team first
+refused_as decision.NoMemory = launch.NotFound
+
+came_to : (o : LaunchOutcome) (d : Decision) → d ≡ decision_of o → o ≡ refused_as d
+came_to (launch.Started place team first) d is = sym (ap refused_as is)
+came_to (launch.AlreadyRunning team) d is = sym (ap refused_as is)
+came_to launch.NotFound d is = sym (ap refused_as is)
+came_to launch.Limit d is = sym (ap refused_as is)
+
 pub refusal_entered : (book book' : Book) (clock clock' : Clock) (word : AppWord) (d : Decision) → clock.thread.0 ≡ main_thread → IsEntered d → d ≡ decision_of (launch_of book.heads (state book) word)
-    → Enters (event.Launch word (launch_of book.heads (state book) word)) [] book.doors book book' clock clock' → HasEntered 0 book book'
+    → Enters (event.Launch word (launch_of book.heads (state book) word)) [] book.doors book book' clock clock' → HasEntered (Some (event.Launch word (refused_as d))) 0 book book'
 refusal_entered book book' clock clock' word d main refused is enters =
-    one_entered book book' clock clock' 0 (event.Launch word (launch_of book.heads (state book) word)) [] book.doors tt main enters (none_started book.heads (launch_of book.heads (state book) word) d is refused)
+    let came = launch_of book.heads (state book) word in
+    subst (λ (o : LaunchOutcome). HasEntered (Some (event.Launch word o)) 0 book book') (came_to came d is)
+    (one_entered book book' clock clock' 0 (event.Launch word came) [] book.doors tt main enters (none_started book.heads came d is refused))
 
 -- ---- a team that runs
 -- one that a search found is there
@@ -153,16 +175,18 @@ runs_on book book' clock clock' word team told enters =
     nothing_more launch.NotFound told = absurd cc
     nothing_more launch.Limit told = absurd cc
 
--- ---- the first looper of each team that runs was started
-abbrev IsFound : ℕ → Running → Type 0
-IsFound many r = r.first < many
+-- ---- the loopers of each team that runs were started, and it has one
+pub record IsFound (many : ℕ) (r : Running) : Type 0 where
+  pub first : r.first < many
+  pub all : r.first + r.loopers ≤ many
+  pub some : 1 ≤ r.loopers
 
 module _ (heads : List AppHead) (some : All (λ (head : AppHead). 1 ≤ head.loopers) heads) where
   abbrev AreFound : RosterState → Type 0
   AreFound s = All (IsFound (length s.loopers)) s.running
 
   wider : (m n : ℕ) → m ≤ n → (rs : List Running) → All (IsFound m) rs → All (IsFound n) rs
-  wider m n le rs all = λ i d lt. omega (arith, le, all i d lt)
+  wider m n le rs all = All-weaker (IsFound m) (IsFound n) (λ r is. record { first = omega (arith, le, is.first); all = omega (arith, le, is.all); some = is.some }) rs all
 
   count_at : (place : ℕ) (head : AppHead) → slice_get heads place ≡ Some head → 1 ≤ loopers_at heads place
   count_at place head is =
@@ -186,7 +210,7 @@ module _ (heads : List AppHead) (some : All (λ (head : AppHead). 1 ≤ head.loo
           let what = event.Launch word (launch.Started place team first) in
           let many = loopers-after heads s e.by.0 what in
           All-append (IsFound (length (after heads s e.by.0 what).loopers)) s.running (team_of heads (launch.Started place team first)) (wider (length s.loopers) (length (after heads s e.by.0 what).loopers) (grows what) s.running found)
-          (All-cons (IsFound (length (after heads s e.by.0 what).loopers)) (record { team = team; description = place; first = first; loopers = loopers_at heads place }) [] (omega (arith, many, facts.first_is, count_at place facts.head facts.stands)) (All-nil (IsFound (length (after heads s e.by.0 what).loopers))))
+          (All-cons (IsFound (length (after heads s e.by.0 what).loopers)) (record { team = team; description = place; first = first; loopers = loopers_at heads place }) [] (record { first = omega (arith, many, facts.first_is, count_at place facts.head facts.stands); all = omega (arith, many, facts.first_is); some = count_at place facts.head facts.stands }) (All-nil (IsFound (length (after heads s e.by.0 what).loopers))))
       by_event (event.Launch word (launch.AlreadyRunning team)) is = none_more (event.Launch word (launch.AlreadyRunning team)) refl
       by_event (event.Launch word launch.NotFound) is = none_more (event.Launch word launch.NotFound) refl
       by_event (event.Launch word launch.Limit) is = none_more (event.Launch word launch.Limit) refl
@@ -214,17 +238,26 @@ module _ (heads : List AppHead) (entries : List (EntryWithObjects Object)) where
       plus_nothing n = omega arith
   more_loopers (x ∷ y ∷ zs) few = absurd (omega (arith, few))
 
-pub loopers_on : (n : ℕ) (book book' : Book) → HasEntered n book book' → length (state book').loopers ≡ length (state book).loopers + n
-loopers_on n book book' entered =
+pub loopers_on : (what : Option RosterEvent) (n : ℕ) (book book' : Book) → HasEntered what n book book' → length (state book').loopers ≡ length (state book).loopers + n
+loopers_on what n book book' entered =
     ap (λ h. length (state_of h (plain_entries book'.entries)).loopers) entered.heads ∙ ap (λ l. length (state_of book.heads (plain_entries l)).loopers) entered.entries
     ∙ more_loopers book.heads book.entries entered.added entered.one ∙ ap (λ m. length (state book).loopers + m) entered.starts
 
 -- the one that a search finds was started; and a team that runs is found
-pub found_started : (heads : List AppHead) (entries : List RosterEntry) (team : ℕ) (r : Running) → IsHeads heads → IsHistory heads entries → Some r ≡ find (runs_team team) (state_of heads entries).running → r.first < length (state_of heads entries).loopers
-found_started heads entries team r is history found =
+found_so : (heads : List AppHead) (entries : List RosterEntry) (test : Running → Bool) (r : Running) → IsHeads heads → IsHistory heads entries → Some r ≡ find test (state_of heads entries).running → IsFound (length (state_of heads entries).loopers) r
+found_so heads entries test r is history found =
     let some : All (λ (head : AppHead). 1 ≤ head.loopers) heads = λ i d lt. (is.loopers i d lt).0 in
     let P = IsFound (length (state_of heads entries).loopers) in
-    subst (λ o. IfSome o P) (sym found) (find-All (runs_team team) P (state_of heads entries).running (firsts_are_started heads some entries history))
+    subst (λ o. IfSome o P) (sym found) (find-All test P (state_of heads entries).running (firsts_are_started heads some entries history))
+
+pub found_started : (heads : List AppHead) (entries : List RosterEntry) (test : Running → Bool) (r : Running) → IsHeads heads → IsHistory heads entries → Some r ≡ find test (state_of heads entries).running → r.first < length (state_of heads entries).loopers
+found_started heads entries test r is history found = (found_so heads entries test r is history found).first
+
+pub all_started : (heads : List AppHead) (entries : List RosterEntry) (test : Running → Bool) (r : Running) → IsHeads heads → IsHistory heads entries → Some r ≡ find test (state_of heads entries).running → r.first + r.loopers ≤ length (state_of heads entries).loopers
+all_started heads entries test r is history found = (found_so heads entries test r is history found).all
+
+pub some_started : (heads : List AppHead) (entries : List RosterEntry) (test : Running → Bool) (r : Running) → IsHeads heads → IsHistory heads entries → Some r ≡ find test (state_of heads entries).running → 1 ≤ r.loopers
+some_started heads entries test r is history found = (found_so heads entries test r is history found).some
 
 none_not_some : (y : Running) → None ≡ Some y → ⊥
 none_not_some y e = absurd (cc)

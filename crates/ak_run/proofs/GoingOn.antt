@@ -1,17 +1,20 @@
 -- A run goes on, call after call.
-use Rattle.std.proofs.Common.{◌≡◌, ℕ, ◌+◌, List, length, ◌++◌, Some, ap, sym, subst, [], ◌∙◌, arith, append_assoc}
+use Rattle.std.proofs.Common.{◌≡◌, ℕ, zero, suc, ◌+◌, ◌<◌, List, length, ◌∷◌, ◌++◌, Some, refl, ap, sym, subst, [], ◌∙◌, arith, append-nil, length-append}
+use Rattle.std.specs.Prelude.{get_or, option_map, set, slice_get, unwrap_or}
 use Rattle.ak_turn.specs.Entries.{StartsWith}
 use Rattle.ak_roster.specs.declared.entry.EntryWithObjects.{EntryWithObjects}
 use Rattle.ak_roster.specs.declared.head.AppHead.{AppHead}
 use Rattle.ak_roster.specs.Roster.{plain_entries}
 use Rattle.ak_port.specs.declared.port_entry.PortEntry.{PortEntry}
+use Rattle.ak_desk.specs.Entry.{EntryData}
 use Rattle.ak_looper.specs.Rosters.{Object, RosterSeat, plain_of}
+use Rattle.ak_run.specs.declared.member.Member.{Member}
 use Rattle.ak_run.specs.declared.run.Run.{Run}
 use Rattle.ak_run.specs.Counting.{started_by_main}
-use Rattle.ak_run.specs.Recording.{HasRecord, MainGoesOn, MainGoesOnWith, Records, RecordsBeside, fronts_of, fronts_with}
+use Rattle.ak_run.specs.Doing.{desk_front}
+use Rattle.ak_run.specs.Recording.{HasRecord, Records, RecordsBeside, fronts_of, fronts_with, member_desk_front}
 use Rattle.ak_run.specs.Running.{IsRunning, KeepsRest, Stands}
 use Rattle.ak_run.specs.Starting.{GoesOn, GoesOnWith}
-use Rattle.ak_run.proofs.Acts.{records_then}
 use Rattle.ak_run.proofs.Recorded.{beside_then, record_on}
 use Rattle.ak_run.proofs.RosterTurn.{RosterOn, plain-append}
 use Rattle.ak_run.proofs.Standing.{BookOn, SameLoopers, stands_on, starts_then_starts}
@@ -20,6 +23,49 @@ use Rattle.ak_run.proofs.Standing.{BookOn, SameLoopers, stands_on, starts_then_s
 pub some_same : {X : Type 0} (x y : X) → Some x ≡ Some y → x ≡ y
 some_same x y is = cc
 
+-- the place of the last of a list
+pub last_of : {L : Type 0} (front before : List L) (x : L) (place : ℕ) → front ≡ before ++ x ∷ [] → length front ≡ place + 1 → place ≡ length before
+last_of front before x place is seen = omega (arith, ap length is, length-append before (x ∷ []), seen)
+
+-- ---- the desks
+abbrev pub DesksOn : Run → Run → Type 0
+DesksOn r r' = (looper : ℕ) → StartsWith (desk_front r' looper) (desk_front r looper)
+
+pub desks_then : (r s t : Run) → DesksOn r s → DesksOn s t → DesksOn r t
+desks_then r s t one two looper = starts_then_starts (desk_front r looper) (desk_front s looper) (desk_front t looper) (one looper) (two looper)
+
+-- what a desk's list goes on from itself
+same_list : {L : Type 0} (xs ys : List L) → ys ≡ xs → StartsWith ys xs
+same_list xs ys same = ([], same ∙ sym (append-nil xs))
+
+abbrev desk_in : List Member → ℕ → List EntryData
+desk_in ms looper = unwrap_or (option_map member_desk_front (slice_get ms looper)) []
+
+pub same_desks : (r r' : Run) → r'.members ≡ r.members → DesksOn r r'
+same_desks r r' same looper = same_list (desk_front r looper) (desk_front r' looper) (ap (λ v. desk_in v.items looper) same)
+
+-- one of them went on
+set_desk : (ms : List Member) (place : ℕ) (m x : Member) (looper : ℕ) → place < length ms → get_or ms place m ≡ m → StartsWith (member_desk_front x) (member_desk_front m) → StartsWith (desk_in (set ms place x) looper) (desk_in ms looper)
+set_desk [] place m x looper within is on = absurd (omega (arith, within))
+set_desk (y ∷ ms) zero m x zero within is on = subst (λ (z : Member). StartsWith (member_desk_front x) (member_desk_front z)) (sym is) on
+set_desk (y ∷ ms) zero m x (suc looper) within is on = same_list (desk_in ms looper) (desk_in ms looper) refl
+set_desk (y ∷ ms) (suc place) m x zero within is on = same_list (member_desk_front y) (member_desk_front y) refl
+set_desk (y ∷ ms) (suc place) m x (suc looper) within is on = set_desk ms place m x looper (omega (arith, within)) is on
+
+pub set_desks : (r r' : Run) (place : ℕ) (m x : Member) → place < length r.members.items → get_or r.members.items place m ≡ m → r'.members.items ≡ set r.members.items place x → StartsWith (member_desk_front x) (member_desk_front m) → DesksOn r r'
+set_desks r r' place m x within there is on looper = subst (λ (ms : List Member). StartsWith (desk_in ms looper) (desk_front r looper)) (sym is) (set_desk r.members.items place m x looper within there on)
+
+-- one more was put behind the others
+push_desk : (ms : List Member) (x : Member) (looper : ℕ) → StartsWith (desk_in (ms ++ x ∷ []) looper) (desk_in ms looper)
+push_desk [] x zero = (member_desk_front x, refl)
+push_desk [] x (suc looper) = ([], refl)
+push_desk (y ∷ ms) x zero = same_list (member_desk_front y) (member_desk_front y) refl
+push_desk (y ∷ ms) x (suc looper) = push_desk ms x looper
+
+pub push_desks : (r r' : Run) (x : Member) → r'.members.items ≡ r.members.items ++ x ∷ [] → DesksOn r r'
+push_desks r r' x is looper = subst (λ (ms : List Member). StartsWith (desk_in ms looper) (desk_front r looper)) (sym is) (push_desk r.members.items x looper)
+
+-- ---- calls
 -- one call after another
 pub goes_then_goes : (r s t : Run) → GoesOn r s → GoesOn s t → GoesOn r t
 goes_then_goes r s t a b = record {
@@ -30,6 +76,7 @@ goes_then_goes r s t a b = record {
   shared = b.shared ∙ a.shared;
   apps = b.apps ∙ a.apps;
   recorded = beside_then r s t a.recorded b.recorded;
+  desks_on = desks_then r s t a.desks_on b.desks_on;
 }
 
 pub with_then_with : (m n : ℕ) (r s t : Run) → GoesOnWith m r s → GoesOnWith n s t → GoesOnWith (m + n) r t
@@ -40,12 +87,13 @@ with_then_with m n r s t a b = record {
   on = starts_then_starts r.roster_seat.front s.roster_seat.front t.roster_seat.front a.on b.on;
   shared = b.shared ∙ a.shared;
   apps = b.apps ∙ a.apps;
+  desks_on = desks_then r s t a.desks_on b.desks_on;
 }
 
 -- a call that starts no looper
 pub goes_by : (r r' : Run) (roster_heads : List AppHead) → KeepsRest r r' → r.roster_seat.opening ≡ Some roster_heads → RosterOn roster_heads 0 r.roster_seat r'.roster_seat → BookOn r r'
-    → ((next : ℕ) (heads : List AppHead) → Stands next heads r → SameLoopers heads r r') → length r'.members.items ≡ length r.members.items → RecordsBeside r r' → GoesOn r r'
-goes_by r r' roster_heads keeps opening roster book same count recorded =
+    → ((next : ℕ) (heads : List AppHead) → Stands next heads r → SameLoopers heads r r') → length r'.members.items ≡ length r.members.items → RecordsBeside r r' → r'.members ≡ r.members → GoesOn r r'
+goes_by r r' roster_heads keeps opening roster book same count recorded members =
     let roster_so : (next : ℕ) (heads : List AppHead) → Stands next heads r → RosterOn heads 0 r.roster_seat r'.roster_seat =
     λ next heads k. subst (λ h. RosterOn h 0 r.roster_seat r'.roster_seat) (some_same roster_heads heads (sym opening ∙ k.opening)) roster in
     record {
@@ -56,6 +104,7 @@ goes_by r r' roster_heads keeps opening roster book same count recorded =
       shared = keeps.shared;
       apps = keeps.apps;
       recorded = recorded;
+      desks_on = same_desks r r' members;
     }
   where
     nothing_more : (n : ℕ) → n + 0 ≡ n
@@ -63,8 +112,8 @@ goes_by r r' roster_heads keeps opening roster book same count recorded =
 
 -- a call that leaves the roster alone
 pub goes_beside : (r r' : Run) → KeepsRest r r' → ((heads : List AppHead) → (next : ℕ) → Stands next heads r → RosterOn heads 0 r.roster_seat r'.roster_seat) → StartsWith r'.roster_seat.front r.roster_seat.front → BookOn r r'
-    → ((next : ℕ) (heads : List AppHead) → Stands next heads r → SameLoopers heads r r') → length r'.members.items ≡ length r.members.items → RecordsBeside r r' → GoesOn r r'
-goes_beside r r' keeps roster on book same count recorded = record {
+    → ((next : ℕ) (heads : List AppHead) → Stands next heads r → SameLoopers heads r r') → length r'.members.items ≡ length r.members.items → RecordsBeside r r' → DesksOn r r' → GoesOn r r'
+goes_beside r r' keeps roster on book same count recorded desks = record {
   stands = λ next heads k. stands_on next heads 0 r r' keeps (roster heads next k) book (same next heads k) k;
   started = λ next heads k. (roster heads next k).started ∙ nothing_more (started_by_main heads r.roster_seat);
   count = count;
@@ -72,6 +121,7 @@ goes_beside r r' keeps roster on book same count recorded = record {
   shared = keeps.shared;
   apps = keeps.apps;
   recorded = recorded;
+  desks_on = desks;
 }
   where
     nothing_more : (n : ℕ) → n + 0 ≡ n
@@ -101,20 +151,3 @@ all_run n r s heads new stands started has goes more = record {
 -- ---- what main made before stands
 pub plain_on : (seat seat' : RosterSeat) → StartsWith seat'.front seat.front → StartsWith (plain_of seat') (plain_of seat)
 plain_on seat seat' on = (plain_entries on.0, ap (λ (l : List (EntryWithObjects Object)). plain_entries l) on.1 ∙ plain-append seat.front on.0)
-
-pub main_goes : (r r' : Run) → GoesOn r r' → MainGoesOn r r'
-main_goes r r' goes = record { records = goes.recorded []; roster_on = plain_on r.roster_seat r'.roster_seat goes.on }
-
--- the team whose ports were new starts
-pub main_goes_then : (new : List (List PortEntry)) (r s t : Run) → MainGoesOnWith new r s → StartsWith t.roster_seat.front s.roster_seat.front → Records (fronts_with s new) (fronts_of t) → MainGoesOn r t
-main_goes_then new r s t one on more = record {
-  records = records_then (fronts_of r) (fronts_with s new) (fronts_of t) one.records more;
-  roster_on = starts_then_starts (plain_of r.roster_seat) (plain_of s.roster_seat) (plain_of t.roster_seat) one.roster_on (plain_on s.roster_seat t.roster_seat on);
-}
-
--- one after another
-pub main_goes_on : (r s t : Run) → MainGoesOn r s → MainGoesOn s t → MainGoesOn r t
-main_goes_on r s t one two = record {
-  records = records_then (fronts_of r) (fronts_of s) (fronts_of t) one.records two.records;
-  roster_on = starts_then_starts (plain_of r.roster_seat) (plain_of s.roster_seat) (plain_of t.roster_seat) one.roster_on two.roster_on;
-}

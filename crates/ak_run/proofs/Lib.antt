@@ -5,6 +5,8 @@ pub mod Calls
 pub mod Counting
 pub mod Crossing
 pub mod Deciding
+pub mod Doing
+pub mod Edits
 pub mod Endings
 pub mod Entering
 pub mod GoingOn
@@ -12,8 +14,10 @@ pub mod Heads
 pub mod Jobs
 pub mod Joining
 pub mod Knowing
+pub mod LaunchAnswers
 pub mod Launched
 pub mod Launches
+pub mod LookUps
 pub mod MainDone
 pub mod Makers
 pub mod Makings
@@ -28,6 +32,7 @@ pub mod RosterTurn
 pub mod Splits
 pub mod Standing
 pub mod Started
+pub mod Surface
 pub mod Taking
 pub mod TeamStarts
 pub mod Teams

@@ -4,7 +4,7 @@ use Rattle.std.proofs.lemmas.List.{length-map, map-append}
 use Rattle.std.proofs.lemmas.List.Elements.{All-cons, All-head, All-map, All-tail, All-weaker}
 use Rattle.std.specs.Prelude.{option_map, slice_get, unwrap_or}
 use Rattle.ak_base.specs.Thread.{main_thread}
-use Rattle.ak_turn.specs.Entries.{AreByOthers}
+use Rattle.ak_turn.specs.Entries.{AreByOthers, StartsWith}
 use Rattle.ak_turn.specs.Noted.{Noted, noted}
 use Rattle.ak_turn.specs.Seats.{IsGiven, SeatData}
 use Rattle.ak_turn.proofs.Surface.{noted-others}
@@ -19,18 +19,23 @@ use Rattle.ak_port.specs.PortCalls.{PortData}
 use Rattle.ak_port.specs.ReplySeats as at_books
 use Rattle.ak_port.specs.ReplySeats.{ReplySeat}
 use Rattle.ak_desk.specs.Desk.{DeskData}
+use Rattle.ak_desk.specs.Entry.{EntryData}
 use Rattle.ak_diary.specs.declared.histories.Histories.{Histories}
-use Rattle.ak_diary.specs.Step.{Step, book_sights, port_entries}
-use Rattle.ak_headline.specs.Run.{HasDone, port_list}
+use Rattle.ak_diary.specs.Step.{Step, book_sights, desk_entries, port_entries}
+use Rattle.ak_headline.specs.Run.{HasDone, desk_list, port_list}
 use Rattle.ak_looper.specs.declared.kept_door.KeptDoor.{KeptDoor}
 use Rattle.ak_looper.specs.Rosters.{Object, RosterSeat, by_number, maker_of, plain_of}
 use Rattle.ak_run.specs.declared.gathering.Joined.{Joined}
+use Rattle.ak_run.specs.declared.member.Member.{Member}
 use Rattle.ak_run.specs.declared.run.Run.{Run}
+use Rattle.ak_run.specs.AtEnd.{DoneAtEnd}
+use Rattle.ak_run.specs.Doing.{HasDoneSoFar, desk_front}
 use Rattle.ak_run.specs.Ending.{EndsAs}
-use Rattle.ak_run.specs.Gathering.{AreBooksOf, AreGaining, GoesOnKnowing, IsGaining, IsJoined, IsRosterOf, joined_front}
-use Rattle.ak_run.specs.Recording.{EndsByOthers, Fronts, HasMainDiary, HasRecord, IsRecorded, PortsEndByOthers, fronts_of, list_at, member_front}
+use Rattle.ak_run.specs.Gathering.{AreBooksOf, AreGaining, GoesOnKnowing, IsGaining, IsJoined, IsRosterOf, joined_desk_front, joined_front}
+use Rattle.ak_run.specs.Recording.{EndsByOthers, Fronts, IsRecorded, PortsEndByOthers, fronts_of, list_at, member_desk_front, member_front}
 use Rattle.ak_run.specs.Starting.{GoesOn}
-use Rattle.ak_run.proofs.Acts.{seen_still}
+use Rattle.ak_run.proofs.Acts.{recorded_on, seen_still}
+use Rattle.ak_run.proofs.Doing.{edits_still}
 use Rattle.ak_run.proofs.GoingOn.{plain_on}
 use Rattle.ak_run.proofs.Standing.{starts_then_starts}
 
@@ -89,6 +94,37 @@ ports_end [] (port ∷ ports) desks all kept = absurd kept
 ports_end (j ∷ js) [] desks all kept = absurd kept
 ports_end (j ∷ js) (port ∷ ports) [] all kept = absurd kept
 
+-- each desk's list goes on
+abbrev pub DesksGoOn : List (List EntryData) → List DeskData → Type 0
+DesksGoOn [] [] = Unit {0}
+DesksGoOn (front ∷ fronts) (desk ∷ desks) = StartsWith desk.entries front × DesksGoOn fronts desks
+DesksGoOn _ _ = ⊥
+
+desk_fronts_still : (js js' : List Joined) → AreGaining js js' → map joined_desk_front js' ≡ map joined_desk_front js
+desk_fronts_still [] [] gains = refl
+desk_fronts_still [] (j' ∷ js') gains = absurd (omega (arith, gains.count))
+desk_fronts_still (j ∷ js) [] gains = absurd (omega (arith, gains.count))
+desk_fronts_still (j ∷ js) (j' ∷ js') gains =
+    let first : IsGaining j j' = gains.each 0 j refl in
+    ap (λ front. front ∷ map joined_desk_front js') first.desk.front ∙ ap (λ l. joined_desk_front j ∷ l) (desk_fronts_still js js' (gaining_tail j j' js js' gains))
+
+desks_end : (js : List Joined) (ports : List PortData) (desks : List DeskData) → AreBooksOf js ports desks → DesksGoOn (map joined_desk_front js) desks
+desks_end [] [] [] kept = tt
+desks_end (j ∷ js) (port ∷ ports) (desk ∷ desks) kept = (kept.0.1.goes_on, desks_end js ports desks kept.1)
+desks_end [] [] (desk ∷ desks) kept = absurd kept
+desks_end [] (port ∷ ports) desks kept = absurd kept
+desks_end (j ∷ js) [] desks kept = absurd kept
+desks_end (j ∷ js) (port ∷ ports) [] kept = absurd kept
+
+desk_at_end : (ms : List Member) (desks : List DeskData) → DesksGoOn (map member_desk_front ms) desks → (looper : ℕ)
+    → StartsWith (unwrap_or (option_map (λ (desk : DeskData). desk.entries) (slice_get desks looper)) []) (unwrap_or (option_map member_desk_front (slice_get ms looper)) [])
+desk_at_end [] [] on zero = ([], refl)
+desk_at_end [] [] on (suc looper) = ([], refl)
+desk_at_end (m ∷ ms) (desk ∷ desks) on zero = on.0
+desk_at_end (m ∷ ms) (desk ∷ desks) on (suc looper) = desk_at_end ms desks on.1 looper
+desk_at_end [] (desk ∷ desks) on looper = absurd on
+desk_at_end (m ∷ ms) [] on looper = absurd on
+
 roster_ends : (seat : RosterSeat) (roster : RosterData KeptDoor Object) → seat.thread ≡ main_thread → IsRosterOf seat roster → EndsByOthers maker_of (plain_of seat) (plain_entries roster.entries)
 roster_ends seat roster main of = record {
   between = plain_entries of.between;
@@ -101,12 +137,13 @@ pub record EndsByAllOthers (r : Run) (h : Histories) : Type 0 where
   pub roster : EndsByOthers maker_of (plain_of r.roster_seat) h.roster.items
   pub book : EndsByOthers at_books.maker_of r.hands.book_seat.front h.book
   pub ports : PortsEndByOthers (map member_front r.members.items ++ []) h.ports.items
+  pub desks : DesksGoOn (map member_desk_front r.members.items) h.desks.items
 
 -- main's seats saw nothing more while the threads were joined
 pub ends_by_others : (r : Run) (heads : List AppHead) (main : RosterSeat) (at_book : ReplySeat) (roster : RosterData KeptDoor Object) (book : List ReplyEntry) (js last : List Joined) (h : Histories) → GoesOnKnowing r.roster_seat main → GoesOnKnowing r.hands.book_seat at_book
-    → All (IsJoined heads main at_book) js → map joined_front js ≡ map member_front r.members.items → AreGaining js last → AreBooksOf last h.ports.items h.desks.items → IsRosterOf main roster → (at_book.thread ≡ main_thread → EndsByOthers at_books.maker_of at_book.front book)
+    → All (IsJoined heads main at_book) js → map joined_front js ≡ map member_front r.members.items → map joined_desk_front js ≡ map member_desk_front r.members.items → AreGaining js last → AreBooksOf last h.ports.items h.desks.items → IsRosterOf main roster → (at_book.thread ≡ main_thread → EndsByOthers at_books.maker_of at_book.front book)
     → h.roster.items ≡ plain_entries roster.entries → h.book ≡ book → EndsByAllOthers r h
-ends_by_others r heads main at_book roster book js last h roster_on book_on joined same gains kept of ends h_roster h_book =
+ends_by_others r heads main at_book roster book js last h roster_on book_on joined same same_desks gains kept of ends h_roster h_book =
     let by_main : main.thread ≡ main_thread = roster_on.thread ∙ r.roster_thread ∙ r.main in
     let still = fronts_still js last gains in
     let mains : All IsMains last = still.1 (All-weaker (IsJoined heads main at_book) IsMains (λ j is. is.by_main) js joined) in
@@ -118,10 +155,11 @@ ends_by_others r heads main at_book roster book js last h roster_on book_on join
           subst (EndsByOthers at_books.maker_of r.hands.book_seat.front) (sym h_book)
           (subst (λ (l : List ReplyEntry). EndsByOthers at_books.maker_of l book) book_on.front (ends (book_on.thread ∙ r.hands.thread ∙ r.main)));
       ports = subst (λ (l : List (List PortEntry)). PortsEndByOthers l h.ports.items) (still.0 ∙ same ∙ sym (append-nil (map member_front r.members.items))) (ports_end last h.ports.items h.desks.items mains kept);
+      desks = subst (λ (l : List (List EntryData)). DesksGoOn l h.desks.items) (desk_fronts_still js last gains ∙ same_desks) (desks_end last h.ports.items h.desks.items kept);
     }
 
-pub run_done : (r : Run) (h : Histories) → HasRecord (fronts_of r) → EndsByAllOthers r h → HasMainDiary h
-run_done r h has ends = record { main = has.did; main_diary = has.recorded.diary; main_done = main_done has.did (fronts_of r) h has.recorded ends.roster ends.book ends.ports }
+pub run_done : (r : Run) (h : Histories) → EndsByAllOthers r h → (steps : List Step) → IsRecorded steps (fronts_of r) → HasDone h main_thread steps
+run_done r h ends steps is = main_done steps (fronts_of r) h is ends.roster ends.book ends.ports
 
 -- ---- the histories are those of this run
 as_many_fronts : (fronts : List (List PortEntry)) (ports : List PortData) → PortsEndByOthers fronts ports → length ports ≡ length fronts
@@ -138,6 +176,7 @@ ends_as r h ends =
       roster = (ends.roster.between, ends.roster.goes_on);
       book = (ends.book.between, ends.book.goes_on);
       ports = λ looper. ([], ports_at_end (fronts ++ []) h.ports.items ends.ports looper ∙ sym (append-nil (noted at_ports.by_number main_thread (list_at (fronts ++ []) looper))));
+      desks = desk_at_end r.members.items h.desks.items ends.desks;
     }
 
 -- so they were the run's before, while it went on to its end
@@ -150,4 +189,17 @@ ends_further r r' h goes is =
       roster = starts_then_starts (plain_of r.roster_seat) (plain_of r'.roster_seat) h.roster.items (plain_on r.roster_seat r'.roster_seat goes.on) is.roster;
       book = starts_then_starts r.hands.book_seat.front r'.hands.book_seat.front h.book more.goes.book_on is.book;
       ports = λ looper. starts_then_starts (by_main looper r) (by_main looper r') (noted at_ports.by_number main_thread (port_list h looper)) (port_entries looper more.steps, more.goes.ports looper) (is.ports looper);
+      desks = λ looper. starts_then_starts (desk_front r looper) (desk_front r' looper) (desk_list h looper) (goes.desks_on looper) (is.desks looper);
+    }
+
+-- what main did goes on to the end, and its edits stand
+pub at_end : (r r' : Run) (h : Histories) (steps : List Step) → GoesOn r r' → HasDoneSoFar steps r → ((all : List Step) → IsRecorded all (fronts_of r') → HasDone h main_thread all) → EndsAs r h → DoneAtEnd steps h
+at_end r r' h steps goes done all ends =
+    let more = goes.recorded [] in
+    let recorded = recorded_on steps more.steps (fronts_of r) (fronts_of r') more.goes done.recorded in
+    record {
+      closing = more.steps;
+      diary = recorded.diary;
+      done = all (steps ++ more.steps) recorded;
+      edits = λ looper. edits_still (desk_front r looper) (desk_list h looper) (desk_entries looper steps) (ends.desks looper) (done.edits looper);
     }

@@ -6,6 +6,7 @@ use Rattle.std.proofs.lemmas.List.{map_more}
 use Rattle.std.proofs.lemmas.List.Elements.{All-cons, All-nil}
 use Rattle.ak_base.specs.Limits.{looper_limit}
 use Rattle.ak_base.specs.Thread.{looper_thread, main_thread}
+use Rattle.ak_turn.specs.Noted.{StandsIn}
 use Rattle.ak_turn.specs.Seats.{KnowsWhole, LockId, first_seat}
 use Rattle.ak_turn.proofs.Surface.{first_knows}
 use Rattle.ak_roster.specs.declared.head.AppHead.{AppHead}
@@ -20,6 +21,7 @@ use Rattle.ak_looper.specs.Rosters.{Object, RosterSeat}
 use Rattle.ak_run.specs.declared.member.Member.{Member}
 use Rattle.ak_run.specs.declared.run.Run.{Run}
 use Rattle.ak_run.specs.Counting.{started_by_main}
+use Rattle.ak_run.specs.Doing.{HasDoneSoFar, desk_front}
 use Rattle.ak_run.proofs.Recorded.{nothing_yet}
 use Rattle.ak_run.specs.Running.{AreBelow, HasRoomToEnd, IsBelow, IsMember, IsOpenedAs, IsRunning, Stands}
 
@@ -54,8 +56,12 @@ begins heads roster book r whole heads_are roster_is book_is none room ready =
         ready = ready;
       };
       all = ap (started_by_main heads) roster_is ∙ sym few;
-      recorded = nothing_yet r (ap (λ (s : RosterSeat). s.front) roster_is) (ap (λ (s : ReplySeat). s.front) book_is) none;
+      recorded = record { did = []; recorded = nothing_yet r (ap (λ (s : RosterSeat). s.front) roster_is) (ap (λ (s : ReplySeat). s.front) book_is) none };
     }
   where
     main_below : (n : ℕ) → AreBelow n (Some (main_thread ∷ []))
     main_below n = All-cons (IsBelow n) main_thread [] (inl refl) (All-nil (IsBelow n))
+
+-- and main has done nothing
+pub done_nothing : (r : Run) → r.roster_seat.front ≡ [] → r.hands.book_seat.front ≡ [] → r.members.items ≡ [] → HasDoneSoFar [] r
+done_nothing r roster book none = record { recorded = nothing_yet r roster book none; edits = λ looper. All-nil (StandsIn (desk_front r looper)) }

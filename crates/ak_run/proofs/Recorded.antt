@@ -1,5 +1,5 @@
 -- A run's calls as acts of main's.
-use Rattle.std.proofs.Common.{◌≡◌, ℕ, zero, suc, ◌<◌, false, List, [], ◌∷◌, ◌++◌, length, map, All, refl, sym, ap, ◌∙◌, subst, append_assoc, append-nil, arith}
+use Rattle.std.proofs.Common.{◌≡◌, ℕ, zero, suc, ◌<◌, false, List, [], ◌∷◌, ◌++◌, length, map, All, refl, sym, ap, ◌∙◌, subst, append_assoc, append-nil, arith, Option}
 use Rattle.std.specs.Prelude.{get_or, set}
 use Rattle.std.proofs.lemmas.List.{get_or-set_other, get_or-set_same, length-append, length-map, map-append, map-set}
 use Rattle.std.proofs.lemmas.List.Elements.{All-cons, All-head, All-nil, All-tail}
@@ -10,12 +10,14 @@ use Rattle.ak_turn.specs.Noted.{noted}
 use Rattle.ak_turn.specs.Seats.{IsGiven, KnowsWhole, at_leisure, entered_by}
 use Rattle.ak_roster.specs.declared.entry.EntryWithObjects.{EntryWithObjects}
 use Rattle.ak_roster.specs.declared.entry.RosterEntry.{RosterEntry}
+use Rattle.ak_roster.specs.declared.entry.RosterEvent.{RosterEvent}
 use Rattle.ak_roster.specs.Roster.{plain_entries}
 use Rattle.ak_port.specs.declared.port_entry.PortEntry.{PortEntry}
 use Rattle.ak_port.specs.declared.reply_entry.ReplyEntry.{ReplyEntry}
 use Rattle.ak_port.specs.PortCalls as at_ports
 use Rattle.ak_action.specs.declared.plan.PlanParts.{PlanParts}
-use Rattle.ak_headline.specs.Main.{begun}
+use Rattle.ak_diary.specs.Step.{Step, book_entry, desk_entry, roster_entry}
+use Rattle.ak_headline.specs.Main.{IsMainDiary, begun}
 use Rattle.ak_looper.specs.declared.door.Door.{Door}
 use Rattle.ak_looper.specs.declared.kept_door.KeptDoor.{KeptDoor}
 use Rattle.ak_looper.specs.Rosters.{Object, RosterSeat, by_number, plain_of}
@@ -26,34 +28,40 @@ use Rattle.ak_run.specs.declared.new_team.NewTeam.{NewTeam}
 use Rattle.ak_run.specs.declared.run.Run.{Run}
 use Rattle.ak_run.specs.Launching.{Book, HasEntered}
 use Rattle.ak_run.specs.NewTeam.{AreOthers, IsNewTeam}
-use Rattle.ak_run.specs.Recording.{AddsAtPort, Fronts, HasRecord, Records, RecordsBeside, RecordsStart, fronts, fronts_of, fronts_with, list_at, member_front, new_front, team_fronts}
-use Rattle.ak_run.proofs.Acting.{ActsAtBoth, roster_acts}
-use Rattle.ak_run.proofs.Acts.{GoesAtBoth, both_record, none_behind, port_records, push_other, recorded_on, records_then, same_fronts, seam_other, set_before}
-use Rattle.ak_run.proofs.RosterTurn.{front_is}
+use Rattle.ak_run.specs.Entering.{AreAtPorts}
+use Rattle.ak_run.specs.Recording.{AddsAtPort, Fronts, GoesBy, HasRecord, IsRecorded, Records, RecordsBeside, RecordsStart, StartsQuietly, fronts, fronts_of, fronts_with, list_at, member_front, new_front, team_fronts}
+use Rattle.ak_run.proofs.Acting.{roster_goes, turn_no_edits, turn_step}
+use Rattle.ak_run.proofs.Acts.{GoesAtBoth, adds_there, both_goes, goes_then, no_book, no_roster, none_behind, nothing_after, port_records, push_other, recorded_on, records_then, same_fronts, same_goes, seam_other, set_before, steps_there, there_diary}
+use Rattle.ak_run.proofs.RosterTurn.{sees_all}
 
 -- ---- main's diary
+pub record_by : (steps : List Step) (a b : Fronts) → GoesBy steps a b → HasRecord a → HasRecord b
+record_by steps a b goes has = record { did = has.did ++ steps; recorded = recorded_on has.did steps a b goes has.recorded }
+
 pub record_on : (a b : Fronts) → Records a b → HasRecord a → HasRecord b
-record_on a b more has = record { did = has.did ++ more.steps; recorded = recorded_on has.did a b more has.recorded }
+record_on a b more has = record_by more.steps a b more.goes has
 
 -- nothing was done
-pub nothing_yet : (r : Run) → r.roster_seat.front ≡ [] → r.hands.book_seat.front ≡ [] → r.members.items ≡ [] → HasRecord (fronts_of r)
+pub nothing_yet : (r : Run) → r.roster_seat.front ≡ [] → r.hands.book_seat.front ≡ [] → r.members.items ≡ [] → IsRecorded [] (fronts_of r)
 nothing_yet r roster book none =
     let is : fronts_of r ≡ fronts [] [] [] =
     ap (λ l. fronts (plain_entries l) r.hands.book_seat.front (map member_front r.members.items ++ [])) roster ∙ ap (λ l. fronts [] l (map member_front r.members.items ++ [])) book
     ∙ ap (λ (ms : List Member). fronts [] [] (map member_front ms ++ [])) none in
-    subst HasRecord (sym is) (record { did = []; recorded = record { diary = begun; roster = refl; book = refl; book_seen = All-nil (StartsWith []); ports = λ looper. none_there looper } })
+    subst (IsRecorded []) (sym is) (record { diary = begun; roster = refl; book = refl; book_seen = All-nil (StartsWith []); ports = λ looper. none_there looper })
   where
     none_there : (looper : ℕ) → noted at_ports.by_number main_thread (list_at [] looper) ≡ []
     none_there zero = refl
     none_there (suc n) = refl
 
 -- where no front changed
-pub beside_same : (r r' : Run) → r'.members ≡ r.members → r'.roster_seat.front ≡ r.roster_seat.front → r'.hands.book_seat.front ≡ r.hands.book_seat.front → RecordsBeside r r'
-beside_same r r' members roster book = λ new.
-    same_fronts (fronts_with r new) (fronts_with r' new)
-    (ap (λ l. fronts (plain_entries l) r'.hands.book_seat.front (map member_front r'.members.items ++ new)) roster
+pub fronts_same : (r r' : Run) → r'.members ≡ r.members → r'.roster_seat.front ≡ r.roster_seat.front → r'.hands.book_seat.front ≡ r.hands.book_seat.front → (new : List (List PortEntry)) → fronts_with r' new ≡ fronts_with r new
+fronts_same r r' members roster book new =
+    ap (λ l. fronts (plain_entries l) r'.hands.book_seat.front (map member_front r'.members.items ++ new)) roster
     ∙ ap (λ l. fronts (plain_of r.roster_seat) l (map member_front r'.members.items ++ new)) book
-    ∙ ap (λ v. fronts (plain_of r.roster_seat) r.hands.book_seat.front (map member_front v.items ++ new)) members)
+    ∙ ap (λ v. fronts (plain_of r.roster_seat) r.hands.book_seat.front (map member_front v.items ++ new)) members
+
+pub beside_same : (r r' : Run) → r'.members ≡ r.members → r'.roster_seat.front ≡ r.roster_seat.front → r'.hands.book_seat.front ≡ r.hands.book_seat.front → RecordsBeside r r'
+beside_same r r' members roster book = λ new. same_fronts (fronts_with r new) (fronts_with r' new) (fronts_same r r' members roster book new)
 
 pub beside_then : (r s t : Run) → RecordsBeside r s → RecordsBeside s t → RecordsBeside r t
 beside_then r s t one two = λ new. records_then (fronts_with r new) (fronts_with s new) (fronts_with t new) (one new) (two new)
@@ -80,15 +88,28 @@ module _ (r r' : Run) (place : ℕ) (m : Member) (door : Door) (within : place <
         ap (λ (ms : List Member). map member_front ms ++ new) is ∙ ap (λ l. l ++ new) (map-set member_front r.members.items place (record m { door = door }))
         ∙ set_before (map member_front r.members.items) new place front (omega (arith, within, length-map r.members.items member_front))
 
-  pub call_acts : r'.roster_seat ≡ r.roster_seat → ActsAtBoth place r.hands.book_seat.front r'.hands.book_seat.front m.door.port_seat.front door.port_seat.front → RecordsBeside r r'
-  call_acts roster both = λ new.
-      let ports = before new in
-      let at_place : list_at (set ports place front) place ≡ front = get_or-set_same ports place front [] (within_all new) in
-      let goes = both_record place both.steps (plain_of r.roster_seat) r.hands.book_seat.front r'.hands.book_seat.front ports (set ports place front) both.acts
-      (subst (λ (p : List PortEntry). GoesAtBoth place both.steps r.hands.book_seat.front r'.hands.book_seat.front p (list_at (set ports place front) place)) (sym (there r.members.items new place m within here))
-      (subst (λ (p : List PortEntry). GoesAtBoth place both.steps r.hands.book_seat.front r'.hands.book_seat.front m.door.port_seat.front p) (sym at_place) both.goes))
-      (λ other differ. get_or-set_other ports place other front [] differ) in
-      subst (Records (fronts_with r new)) (sym (ap (λ (s : RosterSeat). fronts (plain_of s) r'.hands.book_seat.front (map member_front r'.members.items ++ new)) roster ∙ ap (λ l. fronts (plain_of r.roster_seat) r'.hands.book_seat.front l) (ports_are new))) goes
+  module _ (steps : List Step) (roster : r'.roster_seat ≡ r.roster_seat) where
+    abbrev from_here : List (List PortEntry) → Fronts → Type 0
+    from_here new f = GoesBy steps (fronts_with r new) f
+
+    fronts_are : (new : List (List PortEntry)) → fronts_with r' new ≡ fronts (plain_of r.roster_seat) r'.hands.book_seat.front (set (before new) place front)
+    fronts_are new =
+        ap (λ (s : RosterSeat). fronts (plain_of s) r'.hands.book_seat.front (map member_front r'.members.items ++ new)) roster ∙ ap (λ l. fronts (plain_of r.roster_seat) r'.hands.book_seat.front l) (ports_are new)
+
+    -- by what main did there and at the book
+    pub call_goes : IsMainDiary steps → GoesAtBoth place steps r.hands.book_seat.front r'.hands.book_seat.front m.door.port_seat.front door.port_seat.front → (new : List (List PortEntry)) → GoesBy steps (fronts_with r new) (fronts_with r' new)
+    call_goes acts goes new =
+        let ports = before new in
+        let at_place : list_at (set ports place front) place ≡ front = get_or-set_same ports place front [] (within_all new) in
+        subst (from_here new) (sym (fronts_are new))
+        (both_goes place steps (plain_of r.roster_seat) r.hands.book_seat.front r'.hands.book_seat.front ports (set ports place front) acts
+        (subst (λ (p : List PortEntry). GoesAtBoth place steps r.hands.book_seat.front r'.hands.book_seat.front p (list_at (set ports place front) place)) (sym (there r.members.items new place m within here))
+        (subst (λ (p : List PortEntry). GoesAtBoth place steps r.hands.book_seat.front r'.hands.book_seat.front m.door.port_seat.front p) (sym at_place) goes))
+        (λ other differ. get_or-set_other ports place other front [] differ))
+
+  -- main has seen its list so far
+  pub sees_front : list_at (fronts_of r').ports place ≡ front
+  sees_front = ap (λ (l : List (List PortEntry)). list_at l place) (ports_are []) ∙ get_or-set_same (before []) place front [] (within_all [])
 
 -- ---- a new port
 -- main made entries there, while it is the first one of the new ones
@@ -98,17 +119,39 @@ new_port_acts roster book xs ys x y adds =
     (subst (λ (p : List PortEntry). AddsAtPort p (list_at (xs ++ y ∷ ys) (length xs))) (sym (get_or-append_seam xs x ys [])) (subst (λ (p : List PortEntry). AddsAtPort x p) (sym (get_or-append_seam xs y ys [])) adds))
     (λ other differ. seam_other xs ys x y other differ)
 
--- new ports are made, one after another
-pub ports_made : (roster : List RosterEntry) (book : List ReplyEntry) (xs new : List (List PortEntry)) → All (AddsAtPort []) new → Records (fronts roster book xs) (fronts roster book (xs ++ new))
-ports_made roster book xs [] all = same_fronts (fronts roster book xs) (fronts roster book (xs ++ [])) (ap (fronts roster book) (append-nil xs))
+-- new ports are made, one after another, and nothing else
+pub record MakesPorts (a b : Fronts) : Type 0 where
+  pub records : Records a b
+  pub at_ports : AreAtPorts records.steps
+
+pub ports_made : (roster : List RosterEntry) (book : List ReplyEntry) (xs new : List (List PortEntry)) → All (AddsAtPort []) new → MakesPorts (fronts roster book xs) (fronts roster book (xs ++ new))
+ports_made roster book xs [] all = record {
+  records = record { steps = []; goes = same_goes (fronts roster book xs) (fronts roster book (xs ++ [])) (ap (fronts roster book) (append-nil xs)); no_edits = λ looper. refl };
+  at_ports = record { no_roster = refl; no_book = refl };
+}
 ports_made roster book xs (x ∷ new) all =
-    let first : Records (fronts roster book xs) (fronts roster book (xs ++ x ∷ [])) =
-    port_records (length xs) roster book xs (xs ++ x ∷ [])
-    (subst (λ (p : List PortEntry). AddsAtPort p (list_at (xs ++ x ∷ []) (length xs))) (sym (none_behind xs)) (subst (λ (p : List PortEntry). AddsAtPort [] p) (sym (get_or-append_seam xs x [] [])) (All-head (AddsAtPort []) x new all)))
+    let adds : AddsAtPort [] x = All-head (AddsAtPort []) x new all in
+    let there : GoesAtBoth (length xs) (steps_there (length xs) adds.added) book book [] x = adds_there (length xs) adds.added book [] x adds.noted_is in
+    let first : GoesBy (steps_there (length xs) adds.added) (fronts roster book xs) (fronts roster book (xs ++ x ∷ [])) =
+    both_goes (length xs) (steps_there (length xs) adds.added) roster book book xs (xs ++ x ∷ []) (there_diary (length xs) adds.added adds.may)
+    (subst (λ (p : List PortEntry). GoesAtBoth (length xs) (steps_there (length xs) adds.added) book book p (list_at (xs ++ x ∷ []) (length xs))) (sym (none_behind xs))
+    (subst (λ (p : List PortEntry). GoesAtBoth (length xs) (steps_there (length xs) adds.added) book book [] p) (sym (get_or-append_seam xs x [] [])) there))
     (λ other differ. push_other xs x other differ) in
-    let rest : Records (fronts roster book (xs ++ x ∷ [])) (fronts roster book (xs ++ x ∷ new)) =
-    subst (λ (l : List (List PortEntry)). Records (fronts roster book (xs ++ x ∷ [])) (fronts roster book l)) (append_assoc xs (x ∷ []) new) (ports_made roster book (xs ++ x ∷ []) new (All-tail (AddsAtPort []) x new all)) in
-    records_then (fronts roster book xs) (fronts roster book (xs ++ x ∷ [])) (fronts roster book (xs ++ x ∷ new)) first rest
+    let rest : MakesPorts (fronts roster book (xs ++ x ∷ [])) (fronts roster book (xs ++ x ∷ new)) =
+    subst (λ (l : List (List PortEntry)). MakesPorts (fronts roster book (xs ++ x ∷ [])) (fronts roster book l)) (append_assoc xs (x ∷ []) new) (ports_made roster book (xs ++ x ∷ []) new (All-tail (AddsAtPort []) x new all)) in
+    let steps = steps_there (length xs) adds.added in
+    let more = rest.records.steps in
+    record {
+      records = record {
+        steps = steps ++ more;
+        goes = goes_then steps more (fronts roster book xs) (fronts roster book (xs ++ x ∷ [])) (fronts roster book (xs ++ x ∷ new)) first rest.records.goes;
+        no_edits = λ looper. nothing_after (desk_entry looper) steps more (there.no_edits looper) (rest.records.no_edits looper);
+      };
+      at_ports = record {
+        no_roster = nothing_after roster_entry steps more (no_roster (length xs) adds.added) rest.at_ports.no_roster;
+        no_book = nothing_after book_entry steps more (no_book (length xs) adds.added) rest.at_ports.no_book;
+      };
+    }
 
 -- those of a team
 others_made : (plans : List PlanParts) (team first : ℕ) (shared : Shared) (k : ℕ) (ns : List NewLooper) (ways : List (ℕ × Door)) (keeps : List KeptDoor) → AreOthers plans team first shared k ns ways keeps → All (AddsAtPort []) (map new_front ns)
@@ -140,11 +183,44 @@ start_acts r s u v door front x members roster book goes adds x_door v_items v_r
       (records_then (fronts_with s (front ∷ new)) (fronts_with u (front ∷ new)) (fronts_with v new) (goes (front ∷ new)) (subst (Records (fronts_with u (front ∷ new))) (sym same) closed));
 }
 
+-- nothing was done at its port, and nothing else changed
+pub start_quiet : (r s v : Run) (front : List PortEntry) (x : Member) → s.members ≡ r.members → s.roster_seat.front ≡ r.roster_seat.front → s.hands.book_seat.front ≡ r.hands.book_seat.front → x.door.port_seat.front ≡ front
+    → v.members.items ≡ s.members.items ++ x ∷ [] → v.roster_seat ≡ s.roster_seat → v.hands ≡ s.hands → StartsQuietly front r v
+start_quiet r s v front x members roster book x_front v_items v_roster v_hands = record {
+  same = λ new.
+      let ms = map member_front r.members.items in
+      let pushed : map member_front v.members.items ++ new ≡ ms ++ front ∷ new =
+      ap (λ (xs : List Member). map member_front xs ++ new) v_items ∙ ap (λ l. l ++ new) (map-append member_front s.members.items (x ∷ [])) ∙ append_assoc (map member_front s.members.items) (member_front x ∷ []) new
+      ∙ ap (λ v. map member_front v.items ++ member_front x ∷ new) members ∙ ap (λ l. ms ++ l ∷ new) x_front in
+      ap (λ (y : RosterSeat). fronts (plain_of y) v.hands.book_seat.front (map member_front v.members.items ++ new)) v_roster
+      ∙ ap (λ l. fronts (plain_entries l) v.hands.book_seat.front (map member_front v.members.items ++ new)) roster
+      ∙ ap (λ h. fronts (plain_of r.roster_seat) h.book_seat.front (map member_front v.members.items ++ new)) v_hands
+      ∙ ap (λ l. fronts (plain_of r.roster_seat) l (map member_front v.members.items ++ new)) book
+      ∙ ap (fronts (plain_of r.roster_seat) r.hands.book_seat.front) pushed;
+}
+
 -- ---- main's turn at the roster
 module _ (seat given seat' : RosterSeat) (book book' : Book) (more : ℕ) (idle : seat.turn ≡ false) (thread : seat.thread ≡ main_thread) (seen : IsGiven by_number seat given) (known : KnowsWhole by_number given)
-    (list : book.entries ≡ given.front) (entered : HasEntered more book book') (same : book'.entries ≡ given.front → seat' ≡ at_leisure given)
+    (list : book.entries ≡ given.front) (what : Option RosterEvent) (entered : HasEntered what more book book') (same : book'.entries ≡ given.front → seat' ≡ at_leisure given)
     (one : (x : EntryWithObjects Object) → book'.entries ≡ given.front ++ x ∷ [] → seat' ≡ at_leisure (entered_by given x)) (knows : KnowsWhole by_number given → KnowsWhole by_number seat') where
+  abbrev pub turn_steps : List Step
+  turn_steps = map (turn_step book.entries) entered.added
+
+  pub turn_goes : (replies : List ReplyEntry) (ports : List (List PortEntry)) → GoesBy turn_steps (fronts (plain_of seat) replies ports) (fronts (plain_of seat') replies ports)
+  turn_goes replies ports =
+      let all : seat'.front ≡ book.entries ++ entered.added = sees_all seat given seat' book book' more idle thread seen known list what entered same one knows ∙ entered.entries in
+      subst (λ (l : List (EntryWithObjects Object)). GoesBy turn_steps (fronts (plain_of seat) replies ports) (fronts (plain_entries l) replies ports)) (sym all)
+      (roster_goes seat.front seen.between book.entries entered.added replies ports (list ∙ ap (λ (s : RosterSeat). s.front) seen.after) (subst (λ (t : ℕ). AreByOthers by_number t seen.between) thread seen.others) entered.one entered.by_main entered.may)
+
   pub turn_acts : (replies : List ReplyEntry) (ports : List (List PortEntry)) → Records (fronts (plain_of seat) replies ports) (fronts (plain_of seat') replies ports)
-  turn_acts replies ports =
-      subst (λ (l : List (EntryWithObjects Object)). Records (fronts (plain_of seat) replies ports) (fronts (plain_entries l) replies ports)) (sym (front_is seat given seat' book book' more idle thread seen known list entered same one knows))
-      (roster_acts seat.front seen.between entered.added replies ports (subst (λ (t : ℕ). AreByOthers by_number t seen.between) thread seen.others) entered.one entered.by_main entered.may)
+  turn_acts replies ports = record { steps = turn_steps; goes = turn_goes replies ports; no_edits = turn_no_edits book.entries entered.added }
+
+-- of one entry the event
+pub one_event : (what : RosterEvent) (added : List (EntryWithObjects Object)) → map (λ (entry : EntryWithObjects Object). entry.plain.event) added ≡ what ∷ [] → (x : EntryWithObjects Object) × (added ≡ x ∷ []) × (x.plain.event ≡ what)
+one_event what [] is = absurd cc
+one_event what (x ∷ []) is = (x, refl, cc)
+one_event what (x ∷ y ∷ zs) is = absurd cc
+
+pub no_event : (added : List (EntryWithObjects Object)) → map (λ (entry : EntryWithObjects Object). entry.plain.event) added ≡ [] → added ≡ []
+no_event [] is = refl
+no_event (x ∷ xs) is = absurd cc

@@ -1,5 +1,5 @@
 -- Main's turn at the roster: how many loopers its own entries start, and how its seat goes on.
-use Rattle.std.proofs.Common.{◌≡◌, ◌≢◌, ℕ, ◌+◌, ◌≤◌, suc, false, List, [], ◌∷◌, ◌++◌, length, map, cond, refl, sym, ap, ◌∙◌, subst, append_assoc, append-nil, eq-eqb, arith, All}
+use Rattle.std.proofs.Common.{◌≡◌, ◌≢◌, ℕ, ◌+◌, ◌≤◌, suc, false, List, [], ◌∷◌, ◌++◌, length, map, cond, refl, sym, ap, ◌∙◌, subst, append_assoc, append-nil, eq-eqb, arith, All, Option}
 use Rattle.std.proofs.lemmas.List.{map-append}
 use Rattle.std.proofs.lemmas.List.Elements.{All-head, All-tail, All-map, filter-append}
 use Rattle.ak_base.specs.Thread.{main_thread}
@@ -11,6 +11,7 @@ use Rattle.ak_turn.proofs.Surface.{noted-others, noted_is_made}
 use Rattle.ak_roster.specs.declared.head.AppHead.{AppHead}
 use Rattle.ak_roster.specs.declared.entry.EntryWithObjects.{EntryWithObjects}
 use Rattle.ak_roster.specs.declared.entry.RosterEntry.{RosterEntry}
+use Rattle.ak_roster.specs.declared.entry.RosterEvent.{RosterEvent}
 use Rattle.ak_roster.specs.Kept.{count_of}
 use Rattle.ak_roster.specs.Roster.{plain_entries}
 use Rattle.ak_looper.specs.Rosters.{Object, RosterSeat, by_number, maker_of}
@@ -63,7 +64,7 @@ pub record RosterOn (heads : List AppHead) (more : ℕ) (seat seat' : RosterSeat
   pub known : KnowsWhole by_number seat'
 
 module _ (seat given seat' : RosterSeat) (book book' : Book) (more : ℕ) (idle : seat.turn ≡ false) (thread : seat.thread ≡ main_thread) (seen : IsGiven by_number seat given) (known : KnowsWhole by_number given)
-    (list : book.entries ≡ given.front) (entered : HasEntered more book book') (same : book'.entries ≡ given.front → seat' ≡ at_leisure given)
+    (list : book.entries ≡ given.front) (what : Option RosterEvent) (entered : HasEntered what more book book') (same : book'.entries ≡ given.front → seat' ≡ at_leisure given)
     (one : (x : EntryWithObjects Object) → book'.entries ≡ given.front ++ x ∷ [] → seat' ≡ at_leisure (entered_by given x)) (knows : KnowsWhole by_number given → KnowsWhole by_number seat') where
   keeps_as : (s : RosterSeat) → seat' ≡ at_leisure s → s.lock ≡ given.lock → s.opening ≡ given.opening → s.thread ≡ given.thread → s.joined ≡ given.joined → s.names ≡ given.names → KeepsSeat seat seat'
   keeps_as s is lock opening thread_is joined names = record {

@@ -40,7 +40,7 @@ use Rattle.ak_run.specs.NewLooper.{IsNewLooper}
 use Rattle.ak_run.specs.Opening.{names_in}
 use Rattle.ak_run.specs.Running.{AreBelow, IsBelow, IsMember, IsOpenedAs, KeepsRest, Stands}
 use Rattle.ak_run.specs.Starting.{GoesOn, GoesOnWith, HasSplit, MayStart}
-use Rattle.ak_run.proofs.GoingOn.{some_same}
+use Rattle.ak_run.proofs.GoingOn.{desks_then, push_desks, same_desks, some_same}
 use Rattle.ak_run.proofs.Heads.{by_others, nothing_by_new}
 use Rattle.ak_run.proofs.Standing.{leads_still, member_sees, starts_then_starts}
 
@@ -300,4 +300,5 @@ module _ (heads : List AppHead) (plans : List PlanParts) (k : ℕ) (t : Team) (n
         on = subst (λ (y : RosterSeat). StartsWith y.front r.roster_seat.front) (sym v_roster) (starts_then_starts r.roster_seat.front s.roster_seat.front u.roster_seat.front on goes.on);
         apps = kept.apps ∙ goes.apps ∙ split.rest.apps;
         shared = kept.shared ∙ goes.shared ∙ split.rest.shared;
+        desks_on = desks_then r s v (same_desks r s split.members) (desks_then s u v goes.desks_on (push_desks u v x v_items));
       }

@@ -99,8 +99,9 @@ module _ (book book' : Book) (clock clock' : Clock) (main : clock.thread.0 ≡ m
     before_count : length (objects_of book.entries) ≡ t.team.first
     before_count = ap length (sym (roster.objects rest)) ∙ map_count book.doors ∙ rest ∙ sym first_next ∙ sym first_is
 
-    pub has_started : HasStarted apps shared book book' t
+    pub has_started : HasStarted apps shared word book book' t
     has_started = record {
+      description = decided.place;
       plans = made.plans;
       described = made.described;
       some = omega (arith, made.all);
@@ -112,8 +113,10 @@ module _ (book book' : Book) (clock clock' : Clock) (main : clock.thread.0 ≡ m
       first = first_is ∙ first_next;
       within = omega (arith, first_is, loopers_there, few_loopers);
       launched = launched_there;
-      entered = one_entered book book' clock clock' t.team.loopers (event.Launch word (launch_of book.heads (state book) word)) (map object m.kept.items) (book.doors ++ m.kept.items) tt main enters
-          (ap (λ o. count_of book.heads (event.Launch word o)) decided.starts ∙ loopers_there);
+      entered = subst (λ (o : LaunchOutcome). HasEntered (Some (event.Launch word o)) t.team.loopers book book')
+          (decided.starts ∙ ap (λ n. launch.Started decided.place n first) (sym number_is) ∙ ap (launch.Started decided.place t.team.number) (sym first_is))
+          (one_entered book book' clock clock' t.team.loopers (event.Launch word (launch_of book.heads (state book) word)) (map object m.kept.items) (book.doors ++ m.kept.items) tt main enters
+          (ap (λ o. count_of book.heads (event.Launch word o)) decided.starts ∙ loopers_there));
       objects = objects_there;
       before = before_count;
     }

@@ -10,9 +10,10 @@ use Rattle.ak_port.specs.declared.reply_entry.ReplyEntry.{ReplyEntry}
 use Rattle.ak_port.specs.PortCalls as at_ports
 use Rattle.ak_diary.specs.declared.histories.Histories.{Histories}
 use Rattle.ak_diary.specs.Histories.{AreHistories}
-use Rattle.ak_headline.specs.Run.{HasLooper, IsOfRun, port_list}
+use Rattle.ak_headline.specs.Run.{HasLooper, IsOfRun, desk_list, port_list}
 use Rattle.ak_looper.specs.Rosters.{plain_of}
 use Rattle.ak_run.specs.declared.run.Run.{Run}
+use Rattle.ak_run.specs.Doing.{desk_front}
 use Rattle.ak_run.specs.Recording.{fronts_of, list_at}
 
 -- Each list is one that its object's machine allows; there are a port and a desk for each looper that was started, and no others. Each
@@ -34,3 +35,5 @@ pub record EndsAs (r : Run) (h : Histories) : Type 0 where
   pub book : StartsWith h.book r.hands.book_seat.front
   -- each entry that main had made at a port stands there, in order, with all that stood before it
   pub ports : (looper : ℕ) → StartsWith (noted at_ports.by_number main_thread (port_list h looper)) (noted at_ports.by_number main_thread (list_at (fronts_of r).ports looper))
+  -- and each desk's list goes on from what main had seen of it
+  pub desks : (looper : ℕ) → StartsWith (desk_list h looper) (desk_front r looper)

@@ -20,6 +20,7 @@ use Rattle.ak_port.specs.PortCalls.{PortData, PortSeat}
 use Rattle.ak_port.specs.ReplySeats as books
 use Rattle.ak_port.specs.ReplySeats.{ReplySeat}
 use Rattle.ak_desk.specs.Desk.{DeskData}
+use Rattle.ak_desk.specs.Entry.{EntryData}
 use Rattle.ak_desk.specs.Shared as desks
 use Rattle.ak_desk.specs.Shared.{DeskSeat}
 use Rattle.ak_action.specs.declared.state.DeskState.{DeskState}
@@ -76,6 +77,10 @@ pub record IsJoined (heads : List AppHead) (roster : RosterSeat) (book : ReplySe
 -- what main's seat at its port has seen
 abbrev pub joined_front : Joined → List PortEntry
 joined_front j = j.door.port_seat.front
+
+-- and its seat at its desk
+abbrev pub joined_desk_front : Joined → List EntryData
+joined_desk_front j = j.door.desk_seat.front
 
 -- main's seat at its port is no head: the keeper's is
 abbrev pub IsNoHead : Joined → Type 0
@@ -190,6 +195,7 @@ pub record IsDeskOf (seat : DeskSeat) (desk : DeskData) : Type 0 where
   pub legal : desks.LeadsOn desk.opening desk.entries
   pub opening : seat.opening ≡ Some desk.opening
   pub known : KnowsAll desks.by_number seat desk.entries
+  pub goes_on : StartsWith desk.entries seat.front
 
 -- the list goes on from what the seat had seen by entries of other threads, and each entry is by one of the seat's names; the doors that are
 -- kept are those of the loopers, in order, and each tells the threads that hold it

@@ -1,11 +1,13 @@
 -- What a launch makes of the roster.
-use Rattle.std.specs.Prelude.{◌≡◌, ◌⊎◌, ℕ, ◌+◌, ◌≤◌, ◌<◌, List, [], ◌∷◌, ◌++◌, length, map, All, Any}
+use Rattle.std.specs.Prelude.{◌≡◌, ◌⊎◌, ℕ, ◌+◌, ◌≤◌, ◌<◌, List, [], ◌∷◌, ◌++◌, length, map, All, Any, Option, None, Some}
 use Rattle.std.specs.Arc.{arc_value}
 use Rattle.ak_base.specs.Limits.{looper_limit}
 use Rattle.ak_base.specs.Thread.{main_thread}
 use Rattle.ak_turn.specs.Entries.{made_by}
 use Rattle.ak_roster.specs.declared.head.AppHead.{AppHead}
 use Rattle.ak_roster.specs.declared.entry.EntryWithObjects.{EntryWithObjects}
+use Rattle.ak_roster.specs.declared.entry.RosterEvent.{RosterEvent}
+use Rattle.ak_roster.specs.declared.entry.RosterEvent.TheVariants as event
 use Rattle.ak_base.specs.declared.app_word.AppWord.{AppWord}
 use Rattle.ak_roster.specs.Machine.{launch_of, loopers_at}
 use Rattle.ak_roster.specs.declared.entry.LaunchOutcome.TheVariants as outcome
@@ -30,12 +32,17 @@ use Rattle.ak_run.specs.NewTeam.{IsNewTeam, IsOneOf}
 abbrev pub Book : Type 0
 Book = RosterData KeptDoor Object
 
--- main entered at most one entry, by which so many loopers were started
-pub record HasEntered (started : ℕ) (book book' : Book) : Type 0 where
+abbrev pub one_or_none : Option RosterEvent → List RosterEvent
+one_or_none None = []
+one_or_none (Some what) = what ∷ []
+
+-- main entered at most one entry, that one, by which so many loopers were started
+pub record HasEntered (what : Option RosterEvent) (started : ℕ) (book book' : Book) : Type 0 where
   pub heads : book'.heads ≡ book.heads
   pub added : List (EntryWithObjects Object)
   pub entries : book'.entries ≡ book.entries ++ added
   pub one : length added ≤ 1
+  pub events : map (λ (entry : EntryWithObjects Object). entry.plain.event) added ≡ one_or_none what
   pub by_main : All (λ (entry : EntryWithObjects Object). entry.plain.by.0 ≡ main_thread) added
   pub may : All (λ (entry : EntryWithObjects Object). MayEnterRoster entry.plain.event) added
   pub starts : started_in book.heads (plain_entries added) ≡ started
@@ -48,7 +55,8 @@ abbrev pub object_of : KeptDoor → Object
 object_of kept = (arc_value kept.port, arc_value kept.desk)
 
 -- a team was started: the numbers of its loopers follow those of all that were started before
-pub record HasStarted (apps : List AppText) (shared : Shared) (book book' : Book) (t : StartedTeam) : Type 0 where
+pub record HasStarted (apps : List AppText) (shared : Shared) (word : AppWord) (book book' : Book) (t : StartedTeam) : Type 0 where
+  pub description : ℕ
   pub plans : List PlanParts
   pub described : IsOneOf apps plans
   pub some : 1 ≤ length plans
@@ -60,7 +68,7 @@ pub record HasStarted (apps : List AppText) (shared : Shared) (book book' : Book
   pub first : t.team.first ≡ length (state book).loopers
   pub within : t.team.first + t.team.loopers ≤ looper_limit
   pub launched : (desk : DeskState) → Any (StartsTeam (facts_in book.heads t.team t.team.first desk)) book'.entries
-  pub entered : HasEntered t.team.loopers book book'
+  pub entered : HasEntered (Some (event.Launch word (outcome.Started description t.team.number t.team.first))) t.team.loopers book book'
   pub objects : objects_of book'.entries ≡ objects_of book.entries ++ map (λ (k : KeptDoor). door_object (arc_value k.port) (arc_value k.desk)) kept
   pub before : length (objects_of book.entries) ≡ t.team.first
 
@@ -86,9 +94,9 @@ abbrev pub IsRunningTeam : Book → ℕ → Launch → Type 0
 IsRunningTeam book team (launch.Running number first) = (number ≡ team) × (first < length (state book).loopers)
 IsRunningTeam book team _ = ⊥
 
-abbrev pub ComesTo : List AppText → Shared → Book → Book → Launch → Type 0
-ComesTo apps shared book book' (launch.Started t) = HasStarted apps shared book book' t
-ComesTo apps shared book book' (launch.Running team first) = HasEntered 0 book book' × (first < length (state book).loopers)
-ComesTo apps shared book book' launch.NotFound = HasEntered 0 book book'
-ComesTo apps shared book book' launch.Limit = HasEntered 0 book book'
-ComesTo apps shared book book' launch.NoMemory = HasEntered 0 book book'
+abbrev pub ComesTo : List AppText → Shared → AppWord → Book → Book → Launch → Type 0
+ComesTo apps shared word book book' (launch.Started t) = HasStarted apps shared word book book' t
+ComesTo apps shared word book book' (launch.Running team first) = HasEntered (Some (event.Launch word (outcome.AlreadyRunning team))) 0 book book' × (first < length (state book).loopers)
+ComesTo apps shared word book book' launch.NotFound = HasEntered (Some (event.Launch word outcome.NotFound)) 0 book book'
+ComesTo apps shared word book book' launch.Limit = HasEntered (Some (event.Launch word outcome.Limit)) 0 book book'
+ComesTo apps shared word book book' launch.NoMemory = HasEntered None 0 book book'

@@ -1,6 +1,10 @@
+pub mod AtEnd
 pub mod Counting
+pub mod Doing
 pub mod Doors
 pub mod Ending
+pub mod Entering
+pub mod Finding
 pub mod Gathering
 pub mod Jobs
 pub mod Launching

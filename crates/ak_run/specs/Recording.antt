@@ -9,10 +9,9 @@ use Rattle.ak_port.specs.declared.reply_entry.ReplyEntry.{ReplyEntry}
 use Rattle.ak_port.specs.PortCalls as at_ports
 use Rattle.ak_port.specs.PortCalls.{PortData}
 use Rattle.ak_port.specs.ReplySeats as at_books
-use Rattle.ak_diary.specs.Step.{Step, book_entries, book_sights, port_entries, roster_entries}
-use Rattle.ak_diary.specs.declared.histories.Histories.{Histories}
+use Rattle.ak_desk.specs.Entry.{EntryData}
+use Rattle.ak_diary.specs.Step.{Step, book_entries, book_sights, desk_entries, port_entries, roster_entries}
 use Rattle.ak_headline.specs.Main.{IsMainDiary, MayEnterPort}
-use Rattle.ak_headline.specs.Run.{HasDone}
 use Rattle.ak_looper.specs.Rosters.{maker_of, plain_of}
 use Rattle.ak_run.specs.declared.member.Member.{Member}
 use Rattle.ak_run.specs.declared.new_looper.NewLooper.{NewLooper}
@@ -35,6 +34,9 @@ list_at lists looper = get_or lists looper []
 
 abbrev pub member_front : Member → List PortEntry
 member_front m = m.door.port_seat.front
+
+abbrev pub member_desk_front : Member → List EntryData
+member_desk_front m = m.door.desk_seat.front
 
 abbrev pub new_front : NewLooper → List PortEntry
 new_front n = n.door.port_seat.front
@@ -74,27 +76,23 @@ pub record GoesBy (steps : List Step) (a b : Fronts) : Type 0 where
   pub book_seen : All (StartsWith b.book) (book_sights steps)
   pub ports : (looper : ℕ) → noted at_ports.by_number main_thread (list_at b.ports looper) ≡ noted at_ports.by_number main_thread (list_at a.ports looper) ++ port_entries looper steps
 
--- by some acts
+-- by some acts, of which none is an edit
 pub record Records (a b : Fronts) : Type 0 where
   pub steps : List Step
   pub goes : GoesBy steps a b
+  pub no_edits : (looper : ℕ) → desk_entries looper steps ≡ []
 
 -- by a call of main's, whatever new ports there are
 abbrev pub RecordsBeside : Run → Run → Type 0
 RecordsBeside r r' = (new : List (List PortEntry)) → Records (fronts_with r new) (fronts_with r' new)
 
--- by all that main did from one time to the next, with the new ports of a team that is about to start; the roster's list goes on from what
--- main had seen
-pub record MainGoesOnWith (new : List (List PortEntry)) (r r' : Run) : Type 0 where
-  pub records : Records (fronts_of r) (fronts_with r' new)
-  pub roster_on : StartsWith (plain_of r'.roster_seat) (plain_of r.roster_seat)
-
-abbrev pub MainGoesOn : Run → Run → Type 0
-MainGoesOn r r' = MainGoesOnWith [] r r'
-
 -- by the start of the looper with that port, which is new no more
 pub record RecordsStart (port : List PortEntry) (r r' : Run) : Type 0 where
   pub beside : (new : List (List PortEntry)) → Records (fronts_with r (port ∷ new)) (fronts_with r' new)
+
+-- the same without an act: the fronts are as they were
+pub record StartsQuietly (port : List PortEntry) (r r' : Run) : Type 0 where
+  pub same : (new : List (List PortEntry)) → fronts_with r' new ≡ fronts_with r (port ∷ new)
 
 -- ---- at one port
 -- main made entries there, each of which it may make by itself
@@ -116,9 +114,3 @@ abbrev pub PortsEndByOthers : List (List PortEntry) → List PortData → Type 0
 PortsEndByOthers [] [] = Unit {0}
 PortsEndByOthers (front ∷ fronts) (port ∷ ports) = EndsByOthers at_ports.by_number front port.entries × PortsEndByOthers fronts ports
 PortsEndByOthers _ _ = ⊥
-
--- main's diary has all that main did
-pub record HasMainDiary (h : Histories) : Type 0 where
-  pub main : List Step
-  pub main_diary : IsMainDiary main
-  pub main_done : HasDone h main_thread main

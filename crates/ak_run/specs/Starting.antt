@@ -22,6 +22,7 @@ use Rattle.ak_run.specs.declared.new_looper.Shared.{Shared}
 use Rattle.ak_run.specs.declared.new_team.NewTeam.{NewTeam}
 use Rattle.ak_run.specs.declared.run.Run.{Run}
 use Rattle.ak_run.specs.Counting.{started_by_main}
+use Rattle.ak_run.specs.Doing.{desk_front}
 use Rattle.ak_run.specs.Jobs.{HasWays, IsStartedIn, facts_in}
 use Rattle.ak_run.specs.NewLooper.{IsNewLooper}
 use Rattle.ak_run.specs.NewTeam.{AreOthers, IsNewTeam, IsOneOf}
@@ -36,6 +37,7 @@ pub record GoesOn (r r' : Run) : Type 0 where
   pub on : StartsWith r'.roster_seat.front r.roster_seat.front
   pub shared : r'.shared ≡ r.shared
   pub apps : r'.apps ≡ r.apps
+  pub desks_on : (looper : ℕ) → StartsWith (desk_front r' looper) (desk_front r looper)
   pub recorded : RecordsBeside r r'
 
 -- the same, with so many loopers more that have their threads
@@ -46,6 +48,7 @@ pub record GoesOnWith (more : ℕ) (r r' : Run) : Type 0 where
   pub on : StartsWith r'.roster_seat.front r.roster_seat.front
   pub shared : r'.shared ≡ r.shared
   pub apps : r'.apps ≡ r.apps
+  pub desks_on : (looper : ℕ) → StartsWith (desk_front r' looper) (desk_front r looper)
 
 -- the roster pairs the looper with what main's door to it leads to
 abbrev pub IsPaired : rosters.RosterSeat → NewLooper → Type 0

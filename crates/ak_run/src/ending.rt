@@ -1,5 +1,6 @@
 //! The end of a run.
 
+use crate::answers::Ended;
 use crate::gathering::{
     AllJoined, join_all, keep_all, keep_book, keep_roster, take_all_ways, take_kept,
 };
@@ -14,21 +15,17 @@ use ak_roster::{holders_are_told, loopers_are_of_their_teams, seats_tell_strange
 use std::sync::Wait;
 use std::thread::Threads;
 
-/// A run that ended.
-#[derive(Drop)]
-pub struct Ended {
-    /// The history of each of its objects.
-    pub histories: Histories,
-    /// The numbers of the loopers whose diaries tell that they found no memory.
-    pub short: Items<u32>,
-}
-
 impl Run {
+    ghost use Rattle.std.specs.Prelude.{◌≡◌, List};
+    ghost use Rattle.ak_base.specs.Thread.{main_thread};
     ghost use Rattle.ak_describe.specs.Whole.{heads_of};
+    ghost use Rattle.ak_diary.specs.Step.{Step};
     ghost use Rattle.ak_headline.specs.Headline.{EachGotOneReply, EachLooper, IsAccounted, IsByRule};
-    ghost use Rattle.ak_headline.specs.Run.{IsRun};
+    ghost use Rattle.ak_headline.specs.Run.{HasDone, IsRun};
+    ghost use Rattle.ak_run.specs.AtEnd.{DoneAtEnd};
+    ghost use Rattle.ak_run.specs.Doing.{HasDoneSoFar};
     ghost use Rattle.ak_run.specs.Ending.{EndsAs, IsRunOfLoopers};
-    ghost use Rattle.ak_run.specs.Recording.{HasMainDiary};
+    ghost use Rattle.ak_run.specs.Recording.{IsRecorded, fronts_of};
     ghost use Rattle.ak_run.specs.Running.{IsRunning};
 
     /// Ends what runs, joins all threads and keeps the histories, which go on from what main had seen. For each looper that was started
@@ -39,11 +36,13 @@ impl Run {
     /// make for it. Takes no memory.
     pub fn end<R: Threads + Wait>(mut self, rt: &R) -> Ended
         requires running { IsRunning self }
+        ensures apps { result.apps.items ≡ self.apps.items }
         ensures run { IsRun (heads_of self.apps.items) result.short result.histories }
         ensures accepted { EachLooper result.histories IsAccounted }
         ensures dispatched { EachLooper result.histories IsByRule }
         ensures answered { EachGotOneReply result.short result.histories }
         ensures same { EndsAs self result.histories }
+        ensures did { (steps : List Step) → HasDoneSoFar steps self → DoneAtEnd steps result.histories }
     {
         runs_are_accounted();
         runs_go_by_rule();
@@ -56,14 +55,15 @@ impl Run {
     fn gathered<R: Threads + Wait>(self, rt: &R) -> Ended
         requires running { IsRunning self }
         ensures run { IsRunOfLoopers (heads_of self.apps.items) result.short result.histories }
-        ensures main { HasMainDiary result.histories }
+        ensures apps { result.apps ≡ self.apps }
+        ensures done { (steps : List Step) → IsRecorded steps (fronts_of self) → HasDone result.histories main_thread steps }
         ensures same { EndsAs self result.histories }
     {
         holders_are_told();
         loopers_are_of_their_teams();
         seats_tell_strangers::<KeptDoor>();
         let Run {
-            apps: _,
+            apps,
             hands,
             shared,
             mut roster_seat,
@@ -98,6 +98,7 @@ impl Run {
         keep_all(rt, loopers, &mut ports, &mut desks);
         let book = keep_book(rt, &book, book_seat);
         Ended {
+            apps,
             histories: Histories {
                 roster: roster.into_entries(),
                 book,

@@ -4,8 +4,8 @@ ghost use Rattle.std.specs.Arc.{arc_value};
 ghost use Rattle.ak_turn.specs.Seats.{joined_seat};
 ghost use Rattle.ak_roster.specs.declared.head.AppHead.{AppHead};
 ghost use Rattle.ak_run.specs.declared.new_looper.Shared.{Shared};
-ghost use Rattle.ak_run.specs.Gathering.{AreBooksOf, AreGaining, AreHeadsIn, AreKeptIn, AreTakenIn, AreWaysIn, GoesOnKnowing, HasRoomFor, HasTakenAt, HoldsNothing, IsAt, IsBookOf, IsDeskOf, IsJoined, IsNoHead, IsPortOf, IsRosterOf, IsTakenIn, IsWayIn, is_short, joined_front, short_of};
-ghost use Rattle.ak_run.specs.Recording.{member_front};
+ghost use Rattle.ak_run.specs.Gathering.{AreBooksOf, AreGaining, AreHeadsIn, AreKeptIn, AreTakenIn, AreWaysIn, GoesOnKnowing, HasRoomFor, HasTakenAt, HoldsNothing, IsAt, IsBookOf, IsDeskOf, IsJoined, IsNoHead, IsPortOf, IsRosterOf, IsTakenIn, IsWayIn, is_short, joined_desk_front, joined_front, short_of};
+ghost use Rattle.ak_run.specs.Recording.{member_desk_front, member_front};
 ghost use Rattle.ak_run.specs.Running.{IsMember};
 
 use crate::member::Member;
@@ -105,6 +105,7 @@ pub(crate) fn join_one<R: Threads>(
     ensures ways { result.1 ≡ result.0.end.value.doors }
     ensures number { result.0.number ≡ member.number }
     ensures front { joined_front result.0 ≡ member_front member }
+    ensures desk_front { joined_desk_front result.0 ≡ member_desk_front member }
     ensures roster { GoesOnKnowing roster_seat.old roster_seat.new }
     ensures book { GoesOnKnowing book_seat.old book_seat.new }
 {
@@ -172,6 +173,7 @@ pub(crate) fn join_all<R: Threads>(
     ensures short { all.new.short.items ≡ short_of all.new.loopers.items }
     ensures numbers { map (λ (j : Joined). j.number) all.new.loopers.items ≡ map (λ (m : Member). m.number) members.items }
     ensures fronts { map joined_front all.new.loopers.items ≡ map member_front members.items }
+    ensures desk_fronts { map joined_desk_front all.new.loopers.items ≡ map member_desk_front members.items }
     ensures roster { GoesOnKnowing roster_seat.old roster_seat.new }
     ensures book { GoesOnKnowing book_seat.old book_seat.new }
 {

@@ -1,11 +1,15 @@
 //! Launches.
-ghost use Rattle.std.specs.Prelude.{◌≡◌, ◌<◌, ◌≤◌, ℕ, List, length};
+ghost use Rattle.std.specs.Prelude.{◌≡◌, ◌≢◌, ◌<◌, ◌≤◌, ℕ, List, length};
+ghost use Rattle.ak_outside.specs.Faults.{Rose};
 ghost use Rattle.ak_roster.specs.Answers.{IsWord};
-ghost use Rattle.ak_run.specs.Recording.{MainGoesOn, MainGoesOnWith};
+ghost use Rattle.ak_run.specs.Doing.{DoesSo, LaunchedSo};
+ghost use Rattle.ak_run.specs.Entering.{AreAtPorts, DoesWith, EntersLaunch, GreetsAgain};
 ghost use Rattle.ak_run.specs.Running.{IsRunning};
 ghost use Rattle.ak_run.specs.Sending.{looper_count};
 ghost use Rattle.ak_run.specs.Starting.{HasEnteredLaunch, launched_fronts};
 
+use crate::answers::LaunchAnswer;
+use crate::finding::last_place;
 use crate::greeting::send;
 use crate::launching::{Launch, StartedTeam, launch_at_turn};
 use crate::run::Run;
@@ -16,25 +20,9 @@ use ak_outside::{Gate, Spawner};
 use std::sync::Wait;
 use std::thread::Threads;
 
-/// What a launch came to.
-#[derive(Clone, Copy, Debug, PartialEq, Eq)]
-pub enum LaunchAnswer {
-    /// The team of that number was started.
-    Started(u32),
-    /// The team of that number keeps it from starting.
-    Running(u32),
-    /// No application fits.
-    NotFound,
-    /// 16 teams were started, or there would be more than 32 loopers.
-    Limit,
-    /// The thread of a looper could not be started: the team is ended.
-    ThreadFault,
-    /// Memory ran out.
-    NoMemory,
-}
-
 impl Run {
-    /// Launches the first application that the word fits, and starts a thread for each of its loopers, in order.
+    /// Launches the first application that the word fits, and starts a thread for each of its loopers, in order. What it came to is one
+    /// entry of the roster, and the answer tells where that stands; where a thread could not be started, the team is ended again.
     pub fn launch<W: Spawner, G: Gate + 'static, R: Threads + Wait + Copy + Send + 'static>(
         &mut self,
         rt: &R,
@@ -45,25 +33,36 @@ impl Run {
     ) -> LaunchAnswer
         requires running { IsRunning self.old }
         requires word { IsWord word.now }
+        ensures did { DoesSo (LaunchedSo word.now result) self.old self.new }
+        ensures cause { result ≡ LaunchAnswer.ThreadFault → Rose (W.faults spawner.old) (W.faults spawner.new) }
+        ensures kept { result ≢ LaunchAnswer.ThreadFault → W.faults spawner.new ≡ W.faults spawner.old }
+        ensures never_falls { W.faults spawner.old ≤ W.faults spawner.new }
         ensures running { IsRunning self.new }
         ensures apps { self.new.apps ≡ self.old.apps }
         ensures count { looper_count self.old ≤ looper_count self.new }
-        ensures goes_on { MainGoesOn self.old self.new }
     {
         let Ok(gates) = clones(*self.members.allocator(), gate) else {
             return LaunchAnswer::NoMemory;
         };
         match self.enter_launch(rt, word, arguments) {
             Launch::Started(StartedTeam { team, new }) => {
+                let place = last_place(&self.roster_seat);
                 if self.start_team(rt, spawner, gates, team, new) {
-                    LaunchAnswer::Started(team.number)
+                    LaunchAnswer::Started {
+                        team: team.number,
+                        place,
+                    }
                 } else {
                     LaunchAnswer::ThreadFault
                 }
             }
             Launch::Running { team, first } => self.greet_again(rt, team, first, arguments),
-            Launch::NotFound => LaunchAnswer::NotFound,
-            Launch::Limit => LaunchAnswer::Limit,
+            Launch::NotFound => LaunchAnswer::NotFound {
+                place: last_place(&self.roster_seat),
+            },
+            Launch::Limit => LaunchAnswer::Limit {
+                place: last_place(&self.roster_seat),
+            },
             Launch::NoMemory => LaunchAnswer::NoMemory,
         }
     }
@@ -80,7 +79,7 @@ impl Run {
         ensures launch { HasEnteredLaunch self.old self.new result }
         ensures apps { self.new.apps ≡ self.old.apps }
         ensures count { looper_count self.new ≡ looper_count self.old }
-        ensures goes_on { MainGoesOnWith (launched_fronts result) self.old self.new }
+        ensures did { DoesWith (EntersLaunch word.now result self.new) (launched_fronts result) self.old self.new }
     {
         let alloc = *self.members.allocator();
         let shared = &self.shared;
@@ -110,18 +109,21 @@ impl Run {
     ) -> LaunchAnswer
         requires running { IsRunning self.old }
         requires there { first < length self.old.members.items }
+        requires entered { 1 ≤ length self.old.roster_seat.front }
+        ensures answer { GreetsAgain team (length self.old.roster_seat.front) result }
+        ensures did { DoesSo AreAtPorts self.old self.new }
         ensures running { IsRunning self.new }
         ensures apps { self.new.apps ≡ self.old.apps }
         ensures count { looper_count self.new ≡ looper_count self.old }
-        ensures goes_on { MainGoesOn self.old self.new }
     {
         let alloc = *self.members.allocator();
+        let place = last_place(&self.roster_seat);
         if let Some(message) = arguments {
             let door = &mut self.members[first as usize].door;
             if send(alloc, rt, &mut self.hands, door, message).is_err() {
                 return LaunchAnswer::NoMemory;
             }
         }
-        LaunchAnswer::Running(team)
+        LaunchAnswer::Running { team, place }
     }
 }

@@ -66,7 +66,7 @@ pub(crate) fn launch_at_turn<R: Wait>(
     requires heads { book.old.heads ≡ heads_of apps.now }
     requires whole { All IsWholeApp apps.now }
     requires word { IsWord word.now }
-    ensures launch { ComesTo apps.now shared.now book.old book.new result }
+    ensures launch { ComesTo apps.now shared.now word.now book.old book.new result }
     ensures by_main { ByMain book.old }
     ensures rest { IsAtRest book.new }
     ensures book { hands.new.book ≡ hands.old.book }
@@ -95,8 +95,8 @@ pub(crate) fn launch_at_turn<R: Wait>(
     }
 }
 
-// Each looper that was started was started by main: each door that is kept tells so.
-fn count_by_main(book: &RosterBook<KeptDoor>)
+/// Each looper that was started was started by main: each door that is kept tells so.
+pub(crate) fn count_by_main(book: &RosterBook<KeptDoor>)
     requires rest { IsAtRest book.now }
     ensures { ByMain book.now }
 {
@@ -140,7 +140,7 @@ fn enter<R: Wait>(
     requires main { hands.old.clock.thread.0 ≡ main_thread }
     requires word { IsWord word.now }
     requires decided { IsDecided book.old word.now making team first }
-    ensures launch { (apps : List AppText) (shared : Shared) → IsMade apps shared making team first → ComesTo apps shared book.old book.new result }
+    ensures launch { (apps : List AppText) (shared : Shared) → IsMade apps shared making team first → ComesTo apps shared word.now book.old book.new result }
     ensures rest { IsAtRest book.new }
     ensures book { hands.new.book ≡ hands.old.book }
     ensures book_seat { hands.new.book_seat ≡ hands.old.book_seat }

@@ -1,10 +1,12 @@
-//! A run as main carries it out: it launches applications, starts a thread for each of their loopers, sends and edits,
-//! and ends what runs. Once all threads are joined it keeps the history of each object.
+//! A run as main carries it out: it launches applications, starts a thread for each of their loopers, looks teams up,
+//! sends and edits, and ends what runs. Each call tells, step by step, what main did. Once all threads are joined it keeps the history of each object.
 #![tactic(auto)]
 
+mod answers;
 mod closing;
 mod doors;
 mod ending;
+mod finding;
 mod gathering;
 mod greeting;
 mod launch;
@@ -18,6 +20,5 @@ mod sending;
 mod starting;
 mod team;
 
-pub use ending::Ended;
-pub use launch::LaunchAnswer;
+pub use answers::{Edited, Ended, Found, LaunchAnswer};
 pub use run::Run;

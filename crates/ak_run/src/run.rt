@@ -1,5 +1,5 @@
 //! A run as main has it.
-ghost use Rattle.std.specs.Prelude.{◌≡◌, false, IfOk, All};
+ghost use Rattle.std.specs.Prelude.{◌≡◌, [], false, IfOk, All};
 ghost use Rattle.std.specs.Arc.{arc_value};
 ghost use Rattle.ak_base.specs.Thread.{main_thread};
 ghost use Rattle.ak_describe.specs.Whole.{IsWholeApp, head_of, heads_of};
@@ -64,6 +64,7 @@ fn heads_of(alloc: Global, apps: &[AppText]) -> Result<Vec<AppHead>, NoMemory>
 }
 
 impl Run {
+    ghost use Rattle.ak_run.specs.Doing.{HasDoneSoFar};
     ghost use Rattle.ak_run.specs.Running.{IsRunning};
     ghost use Rattle.ak_run.specs.Sending.{looper_count};
 
@@ -75,6 +76,7 @@ impl Run {
         ensures running { IfOk result (λ run. IsRunning run) }
         ensures apps { IfOk result (λ run. run.apps.items ≡ apps.items) }
         ensures none { IfOk result (λ run. looper_count run ≡ 0) }
+        ensures nothing { IfOk result (λ run. HasDoneSoFar [] run) }
     {
         let heads = heads_of(alloc, &apps)?;
         let roster = RosterBook::new(alloc, heads)?;

@@ -7,18 +7,21 @@ ghost use Rattle.ak_flatten.specs.Limits.{flat_limit};
 ghost use Rattle.ak_flatten.specs.Spelling.{spelling};
 ghost use Rattle.ak_port.specs.PortCalls.{HasAnswered};
 ghost use Rattle.ak_messenger.specs.Sends.{item_in, post_event};
-ghost use Rattle.ak_desk.specs.Desk.{edit_entry};
+ghost use Rattle.ak_desk.specs.Shared as desks;
+ghost use Rattle.ak_run.specs.Doing.{AskedSo, DoesSo, EditedSo, PostedSo};
 ghost use Rattle.ak_run.specs.Doors.{KeepsSeats};
-ghost use Rattle.ak_run.specs.Recording.{MainGoesOn};
+ghost use Rattle.ak_run.specs.Recording.{fronts_of, list_at};
 ghost use Rattle.ak_run.specs.Running.{IsRunning};
-ghost use Rattle.ak_run.specs.Sending.{AnswersAtDesk, AnswersAtPort, AsksAt, looper_count};
+ghost use Rattle.ak_run.specs.Sending.{AnswersAtDesk, AnswersAtPort, AsksAt, IsAtPlace, edited_event, looper_count};
 
+use crate::answers::Edited;
 use crate::run::Run;
 use ak_desk::{Edit, EditAnswer, edit_shared};
 use ak_flatten::Duty;
 use ak_looper::Door;
 use ak_message::Message;
 use ak_messenger::{Envelope, Hands, Reply, SendFault, ask, post, post_at_turn};
+use ak_turn::Clock;
 use std::alloc::Global;
 use std::sync::Wait;
 
@@ -44,13 +47,13 @@ impl Run {
         requires there { looper < looper_count self.old }
         requires popped { envelope.popped ≤ specifier_count message.now.fields }
         requires back { IfSome envelope.back (λ back. back.looper < looper_count self.old) }
+        ensures did { DoesSo (PostedSo looper envelope message.now result self.new) self.old self.new }
         ensures answered { AnswersAtPort looper (post_event envelope message.now result) self.old self.new }
         ensures too_long { IsErrOf result SendFault.TooLong ↔ (flat_limit < length (spelling message.now)) }
         ensures not_blocked { IsErrOf result SendFault.WouldBlock → ⊥ }
         ensures running { IsRunning self.new }
         ensures count { looper_count self.new ≡ looper_count self.old }
         ensures apps { self.new.apps ≡ self.old.apps }
-        ensures goes_on { MainGoesOn self.old self.new }
     {
         let alloc = *self.members.allocator();
         let door = &mut self.members[looper as usize].door;
@@ -77,12 +80,12 @@ impl Run {
         requires there { looper < looper_count self.old }
         requires popped { envelope.popped ≤ specifier_count message.now.fields }
         requires back { IfSome envelope.back (λ back. back.looper < looper_count self.old) }
+        ensures did { DoesSo (PostedSo looper envelope message.now result self.new) self.old self.new }
         ensures answered { AnswersAtPort looper (post_event envelope message.now result) self.old self.new }
         ensures too_long { IsErrOf result SendFault.TooLong ↔ (flat_limit < length (spelling message.now)) }
         ensures running { IsRunning self.new }
         ensures count { looper_count self.new ≡ looper_count self.old }
         ensures apps { self.new.apps ≡ self.old.apps }
-        ensures goes_on { MainGoesOn self.old self.new }
     {
         let alloc = *self.members.allocator();
         let door = &mut self.members[looper as usize].door;
@@ -101,6 +104,7 @@ impl Run {
         requires there { looper < looper_count self.old }
         requires popped { envelope.popped ≤ specifier_count message.now.fields }
         requires back { envelope.back ≡ None }
+        ensures did { DoesSo (AskedSo looper (item_in envelope Duty.None message.now) result self.new) self.old self.new }
         ensures answered { AsksAt looper (item_in envelope Duty.None message.now) result self.old self.new }
         ensures too_long { IsErrOf result SendFault.TooLong ↔ (flat_limit < length (spelling message.now)) }
         ensures message { IfOk result (λ reply. reply.message ≡ spelled reply.flat) }
@@ -108,7 +112,6 @@ impl Run {
         ensures running { IsRunning self.new }
         ensures count { looper_count self.new ≡ looper_count self.old }
         ensures apps { self.new.apps ≡ self.old.apps }
-        ensures goes_on { MainGoesOn self.old self.new }
     {
         let alloc = *self.members.allocator();
         let door = &mut self.members[looper as usize].door;
@@ -123,24 +126,44 @@ impl Run {
         )
     }
 
-    /// Edits the handlers of that looper.
-    pub fn edit<R: Wait>(&mut self, rt: &R, looper: u32, edit: Edit) -> EditAnswer
+    /// Edits the handlers of that looper, by one entry at its desk. Answers where that stands.
+    pub fn edit<R: Wait>(&mut self, rt: &R, looper: u32, edit: Edit) -> Edited
         requires running { IsRunning self.old }
         requires there { looper < looper_count self.old }
-        ensures answered { AnswersAtDesk looper (edit_entry edit result) self.old self.new }
+        ensures did { DoesSo (EditedSo looper edit result) self.old self.new }
+        ensures answered { AnswersAtDesk looper (edited_event edit result) self.old self.new }
         ensures running { IsRunning self.new }
         ensures count { looper_count self.new ≡ looper_count self.old }
         ensures apps { self.new.apps ≡ self.old.apps }
-        ensures goes_on { MainGoesOn self.old self.new }
     {
         let door = &mut self.members[looper as usize].door;
-        edit_shared(
-            &door.desk,
-            rt,
-            &mut door.desk_seat,
-            &mut self.hands.clock,
-            edit,
-        )
+        edit_through(rt, &mut self.hands.clock, door, edit)
+    }
+
+    /// How many entries main has seen at that looper's port.
+    pub fn port_seen(&self, looper: u32) -> u64
+        requires there { looper < looper_count self.now }
+        ensures { result ≡ length (list_at (fronts_of self.now).ports looper) }
+    {
+        self.members[looper as usize].door.port_seat.seen()
+    }
+}
+
+// Edits the handlers at the desk to which the door leads.
+fn edit_through<R: Wait>(rt: &R, clock: &mut Clock, door: &mut Door, edit: Edit) -> Edited
+    requires thread { door.old.desk_seat.thread ≡ clock.old.thread.0 }
+    ensures answered { desks.HasAnswered (edited_event edit result) clock.old clock.new door.old.desk_seat door.new.desk_seat }
+    ensures place { IsAtPlace result (length door.new.desk_seat.front) }
+    ensures desk { door.new.desk ≡ door.old.desk }
+    ensures port { door.new.port ≡ door.old.port }
+    ensures port_seat { door.new.port_seat ≡ door.old.port_seat }
+{
+    match edit_shared(&door.desk, rt, &mut door.desk_seat, clock, edit) {
+        EditAnswer::NoMemory => Edited::NoMemory,
+        answer => Edited::Entered {
+            answer,
+            place: door.desk_seat.seen() - 1,
+        },
     }
 }
 

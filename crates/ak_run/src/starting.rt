@@ -44,7 +44,9 @@ impl Run {
         ensures cause { OnErr result (Rose (W.faults spawner.old) (W.faults spawner.new)) }
         ensures never_falls { W.faults spawner.old ≤ W.faults spawner.new }
         ensures run { GoesOn self.old self.new }
+        ensures quiet { OnOk result (self.new ≡ self.old) }
         ensures door { StillLeads door.old door.new }
+        ensures door_kept { OnOk result (door.new ≡ door.old) }
     {
         let copy = *rt;
         let promise = Lives(Snapshot::of(&job));

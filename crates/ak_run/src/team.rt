@@ -1,7 +1,8 @@
 //! Starting the loopers of a team.
-ghost use Rattle.std.specs.Prelude.{◌≡◌, ◌+◌, ◌≤◌, ℕ, List, None, length, IfOk};
+ghost use Rattle.std.specs.Prelude.{◌≡◌, ◌+◌, ◌≤◌, ℕ, List, None, length, IfOk, IsFalse, IsTrue};
 ghost use Rattle.ak_base.specs.Limits.{app_looper_limit};
 ghost use Rattle.ak_base.specs.Thread.{main_thread};
+ghost use Rattle.ak_outside.specs.Faults.{Rose};
 ghost use Rattle.ak_turn.specs.Seats.{new_seat};
 ghost use Rattle.ak_turn.specs.Steps.{IsNewName};
 ghost use Rattle.ak_action.specs.declared.plan.PlanParts.{PlanParts};
@@ -9,7 +10,7 @@ ghost use Rattle.ak_roster.specs.declared.head.AppHead.{AppHead};
 ghost use Rattle.ak_looper.specs.declared.kept_door.KeptDoor.{KeptDoor};
 ghost use Rattle.ak_looper.specs.Job.{IsReady};
 ghost use Rattle.ak_run.specs.Members.{IsLifeOf, StillLeads};
-ghost use Rattle.ak_run.specs.Recording.{Records, RecordsStart, fronts_of, fronts_with, team_fronts};
+ghost use Rattle.ak_run.specs.Recording.{Records, RecordsStart, StartsQuietly, fronts_of, fronts_with, team_fronts};
 ghost use Rattle.ak_run.specs.Running.{IsStanding};
 ghost use Rattle.ak_run.specs.Starting.{GoesOn, GoesOnWith, HasSplit, MayStart, MayStartTeam};
 
@@ -61,6 +62,10 @@ impl Run {
         requires gates { team.loopers ≤ length gates.items }
         ensures started { GoesOnWith team.loopers self.old self.new }
         ensures recorded { Records (fronts_with self.old (team_fronts new)) (fronts_of self.new) }
+        ensures quiet { IsTrue result → fronts_of self.new ≡ fronts_with self.old (team_fronts new) }
+        ensures kept { IsTrue result → W.faults spawner.new ≡ W.faults spawner.old }
+        ensures cause { IsFalse result → Rose (W.faults spawner.old) (W.faults spawner.new) }
+        ensures never_falls { W.faults spawner.old ≤ W.faults spawner.new }
     {
         let alloc = *self.members.allocator();
         let NewTeam { own, others, ways } = new;
@@ -107,6 +112,12 @@ impl Run {
         ensures life { IsLifeOf job result.0 }
         ensures run { GoesOn self.old self.new }
         ensures door { StillLeads door.old door.new }
+        ensures only { IsTrue result.1 → IsTrue start }
+        ensures quiet { IsTrue result.1 → self.new ≡ self.old }
+        ensures door_kept { IsTrue result.1 → door.new ≡ door.old }
+        ensures kept { IsTrue result.1 → W.faults spawner.new ≡ W.faults spawner.old }
+        ensures cause { IsTrue start → IsFalse result.1 → Rose (W.faults spawner.old) (W.faults spawner.new) }
+        ensures never_falls { W.faults spawner.old ≤ W.faults spawner.new }
     {
         if !start {
             return (Life::Over(self.live_here(rt, gate, job, door)), false);
@@ -131,6 +142,11 @@ impl Run {
         requires start { (heads : List AppHead) × (plans : List PlanParts) × (k : ℕ) × MayStart heads plans k team new ways.items self.old }
         ensures started { GoesOnWith 1 self.old self.new }
         ensures recorded { RecordsStart new.door.port_seat.front self.old self.new }
+        ensures only { IsTrue result → IsTrue start }
+        ensures quiet { IsTrue result → StartsQuietly new.door.port_seat.front self.old self.new }
+        ensures kept { IsTrue result → W.faults spawner.new ≡ W.faults spawner.old }
+        ensures cause { IsTrue start → IsFalse result → Rose (W.faults spawner.old) (W.faults spawner.new) }
+        ensures never_falls { W.faults spawner.old ≤ W.faults spawner.new }
     {
         let number = new.number;
         let (book_seat, roster_seat) = self.split_seats(ThreadId::looper(number));

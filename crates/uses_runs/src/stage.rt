@@ -79,10 +79,10 @@ fn name_of(fault: SendFault) -> &'static [u8] {
 fn tell_launch(out: &mut Bytes, answer: LaunchAnswer) -> Told {
     out.extend(b"launch:")?;
     match answer {
-        LaunchAnswer::Started(team) => tell(out, b"started", u64::from(team))?,
-        LaunchAnswer::Running(team) => tell(out, b"running", u64::from(team))?,
-        LaunchAnswer::NotFound => out.extend(b" not found")?,
-        LaunchAnswer::Limit => out.extend(b" limit")?,
+        LaunchAnswer::Started { team, .. } => tell(out, b"started", u64::from(team))?,
+        LaunchAnswer::Running { team, .. } => tell(out, b"running", u64::from(team))?,
+        LaunchAnswer::NotFound { .. } => out.extend(b" not found")?,
+        LaunchAnswer::Limit { .. } => out.extend(b" limit")?,
         LaunchAnswer::ThreadFault => out.extend(b" thread fault")?,
         LaunchAnswer::NoMemory => out.extend(b" no memory")?,
     }

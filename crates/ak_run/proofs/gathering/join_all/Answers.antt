@@ -5,8 +5,8 @@ use Rattle.std.proofs.lemmas.List.{map-append}
 use Rattle.std.proofs.lemmas.List.Elements.{All-head, All-push, All-tail}
 use Rattle.ak_run.specs.declared.gathering.Joined.{Joined}
 use Rattle.ak_run.specs.declared.member.Member.{Member}
-use Rattle.ak_run.specs.Gathering.{HasRoomFor, IsJoined, IsNoHead, joined_front, short_of}
-use Rattle.ak_run.specs.Recording.{member_front}
+use Rattle.ak_run.specs.Gathering.{HasRoomFor, IsJoined, IsNoHead, joined_desk_front, joined_front, short_of}
+use Rattle.ak_run.specs.Recording.{member_desk_front, member_front}
 use Rattle.ak_run.specs.Running.{IsMember}
 use Rattle.ak_run.proofs.Joining.{all_joined_still, knows_further, member_still}
 use Rattle.ak_run.proofs.Taking.{short_more}
@@ -69,6 +69,13 @@ loop-member-preserved g c =
           ∙ ap (λ (front : _). map joined_front js ++ front ∷ map member_front rest) one.front
           ∙ sym (ap (λ (l : List Member). map joined_front js ++ map member_front l) next)
           ∙ was.fronts;
+      desk_fronts =
+          ap (λ (l : List Joined). map joined_desk_front l ++ map member_desk_front rest) pushed
+          ∙ ap (λ (l : List _). l ++ map member_desk_front rest) (map-append joined_desk_front js (j ∷ []))
+          ∙ append_assoc (map joined_desk_front js) (joined_desk_front j ∷ []) (map member_desk_front rest)
+          ∙ ap (λ (front : _). map joined_desk_front js ++ front ∷ map member_desk_front rest) one.desk_front
+          ∙ sym (ap (λ (l : List Member). map joined_desk_front js ++ map member_desk_front l) next)
+          ∙ was.desk_fronts;
       no_heads = λ heads shared all.
           let member = member_still heads shared r between m was.roster (All-head (IsMember heads shared r) m rest (subst (All (IsMember heads shared r)) next (was.rest heads shared all))) in
           subst (All IsNoHead) (sym pushed) (All-push IsNoHead js j (was.no_heads heads shared all) (one.no_head heads shared member));

@@ -4,8 +4,8 @@ use Rattle.ak_roster.specs.declared.head.AppHead.{AppHead}
 use Rattle.ak_run.specs.declared.gathering.Joined.{Joined}
 use Rattle.ak_run.specs.declared.member.Member.{Member}
 use Rattle.ak_run.specs.declared.new_looper.Shared.{Shared}
-use Rattle.ak_run.specs.Gathering.{GoesOnKnowing, HasRoomFor, IsJoined, IsNoHead, joined_front, short_of}
-use Rattle.ak_run.specs.Recording.{member_front}
+use Rattle.ak_run.specs.Gathering.{GoesOnKnowing, HasRoomFor, IsJoined, IsNoHead, joined_desk_front, joined_front, short_of}
+use Rattle.ak_run.specs.Recording.{member_desk_front, member_front}
 use Rattle.ak_run.specs.Running.{IsMember}
 use Rattle.ak_run.proofs.gathering.join_all.Given as goal
 
@@ -20,5 +20,6 @@ invariant-loop-member g l = record {
   short : l.all.short.items ≡ short_of l.all.loopers.items;
   numbers : map (λ (j : Joined). j.number) l.all.loopers.items ++ map (λ (m : Member). m.number) l.member-iterator.rest.items ≡ map (λ (m : Member). m.number) l.fn.members.items;
   fronts : map joined_front l.all.loopers.items ++ map member_front l.member-iterator.rest.items ≡ map member_front l.fn.members.items;
+  desk_fronts : map joined_desk_front l.all.loopers.items ++ map member_desk_front l.member-iterator.rest.items ≡ map member_desk_front l.fn.members.items;
   room : HasRoomFor (length l.member-iterator.rest.items) l.all;
 }

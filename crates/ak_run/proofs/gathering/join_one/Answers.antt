@@ -1,5 +1,6 @@
 -- The end is that of its job, and its seats are at the locks that main's are at.
 use Rattle.std.proofs.Common.{◌∙◌, ap, refl, sym}
+use Rattle.ak_desk.specs.Shared.{DeskSeat}
 use Rattle.ak_port.specs.PortCalls.{PortSeat}
 use Rattle.ak_looper.specs.declared.job.LooperEnd.{LooperEnd}
 use Rattle.ak_run.specs.declared.gathering.Joined.{Joined}
@@ -48,3 +49,6 @@ returns-clause-book g c = goes_on_knowing c.args.book_seat.now c.end-end.result.
 
 pub returns-clause-front : goal.returns-clause-front
 returns-clause-front g c = ap (λ (s : PortSeat). s.front) c.take_in.ensures.port
+
+pub returns-clause-desk_front : goal.returns-clause-desk_front
+returns-clause-desk_front g c = ap (λ (s : DeskSeat). s.front) c.take_in.ensures.desk

@@ -12,5 +12,6 @@ returns g c =
     record {
       legal = record { state = kept.result.state; history = c.state.ensures.history (ap (λ (d : DeskData). d.begun) kept.ensures ∙ turn.rest) };
       opening = turn.opening ∙ ap (λ (d : DeskData). Some d.opening) (sym kept.ensures);
+      goes_on = (turn.seen.between, ap (λ (d : DeskData). d.entries) kept.ensures ∙ turn.list ∙ ap (λ s. s.front) turn.seen.after);
       known = knows_all by_number c.args.seat c.lock-turn.new.seat kept.result.entries turn.seen turn.known (ap (λ (d : DeskData). d.entries) kept.ensures ∙ turn.list);
     }

@@ -30,7 +30,7 @@ returns-in-Ok-clause-launch g c =
     let starts = c.in-Starts in
     let m = c.in-Ok.making in
     let plans = c.as_slice-plans.ensures in
-    subst (λ (b : Book). ComesTo c.args.apps.now c.args.shared.now b c.enter.new.book c.enter.result) starts.ensures.stays.0
+    subst (λ (b : Book). ComesTo c.args.apps.now c.args.shared.now c.args.word.now b c.enter.new.book c.enter.result) starts.ensures.stays.0
     (c.enter.ensures.launch c.args.apps.now c.args.shared.now
     (made c.args.apps.now c.args.book.now c.args.word.now starts.description starts.team starts.first c.requires.heads c.requires.whole starts.ensures.answer c.index-apps-description.result c.index-apps-description.is c.args.shared.now m
     (subst (λ (ps : List PlanParts). IsNewTeam ps starts.team starts.first c.args.shared.now m.team m.kept.items) plans c.in-Ok.ensures.made)
@@ -58,6 +58,6 @@ returns-in-NoMemory-clause-launch g c = none_entered c.args.book.now c.decide.ne
 pub returns-in-AlreadyRunning-clause-launch : goal.returns-in-AlreadyRunning-clause-launch
 returns-in-AlreadyRunning-clause-launch g c =
     let already = c.in-AlreadyRunning in
-    running_comes c.args.apps.now c.args.shared.now c.args.book.now c.decide.new.self already.team c.running.result
+    running_comes c.args.apps.now c.args.shared.now c.args.word.now c.args.book.now c.decide.new.self already.team c.running.result
     (refusal_entered c.args.book.now c.decide.new.self c.args.hands.now.clock c.decide.new.clock c.args.word.now (decision.AlreadyRunning already.team) c.requires.main tt already.ensures.answer already.ensures.entry)
     c.running.ensures

@@ -12,18 +12,18 @@ pub finish-requires-clause-list : goal.finish-requires-clause-list
 finish-requires-clause-list g c =
     let r = c.args.self.now in
     let l = c.launch_at_turn-launch in
-    let entered = comes_entered c.deref-2.result.now r.shared c.book.result.now l.new.book l.result l.ensures.launch in
+    let entered = comes_entered c.deref-2.result.now r.shared c.args.word.now c.book.result.now l.new.book l.result l.ensures.launch in
     let list = ap (λ (b : Book). b.entries) c.book.ensures.value ∙ c.lock-turn.ensures.list in
-    is_next entered.0 c.lock-turn.new.seat c.book.result.now l.new.book entered.1 list (ap (λ s. s.thread) c.lock-turn.ensures.seen.after ∙ r.roster_thread ∙ r.main)
+    is_next entered.0 entered.1 c.lock-turn.new.seat c.book.result.now l.new.book entered.2 list (ap (λ s. s.thread) c.lock-turn.ensures.seen.after ∙ r.roster_thread ∙ r.main)
 
 -- what was known of main's seat is so behind the turn
-on : (g : _) (c : goal.After-finish g) → RosterOn c.book.result.now.heads (comes_entered c.deref-2.result.now c.args.self.now.shared c.book.result.now c.launch_at_turn-launch.new.book c.launch_at_turn-launch.result c.launch_at_turn-launch.ensures.launch).0 c.args.self.now.roster_seat c.finish.new.seat
+on : (g : _) (c : goal.After-finish g) → RosterOn c.book.result.now.heads (comes_entered c.deref-2.result.now c.args.self.now.shared c.args.word.now c.book.result.now c.launch_at_turn-launch.new.book c.launch_at_turn-launch.result c.launch_at_turn-launch.ensures.launch).1 c.args.self.now.roster_seat c.finish.new.seat
 on g c =
     let r = c.args.self.now in
     let l = c.launch_at_turn-launch in
-    let entered = comes_entered c.deref-2.result.now r.shared c.book.result.now l.new.book l.result l.ensures.launch in
+    let entered = comes_entered c.deref-2.result.now r.shared c.args.word.now c.book.result.now l.new.book l.result l.ensures.launch in
     let list = ap (λ (b : Book). b.entries) c.book.ensures.value ∙ c.lock-turn.ensures.list in
-    goes_on r.roster_seat c.lock-turn.new.seat c.finish.new.seat c.book.result.now l.new.book entered.0 r.roster_idle (r.roster_thread ∙ r.main) c.lock-turn.ensures.seen c.lock-turn.ensures.known list entered.1 c.finish.ensures.same c.finish.ensures.entered c.finish.ensures.known
+    goes_on r.roster_seat c.lock-turn.new.seat c.finish.new.seat c.book.result.now l.new.book entered.1 r.roster_idle (r.roster_thread ∙ r.main) c.lock-turn.ensures.seen c.lock-turn.ensures.known list entered.0 entered.2 c.finish.ensures.same c.finish.ensures.entered c.finish.ensures.known
 
 pub invariant_of-self-2-clause-roster_of : goal.invariant_of-self-2-clause-roster_of
 invariant_of-self-2-clause-roster_of g c = (on g c).keeps.lock ∙ c.args.self.now.roster_of
@@ -39,14 +39,14 @@ returns g c =
     let r = c.args.self.now in
     let value = c.book.ensures.value in
     let l = c.launch_at_turn-launch in
-    let comes = subst (λ (apps : List AppText). ComesTo apps r.shared c.book.result.now l.new.book l.result) c.deref-2.ensures.value l.ensures.launch in
+    let comes = subst (λ (apps : List AppText). ComesTo apps r.shared c.args.word.now c.book.result.now l.new.book l.result) c.deref-2.ensures.value l.ensures.launch in
     record {
       launch = has_entered r _ c.requires.running (record { apps = refl; shared = refl; joined = refl; ports = refl; desks = refl }) refl (same_book r _ l.ensures.book_seat) (ap (λ s. s.front) l.ensures.book_seat) c.lock-turn.new.seat c.book.result.now l.new.book
           (c.lock-turn.ensures.opening ∙ ap (λ (b : Book). Some b.heads) (sym value)) c.lock-turn.ensures.seen c.lock-turn.ensures.known (ap (λ (b : Book). b.entries) value ∙ c.lock-turn.ensures.list)
-          c.finish.ensures.same c.finish.ensures.entered c.finish.ensures.known l.ensures.by_main l.result comes;
+          c.finish.ensures.same c.finish.ensures.entered c.finish.ensures.known l.ensures.by_main c.args.word.now l.result comes;
       apps = refl;
       count = refl;
-      goes_on = enters r _ c.requires.running (record { apps = refl; shared = refl; joined = refl; ports = refl; desks = refl }) refl (same_book r _ l.ensures.book_seat) (ap (λ s. s.front) l.ensures.book_seat) c.lock-turn.new.seat c.book.result.now l.new.book
+      did = enters r _ c.requires.running (record { apps = refl; shared = refl; joined = refl; ports = refl; desks = refl }) refl (same_book r _ l.ensures.book_seat) (ap (λ s. s.front) l.ensures.book_seat) c.lock-turn.new.seat c.book.result.now l.new.book
           (c.lock-turn.ensures.opening ∙ ap (λ (b : Book). Some b.heads) (sym value)) c.lock-turn.ensures.seen c.lock-turn.ensures.known (ap (λ (b : Book). b.entries) value ∙ c.lock-turn.ensures.list)
-          c.finish.ensures.same c.finish.ensures.entered c.finish.ensures.known l.ensures.by_main l.result comes;
+          c.finish.ensures.same c.finish.ensures.entered c.finish.ensures.known l.ensures.by_main c.args.word.now l.result comes;
     }

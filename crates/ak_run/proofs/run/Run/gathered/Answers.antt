@@ -65,7 +65,7 @@ returns g c =
     let h : Histories = record { roster = c.into_entries.result; book = book; ports = c.keep_all.new.ports; desks = c.keep_all.new.desks } in
     let last = c.take_all_ways.new.loopers.items in
     let ends =
-    ends_by_others r runs.heads all.new.roster_seat all.new.book_seat kept book js last h all.ensures.roster all.ensures.book (all.ensures.joined runs.heads r.shared runs.stands.each) all.ensures.fronts
+    ends_by_others r runs.heads all.new.roster_seat all.new.book_seat kept book js last h all.ensures.roster all.ensures.book (all.ensures.joined runs.heads r.shared runs.stands.each) all.ensures.fronts all.ensures.desk_fronts
     (all_gain_further js c.take_kept.new.loopers.items last c.take_kept.ensures.gaining c.take_all_ways.ensures.gaining) c.keep_all.ensures c.keep_roster-roster.ensures c.keep_book-book.ensures.ends
     (c.into_entries.ensures ∙ ap (λ (b : Book). plain_entries b.entries) c.take_doors.ensures.after) refl in
     record {
@@ -84,6 +84,7 @@ returns g c =
           (roster_below r runs all.new.roster_seat all.ensures.roster js all.ensures.numbers) (book_below r runs all.new.roster_seat all.ensures.roster js all.ensures.numbers all.new.book_seat all.ensures.book)
           c.holders_are_told.ensures.holders c.holders_are_told.ensures.strangers c.seats_tell_strangers.ensures.entries c.loopers_are_of_their_teams.ensures.owns c.loopers_are_of_their_teams.ensures.launches
           c.from_vec.result (c.from_vec.ensures ∙ all.ensures.short));
-      main = run_done r h runs.recorded ends;
+      apps = refl;
+      done = run_done r h ends;
       same = ends_as r h ends;
     }

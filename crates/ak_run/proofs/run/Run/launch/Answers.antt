@@ -1,9 +1,16 @@
--- A team that was launched starts; then each looper that was launched has its thread.
-use Rattle.std.proofs.Common.{[], append-nil, arith, refl, sym, ◌∙◌}
-use Rattle.ak_looper.specs.Rosters.{plain_of}
-use Rattle.ak_run.specs.Recording.{fronts_of, team_fronts}
-use Rattle.ak_run.proofs.Acts.{same_fronts}
-use Rattle.ak_run.proofs.GoingOn.{all_run, main_goes_on, main_goes_then}
+-- A team that was launched starts; then each looper that was launched has its thread. What main did is told by the answer.
+use Rattle.std.proofs.Common.{arith, refl, ◌∙◌}
+use Rattle.ak_roster.specs.declared.entry.LaunchOutcome.TheVariants as outcome
+use Rattle.ak_run.specs.declared.answers.LaunchAnswer.TheVariants as answer
+use Rattle.ak_run.specs.declared.launching.Launch.TheVariants as launch
+use Rattle.ak_run.specs.Doing.{LaunchedSo}
+use Rattle.ak_run.specs.Entering.{EntersLaunch}
+use Rattle.ak_run.specs.Recording.{team_fronts}
+use Rattle.ak_run.proofs.Calls.{does_same}
+use Rattle.ak_run.proofs.Doing.{does_with, then_quiet, then_records}
+use Rattle.ak_run.proofs.GoingOn.{all_run}
+use Rattle.ak_run.proofs.LaunchAnswers.{runs_so}
+use Rattle.ak_run.proofs.Launches.{launches_at}
 use Rattle.ak_run.proofs.run.Run.launch.Goals as goal
 
 pub start_team-requires-clause-start : goal.start_team-requires-clause-start
@@ -12,31 +19,53 @@ start_team-requires-clause-start g c κs within = let e = c.in-Started.ensures.l
 pub start_team-requires-clause-gates : goal.start_team-requires-clause-gates
 start_team-requires-clause-gates g c κs within = let e = c.in-Started.ensures.launch in omega (arith, e.4, c.in-Ok.ensures)
 
-pub returns-then-start_team : goal.returns-then-start_team
-returns-then-start_team g c =
-    let e = c.in-Started.ensures.launch in
-    record {
-      running = all_run c.in-Started.field-0.team.loopers c.enter_launch.new.self c.start_team.new.self e.0 (team_fronts c.in-Started.field-0.new) e.3.stands e.5 e.6 c.start_team.ensures.started c.start_team.ensures.recorded;
-      apps = c.start_team.ensures.started.apps ∙ c.in-Started.ensures.apps;
-      count = omega (arith, c.start_team.ensures.started.count, c.in-Started.ensures.count);
-      goes_on = main_goes_then (team_fronts c.in-Started.field-0.new) c.args.self.now c.enter_launch.new.self c.start_team.new.self c.in-Started.ensures.goes_on c.start_team.ensures.started.on c.start_team.ensures.recorded;
-    }
+pub returns-then-start_team-clause-did : goal.returns-then-start_team-clause-did
+returns-then-start_team-clause-did g c =
+    let word = c.args.word.now in
+    let s = c.in-Started.field-0 in
+    let entered = c.enter_launch.new.self in
+    then_quiet (EntersLaunch word (launch.Started s) entered) (team_fronts s.new) c.args.self.now entered c.start_team.new.self c.in-Started.ensures.did c.start_team.ensures.started.on c.start_team.ensures.started.desks_on
+    (LaunchedSo word (answer.Started s.team.number c.last_place-place.result)) (λ steps is. (is.0, s.team.first, launches_at word (outcome.Started is.0 s.team.number s.team.first) entered c.last_place-place.result steps c.last_place-place.ensures is.1))
+    (c.start_team.ensures.quiet c.if-start_team.true)
 
-pub returns-else-start_team : goal.returns-else-start_team
-returns-else-start_team g c =
+pub returns-then-start_team-clause-running : goal.returns-then-start_team-clause-running
+returns-then-start_team-clause-running g c =
     let e = c.in-Started.ensures.launch in
-    record {
-      running = all_run c.in-Started.field-0.team.loopers c.enter_launch.new.self c.start_team.new.self e.0 (team_fronts c.in-Started.field-0.new) e.3.stands e.5 e.6 c.start_team.ensures.started c.start_team.ensures.recorded;
-      apps = c.start_team.ensures.started.apps ∙ c.in-Started.ensures.apps;
-      count = omega (arith, c.start_team.ensures.started.count, c.in-Started.ensures.count);
-      goes_on = main_goes_then (team_fronts c.in-Started.field-0.new) c.args.self.now c.enter_launch.new.self c.start_team.new.self c.in-Started.ensures.goes_on c.start_team.ensures.started.on c.start_team.ensures.recorded;
-    }
+    all_run c.in-Started.field-0.team.loopers c.enter_launch.new.self c.start_team.new.self e.0 (team_fronts c.in-Started.field-0.new) e.3.stands e.5 e.6 c.start_team.ensures.started c.start_team.ensures.recorded
 
-pub returns-in-Running-clause-goes_on : goal.returns-in-Running-clause-goes_on
-returns-in-Running-clause-goes_on g c = main_goes_on c.args.self.now c.enter_launch.new.self c.greet_again.new.self c.in-Running.ensures.goes_on c.greet_again.ensures.goes_on
+pub returns-else-start_team-clause-did : goal.returns-else-start_team-clause-did
+returns-else-start_team-clause-did g c =
+    let word = c.args.word.now in
+    let s = c.in-Started.field-0 in
+    let entered = c.enter_launch.new.self in
+    then_records (EntersLaunch word (launch.Started s) entered) (team_fronts s.new) c.args.self.now entered c.start_team.new.self c.in-Started.ensures.did c.start_team.ensures.started.on c.start_team.ensures.started.desks_on c.start_team.ensures.recorded
+
+pub returns-else-start_team-clause-running : goal.returns-else-start_team-clause-running
+returns-else-start_team-clause-running g c =
+    let e = c.in-Started.ensures.launch in
+    all_run c.in-Started.field-0.team.loopers c.enter_launch.new.self c.start_team.new.self e.0 (team_fronts c.in-Started.field-0.new) e.3.stands e.5 e.6 c.start_team.ensures.started c.start_team.ensures.recorded
+
+pub returns-in-Running-clause-did : goal.returns-in-Running-clause-did
+returns-in-Running-clause-did g c =
+    runs_so c.args.word.now c.in-Running.team c.in-Running.first c.args.self.now c.enter_launch.new.self c.greet_again.new.self c.in-Running.ensures.did c.greet_again.ensures.did c.greet_again.result c.greet_again.ensures.answer
+
+pub returns-in-NotFound-clause-did : goal.returns-in-NotFound-clause-did
+returns-in-NotFound-clause-did g c =
+    let word = c.args.word.now in
+    let entered = c.enter_launch.new.self in
+    does_with (EntersLaunch word launch.NotFound entered) _ c.args.self.now entered (λ steps is. launches_at word outcome.NotFound entered _ steps c.last_place.ensures is) c.in-NotFound.ensures.did
+
+pub returns-in-Limit-clause-did : goal.returns-in-Limit-clause-did
+returns-in-Limit-clause-did g c =
+    let word = c.args.word.now in
+    let entered = c.enter_launch.new.self in
+    does_with (EntersLaunch word launch.Limit entered) _ c.args.self.now entered (λ steps is. launches_at word outcome.Limit entered _ steps c.last_place-in-Limit.ensures is) c.in-Limit.ensures.did
+
+pub returns-in-NoMemory-clause-did : goal.returns-in-NoMemory-clause-did
+returns-in-NoMemory-clause-did g c =
+    let entered = c.enter_launch.new.self in
+    does_with (EntersLaunch c.args.word.now launch.NoMemory entered) (LaunchedSo c.args.word.now answer.NoMemory) c.args.self.now entered (λ steps is. tt) c.in-NoMemory.ensures.did
 
 -- nothing was done
-pub returns-in_default-clause-goes_on : goal.returns-in_default-clause-goes_on
-returns-in_default-clause-goes_on g c =
-    let r = c.args.self.now in
-    record { records = same_fronts (fronts_of r) (fronts_of r) refl; roster_on = ([], sym (append-nil (plain_of r.roster_seat))) }
+pub returns-in_default-clause-did : goal.returns-in_default-clause-did
+returns-in_default-clause-did g c = does_same (LaunchedSo c.args.word.now answer.NoMemory) c.args.self.now _ tt refl refl refl

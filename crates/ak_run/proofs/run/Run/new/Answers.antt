@@ -7,10 +7,12 @@ use Rattle.ak_turn.specs.Entries.{places}
 use Rattle.ak_turn.specs.Seats.{first_seat}
 use Rattle.ak_port.specs.declared.reply_entry.ReplyEntry.{ReplyEntry}
 use Rattle.ak_port.specs.ReplySeats as books
+use Rattle.ak_port.specs.ReplySeats.{ReplySeat}
 use Rattle.ak_describe.specs.Whole.{heads_of}
 use Rattle.ak_looper.specs.Rosters as rosters
+use Rattle.ak_looper.specs.Rosters.{RosterSeat}
 use Rattle.ak_run.specs.Launching.{Book}
-use Rattle.ak_run.proofs.NewRun.{begins}
+use Rattle.ak_run.proofs.NewRun.{begins, done_nothing}
 use Rattle.ak_run.proofs.run.Run.new.Goals as goal
 
 -- where there are none, so many fit
@@ -37,3 +39,11 @@ returns-clause-running g =
       for_ports = g.in_ok-with_capacity-5.ensures.capacity;
       for_desks = g.in_ok-with_capacity-6.ensures.capacity;
     })
+
+pub returns-clause-nothing : goal.returns-clause-nothing
+returns-clause-nothing g =
+    let at_roster = arc_value g.in_ok-roster-2.roster in
+    let at_book = arc_value g.in_ok-book.book in
+    done_nothing _
+    (ap (λ (s : RosterSeat). s.front) (g.in_ok-roster-2.ensures ∙ ap (λ (b : Book). first_seat at_roster b.heads b.entries (places rosters.by_number main_thread b.entries) main_thread) g.in_ok-roster.ensures))
+    (ap (λ (s : ReplySeat). s.front) (g.in_ok-book.ensures ∙ ap (λ (b : List ReplyEntry). first_seat at_book tt b (places books.maker_of main_thread b) main_thread) g.in_ok-new.ensures)) g.in_ok-with_capacity.ensures.items

@@ -2,10 +2,10 @@
 use Rattle.std.proofs.Common.{refl, sym, ◌∙◌}
 use Rattle.std.proofs.lemmas.List.{length-set}
 use Rattle.ak_messenger.specs.Sends.{post_event}
-use Rattle.ak_run.proofs.Acting.{adds_by, may_post}
-use Rattle.ak_run.proofs.Calls.{main_has, one_goes, port_after, port_alone, port_before}
-use Rattle.ak_run.proofs.GoingOn.{main_goes, still_running}
-use Rattle.ak_run.proofs.Standing.{same_book}
+use Rattle.ak_run.specs.Doing.{EnteredSo}
+use Rattle.ak_run.proofs.Acting.{may_post}
+use Rattle.ak_run.proofs.Calls.{main_has, one_does, port_after, port_before, post_acts, post_goes}
+use Rattle.ak_run.proofs.GoingOn.{still_running}
 use Rattle.ak_run.proofs.run.Run.post_at_once.Goals as goal
 
 pub post_in_turn-requires-clause-thread : goal.post_in_turn-requires-clause-thread
@@ -13,6 +13,15 @@ post_in_turn-requires-clause-thread g c =
     let r = c.args.self.now in
     let running = c.requires.running in
     main_has _ running.heads r c.args.looper c.index_mut.result.now c.requires.there (sym c.index_mut.ensures.value) running.stands ∙ sym r.main
+
+pub returns-clause-did : goal.returns-clause-did
+returns-clause-did g c =
+    let r = c.args.self.now in
+    let m = c.index_mut.result.now in
+    let e = post_event c.args.envelope c.args.message.now c.post_in_turn.result in
+    one_does r _ c.args.looper m _ c.requires.there (sym c.index_mut.ensures.value) refl refl (λ steps. EnteredSo c.args.looper _ steps e) c.post_in_turn.ensures.door.desk_on
+    (post_acts r _ c.args.looper m _ c.requires.there (sym c.index_mut.ensures.value) refl refl e _ _ (main_has _ c.requires.running.heads r c.args.looper m c.requires.there (sym c.index_mut.ensures.value) c.requires.running.stands)
+    (may_post c.args.envelope c.args.message.now c.post_in_turn.result) c.post_in_turn.ensures.answered c.post_in_turn.ensures.book_seat)
 
 pub returns-clause-answered : goal.returns-clause-answered
 returns-clause-answered g c =
@@ -30,17 +39,9 @@ pub returns-clause-running : goal.returns-clause-running
 returns-clause-running g c =
     let r = c.args.self.now in
     let m = c.index_mut.result.now in
-    still_running r _ (one_goes r _ c.args.looper m _ c.requires.there (sym c.index_mut.ensures.value) c.post_in_turn.ensures.door refl refl (record { apps = refl; shared = refl; joined = refl; ports = refl; desks = refl }) refl (same_book r _ c.post_in_turn.ensures.book_seat)
-    (port_alone c.args.looper r.hands.book_seat _ _ _ c.post_in_turn.ensures.book_seat (adds_by (post_event c.args.envelope c.args.message.now c.post_in_turn.result) _ _ _ _ (main_has _ c.requires.running.heads r c.args.looper m c.requires.there (sym c.index_mut.ensures.value) c.requires.running.stands)
-    (may_post c.args.envelope c.args.message.now c.post_in_turn.result) c.post_in_turn.ensures.answered))) c.requires.running
+    let e = post_event c.args.envelope c.args.message.now c.post_in_turn.result in
+    still_running r _ (post_goes r _ c.args.looper m _ c.requires.there (sym c.index_mut.ensures.value) refl refl e _ _ (main_has _ c.requires.running.heads r c.args.looper m c.requires.there (sym c.index_mut.ensures.value) c.requires.running.stands)
+    (may_post c.args.envelope c.args.message.now c.post_in_turn.result) c.post_in_turn.ensures.answered c.post_in_turn.ensures.book_seat c.post_in_turn.ensures.door refl (record { apps = refl; shared = refl; joined = refl; ports = refl; desks = refl })) c.requires.running
 
 pub returns-clause-count : goal.returns-clause-count
 returns-clause-count g c = length-set c.args.self.now.members.items c.args.looper _
-
-pub returns-clause-goes_on : goal.returns-clause-goes_on
-returns-clause-goes_on g c =
-    let r = c.args.self.now in
-    let m = c.index_mut.result.now in
-    main_goes r _ (one_goes r _ c.args.looper m _ c.requires.there (sym c.index_mut.ensures.value) c.post_in_turn.ensures.door refl refl (record { apps = refl; shared = refl; joined = refl; ports = refl; desks = refl }) refl (same_book r _ c.post_in_turn.ensures.book_seat)
-    (port_alone c.args.looper r.hands.book_seat _ _ _ c.post_in_turn.ensures.book_seat (adds_by (post_event c.args.envelope c.args.message.now c.post_in_turn.result) _ _ _ _ (main_has _ c.requires.running.heads r c.args.looper m c.requires.there (sym c.index_mut.ensures.value) c.requires.running.stands)
-    (may_post c.args.envelope c.args.message.now c.post_in_turn.result) c.post_in_turn.ensures.answered)))

@@ -4,10 +4,11 @@ use Rattle.ak_base.specs.Thread.{looper_thread}
 use Rattle.ak_turn.specs.Seats.{new_seat}
 use Rattle.ak_turn.specs.Steps.{IsNewName}
 use Rattle.ak_looper.specs.declared.door.Door.{Door}
+use Rattle.ak_run.specs.declared.run.Run.{Run}
 use Rattle.ak_run.specs.Members.{StillLeads}
 use Rattle.ak_run.specs.Running.{IsStanding}
 use Rattle.ak_run.specs.Starting.{HasSplit}
-use Rattle.ak_run.proofs.Recorded.{start_acts}
+use Rattle.ak_run.proofs.Recorded.{start_acts, start_quiet}
 use Rattle.ak_run.proofs.Splits.{book_new, can_start, goes_with, room_there, roster_new, stands_split}
 use Rattle.ak_run.proofs.run.Run.start_one.Goals as goal
 
@@ -63,4 +64,12 @@ returns g c =
           _ c.push_reserved.ensures.items c.push_reserved.ensures.capacity c.life_of-life.new.door c.into_job-door.result.1 seats.result.0 seats.result.1 book roster c.into_job-door.ensures.job c.into_job-door.ensures.ready leads refl refl c.of-snapshot.ensures c.life_of-life.ensures.life;
       recorded = start_acts r now c.life_of-life.new.self _ c.life_of-life.new.door c.args.new.door.port_seat.front _ split.members (ap (λ s. s.front) split.roster_seat) (ap (λ s. s.front) split.book_seat) c.life_of-life.ensures.run.recorded
           (leads.adds s.3.new.by_main) refl c.push_reserved.ensures.items refl refl;
+      only = c.life_of-life.ensures.only;
+      quiet = λ all.
+          let later : c.life_of-life.new.self ≡ now = c.life_of-life.ensures.quiet all in
+          start_quiet r c.life_of-life.new.self _ c.args.new.door.port_seat.front _ (ap (λ (u : Run). u.members) later ∙ split.members) (ap (λ (u : Run). u.roster_seat.front) later ∙ ap (λ s. s.front) split.roster_seat)
+          (ap (λ (u : Run). u.hands.book_seat.front) later ∙ ap (λ s. s.front) split.book_seat) (ap (λ (d : Door). d.port_seat.front) (c.life_of-life.ensures.door_kept all ∙ c.into_job-door.ensures.door)) c.push_reserved.ensures.items refl refl;
+      kept = c.life_of-life.ensures.kept;
+      cause = c.life_of-life.ensures.cause;
+      never_falls = c.life_of-life.ensures.never_falls;
     }

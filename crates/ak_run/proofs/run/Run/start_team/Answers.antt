@@ -1,5 +1,8 @@
 -- The own looper starts, and then the others, one after another.
-use Rattle.std.proofs.Common.{◌≡◌, ℕ, List, [], ◌∷◌, length, map, sym, ap, subst, arith}
+use Rattle.std.proofs.Common.{◌≡◌, ◌≤◌, ℕ, Bool, true, false, List, [], ◌∷◌, length, map, refl, sym, ap, ◌∙◌, subst, arith}
+use Rattle.std.specs.Prelude.{IsFalse, IsTrue}
+use Rattle.ak_outside.specs.Faults.{Rose}
+use Rattle.ak_outside.proofs.Surface.{Rose-after, Rose-before}
 use Rattle.std.proofs.lemmas.Grind.{common_steps}
 use Rattle.ak_looper.specs.declared.door.Door.{Door}
 use Rattle.ak_run.specs.declared.new_looper.NewLooper.{NewLooper}
@@ -8,6 +11,11 @@ use Rattle.ak_run.specs.Starting.{IsStarting, MayStart}
 use Rattle.ak_run.proofs.Acts.{records_then}
 use Rattle.ak_run.proofs.TeamStarts.{all_started, next_may_start, next_started, others_follow, own_may_start}
 use Rattle.ak_run.proofs.run.Run.start_team.Goals as goal
+
+-- where some looper was not started, the count of faults rose
+rose_so_far : (a b c : ℕ) (all : Bool) → (IsTrue all → b ≡ a) → (IsFalse all → Rose a b) → a ≤ b → (IsTrue all → Rose b c) → b ≤ c → Rose a c
+rose_so_far a b c true kept rose first later second = Rose-after a b c first second (later refl)
+rose_so_far a b c false kept rose first later second = Rose-before a b c (rose refl) second
 
 pub start_one-all-requires-clause-start : goal.start_one-all-requires-clause-start
 start_one-all-requires-clause-start g c κs within =
@@ -22,6 +30,10 @@ loop-other-init g c =
     record {
       starting = subst (IsStarting c.args.team c.args.self.now now) (sym same) (others_follow s.0 s.1 s.2 c.args.team c.args.new c.args.self.now now s.3 c.start_one-all.ensures.started);
       recorded = subst (λ (ns : List NewLooper). Records (fronts_with c.args.self.now (team_fronts c.args.new)) (fronts_with now (map new_front ns))) (sym same) (c.start_one-all.ensures.recorded.beside (map new_front c.args.new.others.items));
+      quiet = λ all. subst (λ (ns : List NewLooper). fronts_with now (map new_front ns) ≡ fronts_with c.args.self.now (team_fronts c.args.new)) (sym same) ((c.start_one-all.ensures.quiet all).same (map new_front c.args.new.others.items));
+      kept = c.start_one-all.ensures.kept;
+      cause = c.start_one-all.ensures.cause refl;
+      never_falls = c.start_one-all.ensures.never_falls;
       gates = omega (arith, ap (λ (l : List NewLooper). length l) same, c.next_gate-gate.ensures, c.requires.gates, s.3.loopers, s.3.all);
     }
 
@@ -45,7 +57,20 @@ loop-other-preserved g c =
     let now = c.start_one-all-in-loop-other.new.self in
     let begun = fronts_with c.args.self.now (team_fronts c.args.new) in
     let so_far = subst (λ (ns : List NewLooper). Records begun (fronts_with was.self (map new_front ns))) next was.invariant.recorded in
-    record { starting = next_started c.args.team c.args.self.now was.self now x rest is c.start_one-all-in-loop-other.ensures.started; recorded = records_then begun (fronts_with was.self (new_front x ∷ map new_front rest)) (fronts_with now (map new_front rest)) so_far (c.start_one-all-in-loop-other.ensures.recorded.beside (map new_front rest)); gates = omega (arith, c.next_gate-gate-in-loop-other.ensures, was.invariant.gates, ap (λ (l : List NewLooper). length l) next) }
+    let one = c.start_one-all-in-loop-other.ensures in
+    let before = g.W.Spawner.faults c.args.spawner.now in
+    let between = g.W.Spawner.faults was.spawner in
+    let after = g.W.Spawner.faults c.start_one-all-in-loop-other.new.spawner in
+    let quiet_so_far = λ (all : IsTrue was.all). subst (λ (ns : List NewLooper). fronts_with was.self (map new_front ns) ≡ begun) next (was.invariant.quiet all) in
+    record {
+      starting = next_started c.args.team c.args.self.now was.self now x rest is one.started;
+      recorded = records_then begun (fronts_with was.self (new_front x ∷ map new_front rest)) (fronts_with now (map new_front rest)) so_far (one.recorded.beside (map new_front rest));
+      quiet = λ all. (one.quiet all).same (map new_front rest) ∙ quiet_so_far (one.only all);
+      kept = λ all. one.kept all ∙ was.invariant.kept (one.only all);
+      cause = λ none. rose_so_far before between after was.all was.invariant.kept was.invariant.cause was.invariant.never_falls (λ all. one.cause all none) one.never_falls;
+      never_falls = omega (arith, was.invariant.never_falls, one.never_falls);
+      gates = omega (arith, c.next_gate-gate-in-loop-other.ensures, was.invariant.gates, ap (λ (l : List NewLooper). length l) next);
+    }
 
 pub returns : goal.returns
 returns g c =
@@ -54,4 +79,8 @@ returns g c =
     record {
       started = all_started c.args.team c.args.self.now was.self (subst (IsStarting c.args.team c.args.self.now was.self) none was.invariant.starting);
       recorded = subst (λ (ns : List NewLooper). Records (fronts_with c.args.self.now (team_fronts c.args.new)) (fronts_with was.self (map new_front ns))) none was.invariant.recorded;
+      quiet = λ all. subst (λ (ns : List NewLooper). fronts_with was.self (map new_front ns) ≡ fronts_with c.args.self.now (team_fronts c.args.new)) none (was.invariant.quiet all);
+      kept = was.invariant.kept;
+      cause = was.invariant.cause;
+      never_falls = was.invariant.never_falls;
     }

@@ -1,5 +1,7 @@
 -- So many were started, and these are to follow, each with a gate; and main's acts so far.
-use Rattle.std.proofs.Common.{◌≤◌, length, map}
+use Rattle.std.proofs.Common.{◌≡◌, ◌≤◌, length, map}
+use Rattle.std.specs.Prelude.{IsFalse, IsTrue}
+use Rattle.ak_outside.specs.Faults.{Rose}
 use Rattle.ak_run.specs.Recording.{Records, fronts_with, new_front, team_fronts}
 use Rattle.ak_run.specs.Starting.{IsStarting}
 use Rattle.ak_run.proofs.run.Run.start_team.Given as goal
@@ -8,5 +10,9 @@ abbrev pub invariant-loop-other : goal.invariant-loop-other
 invariant-loop-other g l = record {
   starting : IsStarting l.team l.fn.self l.self l.other-iterator.rest.items;
   recorded : Records (fronts_with l.fn.self (team_fronts l.fn.new)) (fronts_with l.self (map new_front l.other-iterator.rest.items));
+  quiet : IsTrue l.all → fronts_with l.self (map new_front l.other-iterator.rest.items) ≡ fronts_with l.fn.self (team_fronts l.fn.new);
+  kept : IsTrue l.all → g.W.Spawner.faults l.spawner ≡ g.W.Spawner.faults l.fn.spawner;
+  cause : IsFalse l.all → Rose (g.W.Spawner.faults l.fn.spawner) (g.W.Spawner.faults l.spawner);
+  never_falls : g.W.Spawner.faults l.fn.spawner ≤ g.W.Spawner.faults l.spawner;
   gates : length l.other-iterator.rest.items ≤ length l.gates.items;
 }

@@ -1,0 +1,148 @@
+-- What main does by one call, step by step, and what the call answers.
+use Rattle.std.specs.Prelude.{◌≡◌, ◌≤◌, ◌+◌, ℕ, List, [], ◌∷◌, ◌++◌, length, All, Option, None, Some, option_map, slice_get, unwrap_or, Result, Ok, Err}
+use Rattle.ak_base.specs.declared.app_word.AppWord.{AppWord}
+use Rattle.ak_message.specs.declared.address.Address.{Address}
+use Rattle.ak_message.specs.Message.{MessageData}
+use Rattle.ak_flatten.specs.Item.{ItemData}
+use Rattle.ak_turn.specs.Entries.{StartsWith}
+use Rattle.ak_turn.specs.Noted.{Noted, StandsIn}
+use Rattle.ak_roster.specs.declared.entry.LaunchOutcome.{LaunchOutcome}
+use Rattle.ak_roster.specs.declared.entry.LaunchOutcome.TheVariants as outcome
+use Rattle.ak_roster.specs.declared.entry.RosterEntry.{RosterEntry}
+use Rattle.ak_roster.specs.declared.entry.RosterEvent.TheVariants as roster_event
+use Rattle.ak_roster.specs.declared.head.AppHead.{AppHead}
+use Rattle.ak_roster.specs.declared.team.Running.{Running}
+use Rattle.ak_roster.specs.Heads.{team_for}
+use Rattle.ak_roster.specs.Machine.{outcome_found, state_of}
+use Rattle.ak_port.specs.declared.port_entry.PortEvent.{PortEvent}
+use Rattle.ak_port.specs.declared.port_entry.PortEvent.TheVariants as event
+use Rattle.ak_messenger.specs.declared.asking.Reply.{Reply}
+use Rattle.ak_messenger.specs.declared.envelope.Envelope.{Envelope}
+use Rattle.ak_messenger.specs.declared.fault.SendFault.{SendFault}
+use Rattle.ak_messenger.specs.declared.fault.SendFault.TheVariants as fault
+use Rattle.ak_messenger.specs.Sends.{post_event}
+use Rattle.ak_desk.specs.declared.entry.Edit.{Edit}
+use Rattle.ak_desk.specs.declared.entry.EditAnswer.{EditAnswer}
+use Rattle.ak_desk.specs.declared.entry.DeskEvent.TheVariants as desk_event
+use Rattle.ak_desk.specs.Entry.{EntryData}
+use Rattle.ak_diary.specs.Step.{Step, at_desk, at_roster, book_entries, desk_entries, roster_entries}
+use Rattle.ak_diary.specs.Wants.{Converses, EntersPort, Withdraws}
+use Rattle.ak_looper.specs.Rosters.{plain_of}
+use Rattle.ak_run.specs.declared.run.Run.{Run}
+use Rattle.ak_run.specs.Recording.{GoesBy, IsRecorded, fronts_of, list_at, member_desk_front}
+use Rattle.ak_run.specs.declared.answers.Found.{Found}
+use Rattle.ak_run.specs.declared.answers.Found.TheVariants as found
+use Rattle.ak_run.specs.declared.answers.Edited.{Edited}
+use Rattle.ak_run.specs.declared.answers.Edited.TheVariants as edited
+use Rattle.ak_run.specs.declared.answers.LaunchAnswer.{LaunchAnswer}
+use Rattle.ak_run.specs.declared.answers.LaunchAnswer.TheVariants as answer
+
+-- ---- what main did
+-- what main's seat at that looper's desk has seen; nothing where there is no such looper
+abbrev pub desk_front : Run → ℕ → List EntryData
+desk_front r looper = unwrap_or (option_map member_desk_front (slice_get r.members.items looper)) []
+
+-- By these steps its own entries went on at the roster, at the reply book and at each port. The lists of the roster and of each desk go on from
+-- what main had seen, and the edits of these steps stand at the desks
+pub record Does (steps : List Step) (r r' : Run) : Type 0 where
+  pub goes : GoesBy steps (fronts_of r) (fronts_of r')
+  pub roster_on : StartsWith (plain_of r'.roster_seat) (plain_of r.roster_seat)
+  pub desks_on : (looper : ℕ) → StartsWith (desk_front r' looper) (desk_front r looper)
+  pub edits : (looper : ℕ) → All (StandsIn (desk_front r' looper)) (desk_entries looper steps)
+
+-- the steps so far: its diary, which has all that it made at the roster, at the reply book and at each port, and edits that stand at the desks
+pub record HasDoneSoFar (steps : List Step) (r : Run) : Type 0 where
+  pub recorded : IsRecorded steps (fronts_of r)
+  pub edits : (looper : ℕ) → All (StandsIn (desk_front r looper)) (desk_entries looper steps)
+
+-- by some steps, of which that holds
+pub record DoesSo (P : List Step → Type 0) (r r' : Run) : Type 0 where
+  pub steps : List Step
+  pub so : P steps
+  pub does : Does steps r r'
+
+-- ---- look-ups
+-- one entry, at that place, with what was found: what the roster tells there
+pub record FindsAt (heads : List AppHead) (word : AppWord) (running : Option Running) (place : ℕ) (steps : List Step) : Type 0 where
+  pub noted : Noted RosterEntry
+  pub event_is : noted.entry.event ≡ roster_event.Find word (outcome_found running)
+  pub running_is : running ≡ team_for heads (state_of heads noted.before).running word
+  pub place_is : place ≡ length noted.before
+  pub is : steps ≡ at_roster noted ∷ []
+
+abbrev pub FoundSo : List AppHead → AppWord → Found → List Step → Type 0
+FoundSo heads word (found.Team team first loopers place) steps =
+    (description : ℕ) × FindsAt heads word (Some (record { team = team; description = description; first = first; loopers = loopers })) place steps
+FoundSo heads word (found.NoTeam place) steps = FindsAt heads word None place steps
+FoundSo heads word found.NoMemory steps = steps ≡ []
+
+-- it has a looper, and its loopers were started
+abbrev pub IsStartedTeam : ℕ → Found → Type 0
+IsStartedTeam loopers_started (found.Team team first loopers place) = (1 ≤ loopers) × (first + loopers ≤ loopers_started)
+IsStartedTeam loopers_started (found.NoTeam place) = Unit {0}
+IsStartedTeam loopers_started found.NoMemory = Unit {0}
+
+-- ---- launches
+-- one entry at the roster, at that place, of that launch; nothing at the reply book
+pub record LaunchesAt (word : AppWord) (came : LaunchOutcome) (place : ℕ) (steps : List Step) : Type 0 where
+  pub noted : Noted RosterEntry
+  pub event_is : noted.entry.event ≡ roster_event.Launch word came
+  pub place_is : place ≡ length noted.before
+  pub roster_is : roster_entries steps ≡ noted ∷ []
+  pub book_is : book_entries steps ≡ []
+
+abbrev pub LaunchedSo : AppWord → LaunchAnswer → List Step → Type 0
+LaunchedSo word (answer.Started team place) steps = (description : ℕ) × (first : ℕ) × LaunchesAt word (outcome.Started description team first) place steps
+LaunchedSo word (answer.Running team place) steps = LaunchesAt word (outcome.AlreadyRunning team) place steps
+LaunchedSo word (answer.NotFound place) steps = LaunchesAt word outcome.NotFound place steps
+LaunchedSo word (answer.Limit place) steps = LaunchesAt word outcome.Limit place steps
+LaunchedSo word answer.ThreadFault steps = Unit {0}
+LaunchedSo word answer.NoMemory steps = Unit {0}
+
+-- ---- sends
+-- one entry at that port with that event, the last that main has seen there
+pub record EntersLast (looper : ℕ) (e : PortEvent) (r' : Run) (steps : List Step) : Type 0 where
+  pub enters : EntersPort looper e steps
+  pub last : list_at (fronts_of r').ports looper ≡ enters.noted.before ++ enters.noted.entry ∷ []
+
+abbrev pub EnteredSo : ℕ → Run → List Step → Option PortEvent → Type 0
+EnteredSo looper r' steps None = steps ≡ []
+EnteredSo looper r' steps (Some e) = EntersLast looper e r' steps
+
+-- a post: its one entry, by its answer
+abbrev pub PostedSo : ℕ → Envelope → MessageData → Result ℕ SendFault → Run → List Step → Type 0
+PostedSo looper envelope message sent r' steps = EnteredSo looper r' steps (post_event envelope message sent)
+
+abbrev pub address_of : ℕ → ItemData → Address
+address_of looper item = record { looper = looper; target = item.target }
+
+-- it was answered: the slot, the item and the reply's text
+pub record Answered (looper : ℕ) (item : ItemData) (reply : Reply) (steps : List Step) : Type 0 where
+  pub converses : Converses (address_of looper item) item reply.flat steps
+  pub slot_is : converses.slot ≡ reply.slot
+
+-- it was refused, by the last entry that main has seen at that port
+pub record RefusedBy (looper : ℕ) (item : ItemData) (e : PortEvent) (r' : Run) (steps : List Step) : Type 0 where
+  pub withdraws : Withdraws (address_of looper item) (Some e) steps
+  pub refused : EntersLast looper e r' withdraws.refused
+
+-- an ask, by its answer
+abbrev pub AskedSo : ℕ → ItemData → Result Reply SendFault → Run → List Step → Type 0
+AskedSo looper item (Ok reply) r' steps = Answered looper item reply steps
+AskedSo looper item (Err fault.BadPort) r' steps = RefusedBy looper item event.Refused r' steps
+AskedSo looper item (Err fault.Spent) r' steps = RefusedBy looper item event.Spent r' steps
+AskedSo looper item (Err fault.TooLong) r' steps = steps ≡ []
+AskedSo looper item (Err fault.NoMemory) r' steps = Unit {0}
+AskedSo looper item (Err fault.WouldBlock) r' steps = ⊥
+
+-- ---- edits
+-- one entry at that desk, at that place
+pub record EditsAt (looper : ℕ) (edit : Edit) (came : EditAnswer) (place : ℕ) (steps : List Step) : Type 0 where
+  pub noted : Noted EntryData
+  pub event_is : noted.entry.plain.event ≡ desk_event.Edited edit came
+  pub place_is : place ≡ length noted.before
+  pub is : steps ≡ at_desk looper noted ∷ []
+
+abbrev pub EditedSo : ℕ → Edit → Edited → List Step → Type 0
+EditedSo looper edit (edited.Entered came place) steps = EditsAt looper edit came place steps
+EditedSo looper edit edited.NoMemory steps = steps ≡ []
