@@ -1,0 +1,8 @@
+use Rattle.ak_describe.specs.Whole.{heads_of}
+use Rattle.ak_play.proofs.Finding.{hey_came}
+use Rattle.ak_play.proofs.asking.hey.Goals as goal
+
+pub returns-in-Team-clause-did : goal.returns-in-Team-clause-did
+returns-in-Team-clause-did g c =
+    let team = c.in-Team in
+    hey_came (heads_of c.args.run.now.apps.items) c.args.hey.now team.team team.first team.loopers team.place team.ensures.started.0 c.ask_looper.result c.args.run.now c.find.new.self c.ask_looper.new.run team.ensures.did c.ask_looper.ensures.did

@@ -1,0 +1,26 @@
+use Rattle.std.proofs.Common.{List, ap, sym, ◌∙◌, subst}
+use Rattle.std.specs.Prelude.{Vec}
+use Rattle.std.specs.declared.alloc.Global.{Global}
+use Rattle.ak_describe.specs.declared.described.AppText.{AppText}
+use Rattle.ak_describe.specs.Whole.{AreWholeApps, heads_of}
+use Rattle.ak_play.proofs.Ends.{is_play_as}
+use Rattle.ak_play.proofs.Whole.{each_whole, heads_whole}
+use Rattle.ak_play.proofs.play.run_script.Goals as goal
+
+pub new-requires : goal.new-requires
+new-requires g c = record { whole = each_whole c.args.script.apps.items c.args.script.whole; heads = heads_whole c.args.script.apps.items c.args.script.whole }
+
+pub finish-end-requires-clause-whole : goal.finish-end-requires-clause-whole
+finish-end-requires-clause-whole g c =
+    let same = ap (λ (apps : Vec AppText Global). apps.items) c.play_all-played.ensures.apps ∙ c.in-Ok-new.ensures.apps in
+    subst (λ (apps : List AppText). ∥ AreWholeApps apps ∥₁) (sym same) c.args.script.whole
+
+pub returns-clause-play : goal.returns-clause-play
+returns-clause-play g c =
+    let played = c.play_all-played in
+    let end = c.finish-end in
+    let given = ap heads_of c.in-Ok-new.ensures.apps in
+    let later = ap heads_of (ap (λ (apps : Vec AppText Global). apps.items) played.ensures.apps) ∙ given in
+    is_play_as (heads_of c.args.script.apps.items) c.args.script.statements.items played.result played.new.run end.result.0 (g.K.Sink.written c.args.sink.now) (g.K.Sink.written played.new.sink)
+    (heads_of c.in-Ok-new.run'.apps.items) (heads_of played.new.run.apps.items) c.as_slice.result.now played.new.outcomes.items end.result.1 given later c.as_slice.ensures.value end.ensures.outcomes end.ensures.ending
+    played.ensures.played played.ensures.whole end.ensures.short end.ensures.run end.ensures.answered end.ensures.did

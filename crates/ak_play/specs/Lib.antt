@@ -1,0 +1,4 @@
+pub mod Blocks
+pub mod Came
+pub mod Play
+pub mod Steps

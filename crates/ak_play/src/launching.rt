@@ -1,0 +1,56 @@
+//! Launches.
+ghost use Rattle.std.specs.Prelude.{◌≡◌, ◌≤◌, IsErrOf};
+ghost use Rattle.ak_outside.specs.Faults.{Rose};
+ghost use Rattle.ak_describe.specs.Whole.{heads_of};
+ghost use Rattle.ak_run.specs.Running.{IsRunning};
+ghost use Rattle.ak_run.specs.Doing.{DoesSo};
+ghost use Rattle.ak_play.specs.Blocks.{IsLaunchBlock};
+ghost use Rattle.ak_play.specs.Came.{MayCome};
+
+use crate::came::Came;
+use crate::outcome::Outcome;
+use crate::stop::Stop;
+use ak_outside::{Gate, Spawner};
+use ak_print::Told;
+use ak_run::{LaunchAnswer, Run};
+use ak_script::Launch;
+use std::sync::Wait;
+use std::thread::Threads;
+
+// A launch that the entry at that place tells.
+fn launched(place: u64, told: Told) -> Came
+    ensures outcome { result.outcome ≡ Outcome.Launched place }
+    ensures told { result.told ≡ told }
+{
+    Came {
+        outcome: Outcome::Launched { place },
+        told,
+    }
+}
+
+/// Launches the application, and starts a thread for each of its loopers. `ThreadFault` where one could not be started.
+pub(crate) fn launch<W: Spawner, G: Gate + 'static, R: Threads + Wait + Copy + Send + 'static>(
+    run: &mut Run,
+    rt: &R,
+    spawner: &mut W,
+    gate: &G,
+    launch: &Launch,
+) -> Result<Came, Stop>
+    requires running { IsRunning run.old }
+    ensures did { DoesSo (MayCome (IsLaunchBlock (heads_of run.old.apps.items) launch.now) result) run.old run.new }
+    ensures not_written { IsErrOf result Stop.WriteFault → ⊥ }
+    ensures cause { IsErrOf result Stop.ThreadFault → Rose (W.faults spawner.old) (W.faults spawner.new) }
+    ensures kept { ¬ (IsErrOf result Stop.ThreadFault) → W.faults spawner.new ≡ W.faults spawner.old }
+    ensures never_falls { W.faults spawner.old ≤ W.faults spawner.new }
+    ensures running { IsRunning run.new }
+    ensures apps { run.new.apps ≡ run.old.apps }
+{
+    match run.launch(rt, spawner, gate, &launch.word, launch.arguments.as_ref()) {
+        LaunchAnswer::Started { team, place } => Ok(launched(place, Told::Started(team))),
+        LaunchAnswer::Running { team, place } => Ok(launched(place, Told::Running(team))),
+        LaunchAnswer::NotFound { place } => Ok(launched(place, Told::NotFound)),
+        LaunchAnswer::Limit { place } => Ok(launched(place, Told::Limit)),
+        LaunchAnswer::ThreadFault => Err(Stop::ThreadFault),
+        LaunchAnswer::NoMemory => Err(Stop::NoMemory),
+    }
+}

@@ -1,0 +1,24 @@
+use crate::outcome::Outcome;
+use ak_base::Items;
+use ak_diary::Histories;
+use ak_script::Script;
+
+/// Who found no memory in a run.
+#[derive(Debug, Drop)]
+pub struct Short {
+    /// Whether main did.
+    pub main: bool,
+    /// The numbers of the loopers that did.
+    pub loopers: Items<u32>,
+}
+
+/// A script that was carried out.
+#[derive(Drop)]
+pub struct RunEnd {
+    pub script: Script,
+    /// Of the statements that were carried out, in order.
+    pub outcomes: Items<Outcome>,
+    /// The history of each object.
+    pub histories: Histories,
+    pub short: Short,
+}

@@ -1,0 +1,31 @@
+//! The line of an outcome.
+ghost use Rattle.std.specs.Prelude.{◌≡◌, ◌≤◌, IfOk, IsErrOf};
+ghost use Rattle.ak_outside.specs.Faults.{Rose};
+ghost use Rattle.ak_print.specs.Told.{told_line};
+ghost use Rattle.ak_play.specs.Steps.{HasWritten};
+
+use crate::stop::Stop;
+use ak_base::{Bytes, NoMemory};
+use ak_outside::{Sink, write_all};
+use ak_print::{Told, print_outcome};
+use std::alloc::Global;
+
+fn line_of(alloc: Global, told: &Told) -> Result<Bytes, NoMemory>
+    ensures { IfOk result (λ line. line ≡ told_line told.now) }
+{
+    let mut line = Bytes::new(alloc);
+    print_outcome(alloc, told, &mut line)?;
+    Ok(line)
+}
+
+/// Writes the line. `NoMemory` where there was no memory for it: nothing was written then.
+pub(crate) fn tell<K: Sink>(alloc: Global, told: &Told, sink: &mut K) -> Result<(), Stop>
+    ensures written { HasWritten result (told_line told.now) (K.written sink.old) (K.written sink.new) }
+    ensures cause { IsErrOf result Stop.WriteFault → Rose (K.faults sink.old) (K.faults sink.new) }
+    ensures kept { ¬ (IsErrOf result Stop.WriteFault) → K.faults sink.new ≡ K.faults sink.old }
+    ensures never_falls { K.faults sink.old ≤ K.faults sink.new }
+{
+    let line = line_of(alloc, told)?;
+    write_all(sink, line.as_slice())?;
+    Ok(())
+}
