@@ -1,5 +1,6 @@
 //! The same flat text in plain Rust, with nothing proved: what `bench/flat` holds the proved codec against.
-//! `flat NAME N` prints the line of `kit_bench`, and `length NAME` how many bytes the flat text has.
+//! `flat NAME N` prints the line of `kit_bench`, and `length NAME` how many bytes the flat text has. `run.rs` takes its
+//! messages from here.
 
 use std::hint::black_box;
 use std::process::ExitCode;
@@ -13,7 +14,7 @@ const DEPTH_LIMIT: u32 = 16;
 const ROUND_LIMIT: u32 = 10_000_000;
 
 #[derive(Clone, Copy, Debug, PartialEq, Eq)]
-enum Kind {
+pub enum Kind {
     Bool,
     Int8,
     Int16,
@@ -30,7 +31,7 @@ enum Kind {
 }
 
 impl Kind {
-    fn letters(self) -> [u8; 4] {
+    pub fn letters(self) -> [u8; 4] {
         *match self {
             Kind::Bool => b"BOOL",
             Kind::Int8 => b"BYTE",
@@ -82,19 +83,19 @@ impl Kind {
 }
 
 #[derive(Debug)]
-enum Target {
+pub enum Target {
     Preferred,
     Token(u64),
 }
 
 #[derive(Debug)]
-struct Address {
-    looper: u32,
-    target: Target,
+pub struct Address {
+    pub looper: u32,
+    pub target: Target,
 }
 
 #[derive(Debug)]
-enum Value {
+pub enum Value {
     Bool(bool),
     Int8(i8),
     Int16(i16),
@@ -111,21 +112,21 @@ enum Value {
 }
 
 #[derive(Debug)]
-struct Field {
-    name: Vec<u8>,
-    kind: Kind,
-    values: Vec<Value>,
+pub struct Field {
+    pub name: Vec<u8>,
+    pub kind: Kind,
+    pub values: Vec<Value>,
 }
 
 #[derive(Debug)]
-struct Message {
-    what: u32,
-    fields: Vec<Field>,
+pub struct Message {
+    pub what: u32,
+    pub fields: Vec<Field>,
 }
 
 impl Message {
     /// A message with one field.
-    fn with(what: u32, name: &str, kind: Kind, values: Vec<Value>) -> Message {
+    pub fn with(what: u32, name: &str, kind: Kind, values: Vec<Value>) -> Message {
         let mut message = Message {
             what,
             fields: Vec::new(),
@@ -134,7 +135,7 @@ impl Message {
         message
     }
 
-    fn put(&mut self, name: &str, kind: Kind, values: Vec<Value>) {
+    pub fn put(&mut self, name: &str, kind: Kind, values: Vec<Value>) {
         self.fields.push(Field {
             name: name.as_bytes().to_vec(),
             kind,
@@ -146,7 +147,7 @@ impl Message {
 // Writing
 
 #[derive(Debug)]
-struct TooLong;
+pub struct TooLong;
 
 fn flat_len(message: &Message) -> usize {
     12 + message.fields.iter().map(field_len).sum::<usize>()
@@ -169,7 +170,7 @@ fn value_len(value: &Value) -> usize {
     }
 }
 
-fn flatten(message: &Message) -> Result<Vec<u8>, TooLong> {
+pub fn flatten(message: &Message) -> Result<Vec<u8>, TooLong> {
     let len = flat_len(message);
     if len > FLAT_LIMIT {
         return Err(TooLong);
@@ -230,7 +231,7 @@ fn put_address(out: &mut Vec<u8>, address: &Address) {
 // Reading
 
 #[derive(Clone, Copy, Debug, PartialEq, Eq)]
-enum FlatKind {
+pub enum FlatKind {
     TooLong,
     Truncated,
     Magic,
@@ -246,9 +247,9 @@ enum FlatKind {
 }
 
 #[derive(Clone, Copy, Debug, PartialEq, Eq)]
-struct FlatFault {
-    place: u32,
-    kind: FlatKind,
+pub struct FlatFault {
+    pub place: u32,
+    pub kind: FlatKind,
 }
 
 /// What is left of the input, or of the value that is read. `place` is that of its first byte in the input.
@@ -284,7 +285,7 @@ impl<'a> Reader<'a> {
     }
 }
 
-fn unflatten(bytes: &[u8]) -> Result<Message, FlatFault> {
+pub fn unflatten(bytes: &[u8]) -> Result<Message, FlatFault> {
     if bytes.len() > FLAT_LIMIT {
         return Reader::fault(FLAT_LIMIT, FlatKind::TooLong);
     }
@@ -342,7 +343,7 @@ fn read_field(reader: &mut Reader, earlier: &[Field], depth: u32) -> Result<Fiel
     })
 }
 
-fn is_word_byte(b: u8) -> bool {
+pub fn is_word_byte(b: u8) -> bool {
     b.is_ascii_alphanumeric() || matches!(b, b'_' | b'-' | b'.' | b':' | b'/')
 }
 

@@ -1,6 +1,7 @@
 //! The same port and reply slots in plain Rust, with nothing proved: what `bench/ports` holds the proved ones against.
 //! Each is a `Mutex` and `Condvar`s of std round a bounded queue or a list of slots, and each keeps the history of what
-//! was done to it, with a copy of the bytes. `port CAPACITY WRITERS N` and `ask N` print the lines of `kit_bench`.
+//! was done to it, with a copy of the bytes. `port CAPACITY WRITERS N` and `ask N` print the lines of `kit_bench`. `run.rs`
+//! takes its ports and its slots from here.
 
 use std::collections::VecDeque;
 use std::mem;
@@ -9,7 +10,7 @@ use std::sync::{Condvar, Mutex, MutexGuard};
 use std::thread;
 
 const CAPACITY_LIMIT: usize = 1000;
-const LIFE_LIMIT: usize = 8192;
+pub const LIFE_LIMIT: usize = 8192;
 const THREAD_LIMIT: usize = 8;
 const ROUND_LIMIT: usize = 10_000_000;
 
@@ -25,29 +26,29 @@ const QUESTION: &[u8] = b"AKM1PGET\0\0\0\x01MSGG\x0aspecifiers\x01\0\x21AKM1\0\0
 const REPLY: &[u8] = b"AKM1RPLY\0\0\0\x01LONG\x05error\x01\0\x04\0\0\0\0";
 
 #[derive(Clone, Copy)]
-enum Target {
+pub enum Target {
     Preferred,
 }
 
 #[derive(Clone, Copy)]
-enum Duty {
+pub enum Duty {
     None,
     Slot(usize),
 }
 
 #[derive(Clone)]
 #[allow(dead_code)]
-struct Item {
-    target: Target,
-    team: u32,
-    dropped: bool,
-    duty: Duty,
-    popped: u32,
-    flat: Vec<u8>,
+pub struct Item {
+    pub target: Target,
+    pub team: u32,
+    pub dropped: bool,
+    pub duty: Duty,
+    pub popped: u32,
+    pub flat: Vec<u8>,
 }
 
 impl Item {
-    fn new(flat: &[u8], duty: Duty) -> Item {
+    pub fn new(flat: &[u8], duty: Duty) -> Item {
         Item {
             target: Target::Preferred,
             team: 0,
@@ -60,23 +61,23 @@ impl Item {
 }
 
 #[allow(dead_code)]
-struct Taken {
-    position: u64,
-    item: Item,
+pub struct Taken {
+    pub position: u64,
+    pub item: Item,
 }
 
 /// The clock of a thread: each stamp is greater than its earlier ones and than the list's last one.
-struct Clock {
-    thread: u32,
-    time: u64,
+pub struct Clock {
+    pub thread: u32,
+    pub time: u64,
 }
 
 impl Clock {
-    fn new(thread: u32) -> Clock {
+    pub fn new(thread: u32) -> Clock {
         Clock { thread, time: 0 }
     }
 
-    fn entry<E>(&mut self, entries: &[Entry<E>], event: E) -> Entry<E> {
+    pub fn entry<E>(&mut self, entries: &[Entry<E>], event: E) -> Entry<E> {
         let last = entries.last().map_or(0, |entry| entry.stamp);
         self.time = 1 + self.time.max(last);
         Entry {
@@ -88,10 +89,10 @@ impl Clock {
 }
 
 #[allow(dead_code)]
-struct Entry<E> {
-    stamp: u64,
-    by: u32,
-    event: E,
+pub struct Entry<E> {
+    pub stamp: u64,
+    pub by: u32,
+    pub event: E,
 }
 
 #[allow(dead_code)]
@@ -112,7 +113,7 @@ struct PortBook {
     shut: bool,
 }
 
-struct Port {
+pub struct Port {
     capacity: usize,
     life: usize,
     book: Mutex<PortBook>,
@@ -120,21 +121,21 @@ struct Port {
     items: Condvar,
 }
 
-enum TakeAnswer {
+pub enum TakeAnswer {
     Took,
     Rest,
 }
 
-fn locked<T>(mutex: &Mutex<T>) -> MutexGuard<'_, T> {
+pub fn locked<T>(mutex: &Mutex<T>) -> MutexGuard<'_, T> {
     mutex.lock().expect("no thread has failed")
 }
 
-fn waited<'a, T>(condvar: &Condvar, guard: MutexGuard<'a, T>) -> MutexGuard<'a, T> {
+pub fn waited<'a, T>(condvar: &Condvar, guard: MutexGuard<'a, T>) -> MutexGuard<'a, T> {
     condvar.wait(guard).expect("no thread has failed")
 }
 
 impl Port {
-    fn new(capacity: usize, life: usize, clock: &mut Clock) -> Port {
+    pub fn new(capacity: usize, life: usize, clock: &mut Clock) -> Port {
         let made = clock.entry(&[], PortEvent::Made { capacity, life });
         Port {
             capacity,
@@ -151,7 +152,7 @@ impl Port {
     }
 
     /// The position where it was written. `None` where it is refused.
-    fn write(&self, clock: &mut Clock, item: Item) -> Option<u64> {
+    pub fn write(&self, clock: &mut Clock, item: Item) -> Option<u64> {
         let mut guard = locked(&self.book);
         while !guard.shut
             && guard.written < self.life as u64
@@ -186,7 +187,7 @@ impl Port {
     }
 
     /// The oldest items, no more than `most`, or all that is left where the port is shut.
-    fn take(&self, clock: &mut Clock, out: &mut VecDeque<Taken>, most: usize) -> TakeAnswer {
+    pub fn take(&self, clock: &mut Clock, out: &mut VecDeque<Taken>, most: usize) -> TakeAnswer {
         let mut guard = locked(&self.book);
         while !guard.shut && guard.pending.is_empty() {
             guard = waited(&self.items, guard);
@@ -212,7 +213,7 @@ impl Port {
         answer
     }
 
-    fn close(&self, clock: &mut Clock) {
+    pub fn close(&self, clock: &mut Clock) {
         let mut guard = locked(&self.book);
         let book = &mut *guard;
         if !book.shut {
@@ -249,13 +250,13 @@ struct ReplyBook {
     slots: Vec<Slot>,
 }
 
-struct Replies {
+pub struct Replies {
     book: Mutex<ReplyBook>,
     settled: Condvar,
 }
 
 impl Replies {
-    fn new() -> Replies {
+    pub fn new() -> Replies {
         Replies {
             book: Mutex::new(ReplyBook {
                 entries: Vec::new(),
@@ -265,7 +266,7 @@ impl Replies {
         }
     }
 
-    fn open(&self, clock: &mut Clock) -> usize {
+    pub fn open(&self, clock: &mut Clock) -> usize {
         let mut guard = locked(&self.book);
         let book = &mut *guard;
         let n = book.slots.len();
@@ -278,7 +279,7 @@ impl Replies {
     }
 
     /// False where the slot is filled or taken.
-    fn fill(&self, clock: &mut Clock, n: usize, flat: Vec<u8>) -> bool {
+    pub fn fill(&self, clock: &mut Clock, n: usize, flat: Vec<u8>) -> bool {
         let mut guard = locked(&self.book);
         let book = &mut *guard;
         let Some(slot) = book.slots.get_mut(n) else {
@@ -294,7 +295,7 @@ impl Replies {
         true
     }
 
-    fn wait_for(&self, clock: &mut Clock, n: usize) -> Vec<u8> {
+    pub fn wait_for(&self, clock: &mut Clock, n: usize) -> Vec<u8> {
         let mut guard = locked(&self.book);
         while !matches!(guard.slots[n].progress, Progress::Filled(_)) {
             guard = waited(&self.settled, guard);

@@ -21,21 +21,31 @@ IsWaiting (stage.Finding _ _) = Unit {0}
 IsWaiting (stage.Sent _) = Unit {0}
 IsWaiting _ = ⊥
 
+-- it was sent, and so
+abbrev pub IsSentAs : (Sending → Type 0) → Stage → Type 0
+IsSentAs IsSo (stage.Sent how) = IsSo how
+IsSentAs IsSo _ = ⊥
+
+pub sent_so : (IsSo : Sending → Type 0) (P : Stage → Type 0) → ((how : Sending) → IsSo how → P (stage.Sent how)) → (at : Stage) → IsSentAs IsSo at → P at
+sent_so IsSo P sent stage.Ready h = absurd h
+sent_so IsSo P sent (stage.Finding how m) h = absurd h
+sent_so IsSo P sent (stage.Found looper how m) h = absurd h
+sent_so IsSo P sent (stage.Sent how) h = sent how h
+sent_so IsSo P sent stage.Ended h = absurd h
+
 abbrev pub IsPosting : Sending → Type 0
 IsPosting (sending.Post _) = Unit {0}
 IsPosting (sending.Ask _) = ⊥
 
 abbrev pub IsPosted : Stage → Type 0
-IsPosted (stage.Sent how) = IsPosting how
-IsPosted _ = ⊥
+IsPosted at = IsSentAs IsPosting at
 
 abbrev pub IsAsking : Sending → Type 0
 IsAsking (sending.Post _) = ⊥
 IsAsking (sending.Ask _) = Unit {0}
 
 abbrev pub IsAsked : Stage → Type 0
-IsAsked (stage.Sent how) = IsAsking how
-IsAsked _ = ⊥
+IsAsked at = IsSentAs IsAsking at
 
 abbrev pub StandsBehind : Want → Stage → Type 0
 StandsBehind want.Done at = at ≡ stage.Ended

@@ -16,6 +16,7 @@ use Rattle.ak_message.specs.Message.{ValueData, FieldData, MessageData, kind_of,
 use Rattle.ak_message.specs.Fields.{is_named, field_named, added, new_field, with_value, add_fault, place_fault}
 use Rattle.ak_message.specs.Seen.{value_of}
 use Rattle.ak_action.specs.declared.row.DeskRow.{DeskRow}
+use Rattle.ak_action.specs.declared.template.Given.{Given}
 use Rattle.ak_action.specs.declared.template.TemplateField.{TemplateField}
 use Rattle.ak_action.specs.Building.{Fits, HasRoomFor, built_fields, field_of_values, given_values, held, with_held, with_new}
 use Rattle.ak_action.specs.Template.{AreTemplateFields}
@@ -152,42 +153,55 @@ named-other other name (v ∷ vs) rest differ e =
     let other_name : is_named name first ≡ false = false_from_ne_true (is_named name first) (λ t. differ ((bytes_eq-Decides other name).0 t)) in
     rw other_name e
 
-module _ (row : DeskRow) (m : MessageData) where
-  built-append : (gs hs : List TemplateField) → built_fields row m (gs ++ hs) ≡ built_fields row m gs ++ built_fields row m hs
-  built-append [] hs = refl
-  built-append (g ∷ gs) hs =
-      ap (λ (t : List FieldData). field_of_values g.name (given_values row m g.given) ++ t) (built-append gs hs) ∙ sym (append_assoc (field_of_values g.name (given_values row m g.given)) (built_fields row m gs) (built_fields row m hs))
+-- the fields that come of those of a template, by the values that each is given
+pub record AreMade (values : Given → List ValueData) (made : List TemplateField → List FieldData) : Type 0 where
+  pub none : made [] ≡ []
+  pub more : (g : TemplateField) (gs : List TemplateField) → made (g ∷ gs) ≡ field_of_values g.name (values g.given) ++ made gs
 
-  pub built-next : (fields : List TemplateField) (i : ℕ) (f : TemplateField) → i < length fields → f ≡ get_or fields i f → built_fields row m (take (i + 1) fields) ≡ built_fields row m (take i fields) ++ field_of_values f.name (given_values row m f.given)
-  built-next fields i f lt e =
+at_most_one : (name : List ℕ) (vs : List ValueData) → length (field_of_values name vs) ≤ 1
+at_most_one name [] = omega arith
+at_most_one name (v ∷ vs) = omega arith
+
+others : (fields : List TemplateField) (i : ℕ) (f : TemplateField) → AllPairs (λ (f g : TemplateField). f.name ≢ g.name) fields → i < length fields → f ≡ get_or fields i f → All (λ (g : TemplateField). g.name ≢ f.name) (take i fields)
+others fields i f h lt e k d below =
+    let low : k < i = omega (arith, length-take i fields) in
+    let at : get_or (take i fields) k d ≡ get_or fields k d = get_or-take i fields k d low in
+    let here : f ≡ get_or fields i d = e ∙ get_or_default fields i f d lt in
+    subst (λ (g : TemplateField). g.name ≢ f.name) (sym at) (subst (λ (g : TemplateField). (get_or fields k d).name ≢ g.name) (sym here) (h k i d low lt))
+
+module _ (values : Given → List ValueData) (made : List TemplateField → List FieldData) (are : AreMade values made) where
+  made-append : (gs hs : List TemplateField) → made (gs ++ hs) ≡ made gs ++ made hs
+  made-append [] hs = ap (λ (t : List FieldData). t ++ made hs) (sym are.none)
+  made-append (g ∷ gs) hs =
+      are.more g (gs ++ hs) ∙ ap (λ (t : List FieldData). field_of_values g.name (values g.given) ++ t) (made-append gs hs)
+      ∙ sym (append_assoc (field_of_values g.name (values g.given)) (made gs) (made hs)) ∙ ap (λ (t : List FieldData). t ++ made hs) (sym (are.more g gs))
+
+  made-one : (f : TemplateField) → made (f ∷ []) ≡ field_of_values f.name (values f.given)
+  made-one f = are.more f [] ∙ ap (λ (t : List FieldData). field_of_values f.name (values f.given) ++ t) are.none ∙ append-nil (field_of_values f.name (values f.given))
+
+  pub made-next : (fields : List TemplateField) (i : ℕ) (f : TemplateField) → i < length fields → f ≡ get_or fields i f → made (take (i + 1) fields) ≡ made (take i fields) ++ field_of_values f.name (values f.given)
+  made-next fields i f lt e =
       let more : take (i + 1) fields ≡ take i fields ++ f ∷ [] = take_more fields i f lt ∙ ap (λ (g : TemplateField). take i fields ++ g ∷ []) (sym e) in
-      ap (built_fields row m) more ∙ built-append (take i fields) (f ∷ []) ∙ ap (λ (t : List FieldData). built_fields row m (take i fields) ++ t) (append-nil (field_of_values f.name (given_values row m f.given)))
+      ap made more ∙ made-append (take i fields) (f ∷ []) ∙ ap (λ (t : List FieldData). made (take i fields) ++ t) (made-one f)
 
-  unnamed : (gs : List TemplateField) (name : List ℕ) → All (λ (g : TemplateField). g.name ≢ name) gs → field_named (built_fields row m gs) name ≡ None
-  unnamed [] name all = refl
+  unnamed : (gs : List TemplateField) (name : List ℕ) → All (λ (g : TemplateField). g.name ≢ name) gs → field_named (made gs) name ≡ None
+  unnamed [] name all = ap (λ (t : List FieldData). field_named t name) are.none
   unnamed (g ∷ gs) name all =
-      named-other g.name name (given_values row m g.given) (built_fields row m gs) (All-head (λ (g : TemplateField). g.name ≢ name) g gs all) (unnamed gs name (All-tail (λ (g : TemplateField). g.name ≢ name) g gs all))
+      ap (λ (t : List FieldData). field_named t name) (are.more g gs)
+      ∙ named-other g.name name (values g.given) (made gs) (All-head (λ (g : TemplateField). g.name ≢ name) g gs all) (unnamed gs name (All-tail (λ (g : TemplateField). g.name ≢ name) g gs all))
 
-  at_most_one : (name : List ℕ) (vs : List ValueData) → length (field_of_values name vs) ≤ 1
-  at_most_one name [] = omega arith
-  at_most_one name (v ∷ vs) = omega arith
+  length-made : (gs : List TemplateField) → length (made gs) ≤ length gs
+  length-made [] = omega (arith, ap length are.none)
+  length-made (g ∷ gs) =
+      omega (arith, length-made gs, at_most_one g.name (values g.given), length-append (field_of_values g.name (values g.given)) (made gs), ap length (are.more g gs))
 
-  length-built : (gs : List TemplateField) → length (built_fields row m gs) ≤ length gs
-  length-built [] = omega arith
-  length-built (g ∷ gs) =
-      omega (arith, length-built gs, at_most_one g.name (given_values row m g.given), length-append (field_of_values g.name (given_values row m g.given)) (built_fields row m gs))
-
-  others : (fields : List TemplateField) (i : ℕ) (f : TemplateField) → AllPairs (λ (f g : TemplateField). f.name ≢ g.name) fields → i < length fields → f ≡ get_or fields i f → All (λ (g : TemplateField). g.name ≢ f.name) (take i fields)
-  others fields i f h lt e k d below =
-      let low : k < i = omega (arith, length-take i fields) in
-      let at : get_or (take i fields) k d ≡ get_or fields k d = get_or-take i fields k d low in
-      let here : f ≡ get_or fields i d = e ∙ get_or_default fields i f d lt in
-      subst (λ (g : TemplateField). g.name ≢ f.name) (sym at) (subst (λ (g : TemplateField). (get_or fields k d).name ≢ g.name) (sym here) (h k i d low lt))
-
-  pub room-next : (fields : List TemplateField) (i : ℕ) (f : TemplateField) → AreTemplateFields fields → i < length fields → f ≡ get_or fields i f → HasRoomFor (built_fields row m (take i fields)) f.name
+  pub room-next : (fields : List TemplateField) (i : ℕ) (f : TemplateField) → AreTemplateFields fields → i < length fields → f ≡ get_or fields i f → HasRoomFor (made (take i fields)) f.name
   room-next fields i f h lt e =
       record {
         word = subst (λ (g : TemplateField). is_word g.name ≡ true) (sym e) (h.words i f lt);
         new = unnamed (take i fields) f.name (others fields i f h.names_differ lt e);
-        limit = omega (arith, h.limit, length-built (take i fields), length-take i fields);
+        limit = omega (arith, h.limit, length-made (take i fields), length-take i fields);
       }
+
+pub built_are : (row : DeskRow) (m : MessageData) → AreMade (given_values row m) (built_fields row m)
+built_are row m = record { none = refl; more = λ g gs. refl }

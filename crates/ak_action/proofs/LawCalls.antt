@@ -4,19 +4,18 @@ use Rattle.ak_base.specs.declared.error.KitError.TheVariants as error
 use Rattle.ak_message.specs.Message.{MessageData}
 use Rattle.ak_action.specs.declared.action.Action.{Action}
 use Rattle.ak_action.specs.declared.answer.Answer.{Answer}
-use Rattle.ak_action.specs.declared.answer.Answer.TheVariants as answer
 use Rattle.ak_action.specs.declared.answer.Want.{Want}
 use Rattle.ak_action.specs.declared.answer.Want.TheVariants as want
 use Rattle.ak_action.specs.declared.doing.Sending.{Sending}
-use Rattle.ak_action.specs.declared.doing.Sending.TheVariants as sending
 use Rattle.ak_action.specs.declared.interp.Stage.{Stage}
 use Rattle.ak_action.specs.declared.interp.Stage.TheVariants as stage
 use Rattle.ak_action.specs.declared.state.DeskState.{DeskState}
 use Rattle.ak_action.specs.Acts.{is_at, put, want_of}
 use Rattle.ak_action.specs.Doing.{Doing, says, replies, puts, sends, finds, stops, quits, doing_of, preferred_of}
-use Rattle.ak_action.specs.Interp.{InterpData, Nexted, nexted, failed, actions_of, carried, give_at, give_of, go_on, hear_of_team, next_at, next_of, out_of_memory, past, started, then_go_on, with_stage}
+use Rattle.ak_action.specs.Interp.{InterpData, Nexted, nexted, failed, actions_of, carried, give_at, give_of, go_on, hear_of_send, hear_of_team, next_at, next_of, out_of_memory, past, started, then_go_on, with_stage}
 use Rattle.ak_action.specs.Laws.{Calls, CallsAct, IsAsking, Ran, answered_so, by_want, got_none, got_one, found_none, is_done, run, unanswered, wanting}
 use Rattle.ak_action.proofs.Behind.{IsWaiting}
+use Rattle.ak_action.proofs.Heard.{heard_of_send, heard_of_team}
 use Rattle.ak_action.proofs.LawSteps.{run_is, run_on, runs_act_holds}
 
 -- ---- the place of the next action that memory can fail
@@ -27,40 +26,16 @@ next_place _ place = place + 1
 abbrev place_after : InterpData → ℕ
 place_after i = next_place i.stage i.place
 
-heard_place : (how : Sending) (m : MessageData) (i : InterpData) (a : Answer) → place_after (hear_of_team how m i a) ≡ i.place + 1
-heard_place how m i (answer.Team team first) = refl
-heard_place how m i answer.NoTeam = refl
-heard_place how m i (answer.Written at) = refl
-heard_place how m i answer.Full = refl
-heard_place how m i answer.Closed = refl
-heard_place how m i answer.Spent = refl
-heard_place how m i answer.TooLong = refl
-heard_place how m i (answer.Reply flat message) = refl
-heard_place how m i answer.NoMemory = refl
+heard_place : (how : Sending) (m : MessageData) (i : InterpData) (s : DeskState) (a : Answer) → place_after (hear_of_team how m i a) ≡ i.place + 1
+heard_place how m i s a = heard_of_team (λ j t. place_after j ≡ i.place + 1) i s refl how m (λ team first. refl) refl a
 
-sent_place : (how : Sending) (i : InterpData) (s : DeskState) (a : Answer) → place_after (give_at (stage.Sent how) i s a).interp ≡ i.place + 1
-sent_place how i s answer.NoMemory = refl
-sent_place (sending.Post back) i s (answer.Team team first) = refl
-sent_place (sending.Post back) i s answer.NoTeam = refl
-sent_place (sending.Post back) i s (answer.Written at) = refl
-sent_place (sending.Post back) i s answer.Full = refl
-sent_place (sending.Post back) i s answer.Closed = refl
-sent_place (sending.Post back) i s answer.Spent = refl
-sent_place (sending.Post back) i s answer.TooLong = refl
-sent_place (sending.Post back) i s (answer.Reply flat message) = refl
-sent_place (sending.Ask into) i s (answer.Team team first) = refl
-sent_place (sending.Ask into) i s answer.NoTeam = refl
-sent_place (sending.Ask into) i s (answer.Written at) = refl
-sent_place (sending.Ask into) i s answer.Full = refl
-sent_place (sending.Ask into) i s answer.Closed = refl
-sent_place (sending.Ask into) i s answer.Spent = refl
-sent_place (sending.Ask into) i s answer.TooLong = refl
-sent_place (sending.Ask into) i s (answer.Reply flat message) = refl
+sent_place : (how : Sending) (i : InterpData) (s : DeskState) (a : Answer) → place_after (hear_of_send how i s a).interp ≡ i.place + 1
+sent_place how i s a = heard_of_send (λ j t. place_after j ≡ i.place + 1) i s refl how (λ e other. refl) (λ into flat message. refl) a
 
 -- an answer leaves the action behind
 given_place : (at : Stage) (i : InterpData) (s : DeskState) (a : Answer) → IsWaiting at → place_after (give_at at i s a).interp ≡ i.place + 1
 given_place stage.Ready i s a waiting = absurd waiting
-given_place (stage.Finding how m) i s a waiting = heard_place how m i a
+given_place (stage.Finding how m) i s a waiting = heard_place how m i s a
 given_place (stage.Found looper how m) i s a waiting = absurd waiting
 given_place (stage.Sent how) i s a waiting = sent_place how i s a
 given_place stage.Ended i s a waiting = absurd waiting

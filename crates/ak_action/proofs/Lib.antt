@@ -2,6 +2,7 @@ pub mod Chained
 pub mod Fields
 pub mod GoingOn
 pub mod Growing
+pub mod Heard
 pub mod Holding
 pub mod LawCalls
 pub mod LawCases

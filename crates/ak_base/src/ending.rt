@@ -14,7 +14,7 @@ pub enum Ending {
     ReadFault,
     /// A write failed.
     WriteFault,
-    /// A thread cannot be started. It does not come yet.
+    /// A thread cannot be started.
     ThreadFault,
     /// Memory ran out.
     NoMemory,
@@ -59,11 +59,11 @@ impl fmt::Display for RefusalKind {
 
     fn fmt<W: fmt::Write>(&self, f: &mut fmt::Formatter<W>) -> fmt::Result {
         match self {
-            RefusalKind::InputTooLong => f.write_str("over 1,048,576 bytes"),
+            RefusalKind::InputTooLong => f.write_str("input too long"),
             RefusalKind::NotUtf8 => f.write_str("not UTF-8"),
             RefusalKind::BadWord => f.write_str("bad word"),
             RefusalKind::UnknownLine => f.write_str("unknown line"),
-            RefusalKind::BadHey(column) => write!(f, "bad hey at column {column}"),
+            RefusalKind::BadHey(column) => write!(f, "bad hey at {column}"),
             RefusalKind::BadValue => f.write_str("bad value"),
             RefusalKind::NameInUse => f.write_str("name in use"),
             RefusalKind::Limit => f.write_str("limit"),

@@ -1,3 +1,2 @@
 -- What the layers above may cite of these proofs: they name this file alone.
 pub use Rattle.ak_describe.proofs.grammar.Dests.{app_word_takes, app_word_again}
-pub use Rattle.ak_describe.proofs.grammar.Numbers.{number_takes, number_again}

@@ -8,7 +8,6 @@ pub mod Fields
 pub mod Filters
 pub mod Heads
 pub mod Hooks
-pub mod Kinds
 pub mod Messages
 pub mod Numbers
 pub mod Parts

@@ -6,4 +6,3 @@ pub mod Outcomes
 pub mod Places
 pub mod Searching
 pub mod Seeing
-pub mod Writing

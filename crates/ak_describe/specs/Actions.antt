@@ -11,6 +11,7 @@ use Rattle.ak_base.specs.Limited.{limited_map}
 use Rattle.ak_message.specs.Message.{ValueData, FieldData, MessageData}
 use Rattle.ak_base.specs.Option.{where_true, ◌>>=◌}
 use Rattle.ak_message.specs.Reading.{field_split}
+use Rattle.ak_message.specs.Written.{app_word_of}
 use Rattle.ak_flatten.specs.Spelling.{spelling}
 use Rattle.ak_flatten.specs.Limits.{flat_limit}
 use Rattle.ak_action.specs.declared.action.Action.{Action}
@@ -29,7 +30,7 @@ use Rattle.ak_action.specs.Values.{ValuesData, is_shallow}
 use Rattle.ak_describe.specs.declared.parts.PropertyParts.{PropertyParts}
 use Rattle.ak_describe.specs.Made.{values_from, one_from, number_from, limited_then}
 use Rattle.ak_describe.specs.Parts.{property_named}
-use Rattle.ak_describe.specs.Words.{first_of, last_of, ends, name_at, code_at, name_of, app_word_of}
+use Rattle.ak_describe.specs.Words.{first_of, last_of, ends, name_at, code_at, name_of}
 
 -- ---- where it is sent: `self`, `looper NAME`, `handler NAME` or `app APP`
 abbrev pub to_looper : List (List ℕ) → Option (Dest × List (List ℕ))

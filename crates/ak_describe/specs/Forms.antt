@@ -18,9 +18,10 @@ use Rattle.ak_describe.specs.declared.form.filter.Passing.{Passing}
 use Rattle.ak_describe.specs.declared.form.heads.AppForm.{AppForm}
 use Rattle.ak_describe.specs.declared.form.heads.LooperForm.{LooperForm}
 use Rattle.ak_describe.specs.declared.form.property.PropertyForm.{PropertyForm}
-use Rattle.ak_describe.specs.Made.{quoted_from, value_of_kind}
+use Rattle.ak_describe.specs.Made.{value_of_kind}
 use Rattle.ak_base.specs.AppName.{is_path, is_signature}
-use Rattle.ak_describe.specs.Words.{first_of, behind, ends, name_at, code_at, code_of, mode_of, kind_of, number_within, some_behind}
+use Rattle.ak_message.specs.Written.{quoted_text, code_of, number_within}
+use Rattle.ak_describe.specs.Words.{first_of, behind, ends, name_at, code_at, mode_of, kind_of, some_behind}
 use Rattle.ak_describe.specs.Limits.{usual_capacity, form_limit}
 
 -- ---- heads
@@ -151,7 +152,7 @@ forms_at words = some_behind form_of words (behind words (codes "forms"))
 -- the empty text where the key does not stand there, and else the one behind it, where that passes no limit
 abbrev pub text_found : List (List ℕ) → Option (List (List ℕ)) → Option (Limited (List ℕ) × List (List ℕ))
 text_found words None = Some (Within [], words)
-text_found words (Some rest) = first_of rest >>= λ word. quoted_from word.0 >>= λ text. Some (text, word.1)
+text_found words (Some rest) = first_of rest >>= λ word. quoted_text word.0 >>= λ text. Some (text, word.1)
 
 abbrev pub text_behind : List (List ℕ) → List ℕ → Option (Limited (List ℕ) × List (List ℕ))
 text_behind words key = text_found words (behind words key)

@@ -1,8 +1,7 @@
 -- What the lines of descriptions say, as a relation on words, apart from how they are read: to be read beside docs/language.md.
 -- Values and texts are those of the input (ak_message); where one passes a limit, the line is of its form and says none.
-use Rattle.std.specs.Prelude.{◌≡◌, ◌≢◌, ℕ, ◌<◌, ◌≤◌, nat_le, Bool, true, false, ◌&&◌, if◌then◌else◌, ◌⊎◌, List, [], ◌∷◌, ◌++◌, length, slice_index_or, codes, Any, Option, Some, None}
+use Rattle.std.specs.Prelude.{◌≡◌, ◌≢◌, ℕ, ◌<◌, nat_le, Bool, true, false, ◌&&◌, if◌then◌else◌, ◌⊎◌, List, [], ◌∷◌, ◌++◌, length, slice_index_or, codes, Any, Option, Some, None}
 use Rattle.std.specs.List.{AllZip}
-use Rattle.std.specs.Fmt.{decimal}
 use Rattle.ak_base.specs.Code.{IsCodeText}
 use Rattle.ak_base.specs.Word.{is_word}
 use Rattle.ak_base.specs.declared.app_word.AppWord.{AppWord}
@@ -46,7 +45,7 @@ use Rattle.ak_describe.specs.Actions.{written}
 use Rattle.ak_describe.specs.Made.{is_short}
 use Rattle.ak_describe.specs.Parts.{property_named}
 use Rattle.ak_base.specs.AppName.{is_path, is_signature}
-use Rattle.ak_describe.specs.Words.{is_app_name}
+use Rattle.ak_message.specs.Written.{WritesNumber, is_app_name}
 use Rattle.ak_describe.specs.Limits.{usual_capacity, form_limit}
 
 -- ---- words
@@ -55,10 +54,6 @@ IsName word name = (is_word word ≡ true) × (word ≡ name)
 
 abbrev pub WritesCode : List ℕ → Code → Type 0
 WritesCode word code = IsCodeText word code.0
-
--- a number in decimal, in this range
-abbrev pub WritesNumber : ℕ → ℕ → List ℕ → ℕ → Type 0
-WritesNumber least most word n = (word ≡ decimal n) × (least ≤ n) × (n ≤ most)
 
 -- a text in quotes, or one that is too long
 abbrev pub WritesText : List ℕ → Limited (List ℕ) → Type 0

@@ -1,15 +1,13 @@
 -- Values in a line: of what passes a limit nothing is kept.
-use Rattle.std.specs.Prelude.{ℕ, Bool, true, ◌==◌, nat_le, if◌then◌else◌, is_none, List, [], ◌∷◌, length, Option, Some, None, option_map}
-use Rattle.std.specs.List.{starts_with}
+use Rattle.std.specs.Prelude.{ℕ, Bool, true, nat_le, if◌then◌else◌, is_none, List, [], ◌∷◌, length, Option, Some, None, option_map}
 use Rattle.ak_base.specs.declared.limited.Limited.{Limited}
 use Rattle.ak_base.specs.declared.limited.Limited.TheVariants.{Within, Over}
 use Rattle.ak_message.specs.declared.kind.Kind.{Kind}
-use Rattle.ak_message.specs.declared.kind.Kind.TheVariants as k
 use Rattle.ak_message.specs.Kind.{is_same_kind}
 use Rattle.ak_message.specs.Message.{ValueData, bool_value, int8_value, int16_value, int32_value, int64_value, uint8_value, uint16_value, uint32_value, uint64_value, text_value, message_value, messenger_value, raw_value}
-use Rattle.ak_message.specs.Message as message
 use Rattle.ak_base.specs.Option.{where_true, ◌>>=◌}
 use Rattle.ak_message.specs.Reading as reading
+use Rattle.ak_message.specs.Written.{value_from}
 use Rattle.ak_flatten.specs.Spelling.{value_bytes}
 use Rattle.ak_flatten.specs.Limits.{flat_limit}
 use Rattle.ak_action.specs.declared.number.Number.{Number}
@@ -21,54 +19,10 @@ abbrev pub limited_then : {A B : Type 0} → (A → Limited B) → Limited A →
 limited_then f (Within x) = f x
 limited_then f Over = Over
 
--- ---- texts
-abbrev pub text_bytes : ValueData → Option (List ℕ)
-text_bytes (text_value bytes) = Some bytes
-text_bytes (bool_value _) = None
-text_bytes (int8_value _) = None
-text_bytes (int16_value _) = None
-text_bytes (int32_value _) = None
-text_bytes (int64_value _) = None
-text_bytes (uint8_value _) = None
-text_bytes (uint16_value _) = None
-text_bytes (uint32_value _) = None
-text_bytes (uint64_value _) = None
-text_bytes (message_value _ _ _) = None
-text_bytes (messenger_value _) = None
-text_bytes (raw_value _) = None
-
--- what a text is read as has no other value
-abbrev pub text_in : Limited ValueData → Option (Limited (List ℕ))
-text_in Over = Some Over
-text_in (Within v) = option_map Within (text_bytes v)
-
--- a text in quotes
-abbrev pub quoted_from : List ℕ → Option (Limited (List ℕ))
-quoted_from word = reading.text_from word >>= λ g. text_in g.value
-
 -- ---- one value
--- the value that a word writes
-abbrev pub value_from : List ℕ → Option (Limited ValueData)
-value_from word = option_map (λ (g : reading.Got). g.value) (reading.read_value word)
-
-abbrev pub begins_as : ℕ → List ℕ → Bool
-begins_as letter word = starts_with ◌==◌ word (letter ∷ [])
-
--- the kind of a value that passes a limit, by the first letter: `M` for messages, `R` for raw values, or else a text
-abbrev pub kind_over : List ℕ → Kind
-kind_over word = if begins_as 77 word then k.Message else if begins_as 82 word then k.Raw else k.Text
-
-abbrev pub kind_read : Limited ValueData → List ℕ → Kind
-kind_read Over word = kind_over word
-kind_read (Within v) word = message.kind_of v
-
 -- a value of that kind
 unfoldable pub value_of_kind : Kind → List ℕ → Option (Limited ValueData)
 value_of_kind kind word = reading.read_value word >>= λ g. where_true (is_same_kind g.kind kind) g.value
-
--- the same for words of bytes, where the first letter tells the kind of what passes a limit
-unfoldable pub value_by_letter : Kind → List ℕ → Option (Limited ValueData)
-value_by_letter kind word = value_from word >>= λ v. where_true (is_same_kind (kind_read v word) kind) v
 
 -- a number of that kind, which no limit is for
 abbrev pub number_of_kind : Kind → ValueData → Option Number

@@ -1,13 +1,11 @@
 -- The second pass: what lines name is there, next handlers close no loop, and what is asked comes later.
-use Rattle.std.specs.Prelude.{ℕ, ◌+◌, nat_lt, Bool, false, if◌then◌else◌, is_some, List, [], ◌∷◌, ◌++◌, map, take, drop, position, slice_get, Option, None, Some}
-use Rattle.std.specs.Str.{bytes_eq}
+use Rattle.std.specs.Prelude.{ℕ, ◌+◌, nat_lt, Bool, if◌then◌else◌, is_some, List, [], ◌∷◌, ◌++◌, map, take, drop, position, slice_get, Option, None, Some}
 use Rattle.ak_base.specs.declared.app_word.AppWord.{AppWord}
-use Rattle.ak_base.specs.declared.app_word.AppWord.TheVariants as app
 use Rattle.ak_base.specs.declared.ending.RefusalKind.{RefusalKind}
 use Rattle.ak_base.specs.declared.ending.RefusalKind.TheVariants as refusal
 use Rattle.ak_action.specs.declared.plan.PlanRow.{PlanRow}
 use Rattle.ak_action.specs.Plan.{chains_end}
-use Rattle.ak_base.specs.AppName.{last_part}
+use Rattle.ak_roster.specs.Heads.{word_fits}
 use Rattle.ak_describe.specs.declared.named.Named.{Named}
 use Rattle.ak_describe.specs.declared.named.Need.{Need}
 use Rattle.ak_describe.specs.declared.named.Need.TheVariants as needs
@@ -25,12 +23,9 @@ order_fault None asks = Some refusal.UnknownName
 order_fault (Some place) asks = if nat_lt asks place then None else Some refusal.AskOrder
 
 -- ---- applications
--- a path or a signature that is equal, or a name that is the last part of the path; a number fits none
+-- as a roster finds them
 abbrev pub fits : AppWord → AppData → Bool
-fits (app.Path path) a = bytes_eq a.path path
-fits (app.Signature signature) a = bytes_eq a.signature signature
-fits (app.Name name) a = bytes_eq (last_part a.path) name
-fits (app.Team team) a = false
+fits word a = word_fits word a.path a.signature
 
 -- where the first one that fits stands behind the one that asks, so do all that fit
 abbrev pub first_fit : List AppData → AppWord → Option ℕ

@@ -1,19 +1,14 @@
 -- The words of a line, by themselves and in order. A reader answers what it read, and the words behind that; none where the words
 -- are not of its form.
-use Rattle.std.specs.Prelude.{ℕ, Bool, true, false, not, ◌&&◌, ◌==◌, nat_le, if◌then◌else◌, List, [], ◌∷◌, map, codes, Option, Some, None, option_map}
-use Rattle.std.specs.List.{list_any}
+use Rattle.std.specs.Prelude.{ℕ, Bool, true, false, if◌then◌else◌, List, [], ◌∷◌, map, codes, Option, Some, None}
 use Rattle.std.specs.Str.{bytes_eq}
-use Rattle.ak_base.specs.AppName.{is_signature}
 use Rattle.ak_base.specs.Word.{is_word}
 use Rattle.ak_base.specs.declared.code.Code.{Code}
-use Rattle.ak_base.specs.declared.app_word.AppWord.{AppWord}
-use Rattle.ak_base.specs.declared.app_word.AppWord.TheVariants as app
 use Rattle.ak_message.specs.declared.kind.Kind.{Kind}
 use Rattle.ak_message.specs.declared.kind.Kind.TheVariants as k
 use Rattle.ak_message.specs.declared.line.Word.{Word}
 use Rattle.ak_base.specs.Option.{where_true, ◌>>=◌}
-use Rattle.ak_message.specs.Payload.{uint_within}
-use Rattle.ak_message.specs.Reading.{code_from}
+use Rattle.ak_message.specs.Written.{code_of}
 use Rattle.ak_roster.specs.declared.head.Mode.{Mode}
 use Rattle.ak_roster.specs.declared.head.Mode.TheVariants as mode
 
@@ -22,10 +17,6 @@ abbrev pub texts : List Word → List (List ℕ)
 texts words = map (λ (w : Word). w.bytes) words
 
 -- ---- a word
--- an application's name has no `/`
-abbrev pub is_app_name : List ℕ → Bool
-is_app_name bytes = is_word bytes && not (list_any (λ b. b == 47) bytes)
-
 abbrev pub mode_of : List ℕ → Option Mode
 mode_of word =
     if bytes_eq word (codes "single") then Some mode.Single
@@ -50,30 +41,8 @@ kind_of word =
     else if bytes_eq word (codes "RAWT") then Some k.Raw
     else None
 
--- the number that a word writes, in this range
-abbrev pub number_within : List ℕ → ℕ → ℕ → Option ℕ
-number_within word least most = uint_within most word >>= λ n. where_true (nat_le least n) n
-
 abbrev pub name_of : List ℕ → Option (List ℕ)
 name_of word = where_true (is_word word) word
-
-abbrev pub coded : ℕ → Code
-coded n = record { 0 = n }
-
-abbrev pub code_of : List ℕ → Option Code
-code_of word = option_map coded (code_from word)
-
--- a signature, or else a name
-abbrev pub named_app : List ℕ → Option AppWord
-named_app word = if is_signature word then Some (app.Signature word) else where_true (is_app_name word) (app.Name word)
-
-abbrev pub team_or_name : Option ℕ → List ℕ → Option AppWord
-team_or_name (Some team) word = Some (app.Team team)
-team_or_name None word = named_app word
-
--- a team by its number, or else one that is named
-unfoldable pub app_word_of : List ℕ → Option AppWord
-app_word_of word = team_or_name (number_within word 0 4294967295) word
 
 -- ---- words in order
 -- the first one, and those behind it

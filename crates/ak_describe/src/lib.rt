@@ -37,7 +37,6 @@ pub use laws::{
 };
 pub use pass::FirstPass;
 use std::alloc::Global;
-pub use words::read_app_word;
 
 /// The applications that these lines describe, in order, each with the plans of its loopers. The lines are
 /// those behind the input's first one, up to those that are no description; any other line is unknown here.

@@ -9,8 +9,9 @@ ghost use Rattle.ak_describe.specs.Seen.{app_data, apps_data, looper_data};
 use crate::fault::DescribeFault;
 use crate::named::{Named, Need};
 use crate::parts::{AppParts, LooperParts};
-use ak_base::{AppWord, RefusalKind, last_part};
+use ak_base::{AppWord, RefusalKind};
 use ak_handler::HANDLER_LIMIT;
+use ak_roster::word_fits;
 
 /// The first fault in the order of the lines.
 #[tactic(auto, unfolding(crate::specs::Led::led_fault))]
@@ -106,12 +107,7 @@ fn first_fit(apps: &[AppParts], word: &AppWord) -> Option<usize>
 fn fits(app: &AppParts, word: &AppWord) -> bool
     ensures { result ≡ fits word.now (app_data app.now) }
 {
-    match word {
-        AppWord::Path(path) => app.path.as_bytes() == path.as_bytes(),
-        AppWord::Signature(signature) => app.signature.as_bytes() == signature.as_bytes(),
-        AppWord::Name(name) => last_part(app.path.as_bytes()) == name.as_bytes(),
-        AppWord::Team(_) => false,
-    }
+    word_fits(word, app.path.as_bytes(), app.signature.as_bytes())
 }
 
 // ---- chains

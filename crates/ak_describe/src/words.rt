@@ -1,28 +1,20 @@
 //! Reads words of a line by themselves. A reader of several answers what it read and the words behind it.
 
-ghost use Rattle.std.specs.Prelude.{◌≡◌, ◌&&◌, pos, int_le, unsigned_abs, option_map, IfOk};
+ghost use Rattle.std.specs.Prelude.{◌≡◌, option_map};
 ghost use Rattle.ak_base.specs.Word.{is_word};
-ghost use Rattle.ak_base.specs.Option.{where_true};
-ghost use Rattle.ak_message.specs.Payload.{uint_within};
+ghost use Rattle.ak_message.specs.Written.{app_word_of};
 ghost use Rattle.ak_describe.specs.Seen.{word_and_rest, read_and_rest, rest_seen};
 ghost use Rattle.ak_describe.specs.Answers.{Gives};
 ghost use Rattle.ak_describe.specs.Words as reads;
 ghost use Rattle.ak_describe.specs.Words.{texts};
 
 use crate::fault::FormFault;
-use ak_base::{AppWord, Code, NoMemory, Text, is_signature, is_word, read_int};
-use ak_message::{Kind, Word};
+use ak_base::{AppWord, Code, Text, is_word};
+use ak_message::{Kind, Word, read_app_word, read_code};
 use ak_roster::Mode;
 use std::alloc::Global;
 
 // ---- a word
-// Of a path that is its last part.
-fn is_app_name(word: &[u8]) -> bool
-    ensures { result ≡ reads.is_app_name word.now }
-{
-    is_word(word) && !word.contains(&b'/')
-}
-
 pub(crate) fn mode_of(word: &[u8]) -> Option<Mode>
     ensures { result ≡ reads.mode_of word.now }
 {
@@ -70,34 +62,6 @@ pub(crate) fn kind_of(word: &[u8]) -> Option<Kind>
     }
 }
 
-/// The number that a word writes, from `least` to `most`.
-pub(crate) fn number_within(word: &[u8], least: u32, most: u32) -> Option<u32>
-    ensures { result ≡ reads.number_within word.now least most }
-{
-    let number = number_up_to(word, most)?;
-    if least <= number { Some(number) } else { None }
-}
-
-fn number_up_to(word: &[u8], most: u32) -> Option<u32>
-    ensures { result ≡ uint_within most word.now }
-{
-    match read_int(word) {
-        Some(number) => whole_up_to(number, most),
-        None => None,
-    }
-}
-
-// The number, where it is not below zero and not above the other.
-fn whole_up_to(number: i128, most: u32) -> Option<u32>
-    ensures { result ≡ option_map unsigned_abs (where_true (int_le (pos 0) number && int_le number (pos most)) number) }
-{
-    if 0 <= number && number <= i128::from(most) {
-        Some(number as u32)
-    } else {
-        None
-    }
-}
-
 /// The text of a name.
 pub(crate) fn name_of(alloc: Global, word: &[u8]) -> Result<Text, FormFault>
     ensures { Gives (λ t. t) result (reads.name_of word.now) }
@@ -109,37 +73,9 @@ pub(crate) fn name_of(alloc: Global, word: &[u8]) -> Result<Text, FormFault>
     }
 }
 
-pub(crate) fn code_of(word: &[u8]) -> Option<Code>
-    ensures { result ≡ reads.code_of word.now }
-{
-    match Code::read(word) {
-        Some(code) => Some(code),
-        None => None,
-    }
-}
-
-/// How a word names an application: a team by its number, or by a signature, or by a name, which is a word
-/// without a slash. A number is one that is printed so, up to 4,294,967,295. `None` where the word names none.
-/// Answers `NoMemory` where memory ran out.
-#[tactic(auto, unfolding(crate::specs::Words::app_word_of))]
-pub fn read_app_word(alloc: Global, word: &[u8]) -> Result<Option<AppWord>, NoMemory>
-    ensures { IfOk result (λ app. app ≡ reads.app_word_of word.now) }
-{
-    if let Some(team) = number_within(word, 0, u32::MAX) {
-        return Ok(Some(AppWord::Team(team)));
-    }
-    if is_signature(word) {
-        return Ok(Some(AppWord::Signature(Text::from_word(alloc, word)?)));
-    }
-    if is_app_name(word) {
-        return Ok(Some(AppWord::Name(Text::from_word(alloc, word)?)));
-    }
-    Ok(None)
-}
-
 /// How a word names an application.
 pub(crate) fn app_word_of(alloc: Global, word: &[u8]) -> Result<AppWord, FormFault>
-    ensures { Gives (λ w. w) result (reads.app_word_of word.now) }
+    ensures { Gives (λ w. w) result (app_word_of word.now) }
 {
     match read_app_word(alloc, word)? {
         Some(app) => Ok(app),
@@ -200,7 +136,7 @@ pub(crate) fn code_at(words: &[Word]) -> Result<(Code, &[Word]), FormFault>
     ensures { Gives read_and_rest result (reads.code_at (texts words.now)) }
 {
     let (word, rest) = first_of(words)?;
-    match code_of(word) {
+    match read_code(word) {
         Some(code) => Ok((code, rest)),
         None => Err(FormFault::BadValue),
     }

@@ -8,7 +8,6 @@ use Rattle.ak_message.specs.Message.{MessageData}
 use Rattle.ak_flatten.specs.Item.{ItemData}
 use Rattle.ak_action.specs.declared.action.Action.{Action}
 use Rattle.ak_action.specs.declared.answer.Answer.{Answer}
-use Rattle.ak_action.specs.declared.answer.Answer.TheVariants as answer
 use Rattle.ak_action.specs.declared.answer.AnswerWord.TheVariants as word
 use Rattle.ak_action.specs.declared.answer.Want.{Want}
 use Rattle.ak_action.specs.declared.answer.Want.TheVariants as want
@@ -23,7 +22,7 @@ use Rattle.ak_action.specs.Interp.{InterpData, Nexted, nexted, failed, Given, An
 use Rattle.ak_action.specs.Laws.{Calls, CallsAct, Ran, RunsAct, answered_so, by_want, finished, found_none, got_one, run, unanswered, wanting}
 use Rattle.ak_action.specs.Laws as law
 use Rattle.ak_action.specs.Steps.{IsFinding}
-use Rattle.ak_action.proofs.Surface.{IsAsked, IsAsking, IsPosted, IsPosting, IsWaiting, NextStands, StandsBehind, next_stands}
+use Rattle.ak_action.proofs.Surface.{IsAsking, IsPosting, IsSentAs, IsWaiting, NextStands, StandsBehind, heard_of_send, heard_of_team, next_stands, sent_so}
 use Rattle.ak_desk.specs.declared.task.Task.{Task}
 use Rattle.ak_desk.specs.declared.task.Task.TheVariants as task
 use Rattle.ak_route.specs.declared.outcome.Route.{Route}
@@ -46,25 +45,14 @@ finding_waits (stage.Found looper how m) h = absurd h
 finding_waits (stage.Sent how) h = absurd h
 finding_waits stage.Ended h = absurd h
 
-posted_waits : (at : Stage) → IsPosted at → IsWaiting at
-posted_waits stage.Ready h = absurd h
-posted_waits (stage.Finding how m) h = absurd h
-posted_waits (stage.Found looper how m) h = absurd h
-posted_waits (stage.Sent how) h = tt
-posted_waits stage.Ended h = absurd h
-
-asked_waits : (at : Stage) → IsAsked at → IsWaiting at
-asked_waits stage.Ready h = absurd h
-asked_waits (stage.Finding how m) h = absurd h
-asked_waits (stage.Found looper how m) h = absurd h
-asked_waits (stage.Sent how) h = tt
-asked_waits stage.Ended h = absurd h
+sent_waits : (IsSo : Sending → Type 0) (at : Stage) → IsSentAs IsSo at → IsWaiting at
+sent_waits IsSo at h = sent_so IsSo IsWaiting (λ how so. tt) at h
 
 pub asking_awaits : (w : Want) (at : Stage) → law.IsAsking w → StandsBehind w at → IsWaiting at
 asking_awaits want.Done at asking h = absurd asking
 asking_awaits (want.Find word) at asking h = finding_waits at h
-asking_awaits (want.Post to m back) at asking h = posted_waits at h
-asking_awaits (want.Ask to m) at asking h = asked_waits at h
+asking_awaits (want.Post to m back) at asking h = sent_waits IsPosting at h
+asking_awaits (want.Ask to m) at asking h = sent_waits IsAsking at h
 asking_awaits (want.Forward looper popped) at asking h = absurd h
 
 pub may_not : {X : Type 0} (at : Stage) → IsWaiting at → MayGoOnFrom at → X
@@ -78,39 +66,15 @@ pub ended_awaits_none : {X : Type 0} (at : Stage) → IsWaiting at → at ≡ st
 ended_awaits_none at h e = absurd (subst IsWaiting e h)
 
 -- ---- behind an answer
-team_may : (how : Sending) (m : MessageData) (i : InterpData) (a : Answer) → MayGoOn (hear_of_team how m i a)
-team_may how m i (answer.Team team first) = tt
-team_may how m i answer.NoTeam = tt
-team_may how m i (answer.Written at) = tt
-team_may how m i answer.Full = tt
-team_may how m i answer.Closed = tt
-team_may how m i answer.Spent = tt
-team_may how m i answer.TooLong = tt
-team_may how m i (answer.Reply flat said) = tt
-team_may how m i answer.NoMemory = tt
+team_may : (how : Sending) (m : MessageData) (i : InterpData) (s : DeskState) (a : Answer) → MayGoOn (hear_of_team how m i a)
+team_may how m i s a = heard_of_team (λ j t. MayGoOn j) i s tt how m (λ team first. tt) tt a
 
 send_may : (how : Sending) (i : InterpData) (s : DeskState) (a : Answer) → MayGoOn (hear_of_send how i s a).interp
-send_may how i s answer.NoMemory = tt
-send_may (sending.Post back) i s (answer.Team team first) = tt
-send_may (sending.Post back) i s answer.NoTeam = tt
-send_may (sending.Post back) i s (answer.Written at) = tt
-send_may (sending.Post back) i s answer.Full = tt
-send_may (sending.Post back) i s answer.Closed = tt
-send_may (sending.Post back) i s answer.Spent = tt
-send_may (sending.Post back) i s answer.TooLong = tt
-send_may (sending.Post back) i s (answer.Reply flat said) = tt
-send_may (sending.Ask into) i s (answer.Team team first) = tt
-send_may (sending.Ask into) i s answer.NoTeam = tt
-send_may (sending.Ask into) i s (answer.Written at) = tt
-send_may (sending.Ask into) i s answer.Full = tt
-send_may (sending.Ask into) i s answer.Closed = tt
-send_may (sending.Ask into) i s answer.Spent = tt
-send_may (sending.Ask into) i s answer.TooLong = tt
-send_may (sending.Ask into) i s (answer.Reply flat said) = tt
+send_may how i s a = heard_of_send (λ j t. MayGoOn j) i s tt how (λ e other. tt) (λ into flat said. tt) a
 
 pub give_may : (at : Stage) (i : InterpData) (s : DeskState) (a : Answer) → AnswersStage at a → MayGoOn (give_at at i s a).interp
 give_may stage.Ready i s a h = absurd h
-give_may (stage.Finding how m) i s a h = team_may how m i a
+give_may (stage.Finding how m) i s a h = team_may how m i s a
 give_may (stage.Found looper how m) i s a h = absurd h
 give_may (stage.Sent how) i s a h = send_may how i s a
 give_may stage.Ended i s a h = absurd h
@@ -369,30 +333,16 @@ taken_by_stage (want.Find word) i h = λ a g. found_by i.stage a h g
     found_by (stage.Found looper how m) a h g = absurd h
     found_by (stage.Sent how) a h g = absurd h
     found_by stage.Ended a h g = absurd h
-taken_by_stage (want.Post to m back) i h = λ a g. posted_by i.stage a h g
+taken_by_stage (want.Post to m back) i h = λ a g. sent_so IsPosting (λ at. AnswersStage at a) (λ how so. by_way how a so g) i.stage h
   where
     by_way : (how : Sending) (a : Answer) → IsPosting how → AnswersPost a → AnswersSend how a
     by_way (sending.Post back) a h g = g back
     by_way (sending.Ask into) a h g = absurd h
-
-    posted_by : (at : Stage) (a : Answer) → IsPosted at → AnswersPost a → AnswersStage at a
-    posted_by stage.Ready a h g = absurd h
-    posted_by (stage.Finding how m) a h g = absurd h
-    posted_by (stage.Found looper how m) a h g = absurd h
-    posted_by (stage.Sent how) a h g = by_way how a h g
-    posted_by stage.Ended a h g = absurd h
-taken_by_stage (want.Ask to m) i h = λ a g. asked_by i.stage a h g
+taken_by_stage (want.Ask to m) i h = λ a g. sent_so IsAsking (λ at. AnswersStage at a) (λ how so. by_way how a so g) i.stage h
   where
     by_way : (how : Sending) (a : Answer) → IsAsking how → AnswersAsk a → AnswersSend how a
     by_way (sending.Post back) a h g = absurd h
     by_way (sending.Ask into) a h g = g into
-
-    asked_by : (at : Stage) (a : Answer) → IsAsked at → AnswersAsk a → AnswersStage at a
-    asked_by stage.Ready a h g = absurd h
-    asked_by (stage.Finding how m) a h g = absurd h
-    asked_by (stage.Found looper how m) a h g = absurd h
-    asked_by (stage.Sent how) a h g = by_way how a h g
-    asked_by stage.Ended a h g = absurd h
 taken_by_stage (want.Forward looper popped) i h = absurd h
 
 pub reaction_awaits : (w : Want) (i j : InterpData) (s t : DeskState) → next_of None i s ≡ nexted w j t → Awaits w (task.Reaction j)

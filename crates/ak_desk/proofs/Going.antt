@@ -14,7 +14,7 @@ use Rattle.ak_action.specs.declared.doing.Sending.TheVariants as sending
 use Rattle.ak_action.specs.declared.interp.Stage.{Stage}
 use Rattle.ak_action.specs.declared.interp.Stage.TheVariants as stage
 use Rattle.ak_action.specs.declared.state.DeskState.{DeskState}
-use Rattle.ak_action.specs.Interp.{AnswersFind, AnswersSend, AnswersStage, InterpData, give_at, hear_of_send, next_of}
+use Rattle.ak_action.specs.Interp.{AnswersSend, AnswersStage, InterpData, give_at, hear_of_send, next_of}
 use Rattle.ak_action.specs.Row.{row_data}
 use Rattle.ak_route.specs.declared.outcome.Route.{Route}
 use Rattle.ak_route.specs.declared.outcome.Route.TheVariants as route
@@ -26,7 +26,7 @@ use Rattle.ak_desk.specs.declared.desk.Begun.{Begun}
 use Rattle.ak_desk.specs.declared.entry.EntryRoute.TheVariants as went
 use Rattle.ak_desk.specs.declared.task.Task.{Task}
 use Rattle.ak_desk.specs.declared.task.Task.TheVariants as task
-use Rattle.ak_desk.specs.Answering.{AnswersForward, AnswersWant, AreAnswered}
+use Rattle.ak_desk.specs.Answering.{AnswersWant, AreAnswered}
 use Rattle.ak_desk.specs.BuiltIns.{built_in_quits, built_in_reply}
 use Rattle.ak_desk.specs.Desk.{Asks, AsksInto, BegunData, DeskAwaits, DeskData, DeskIsDone, DeskMayWant, DeskTakes, Ends, Fails, FailsFrom, Forwards, GoesOn, Hears, IsTakenIn, OfBegun, RunsOut, StaysDone, Turns, Wants, actions_told, begun_at}
 use Rattle.ak_desk.specs.DeskInside.{ComesFar, IsBegun, IsOver, Stands, asked_more, begun_seen, came_seen, is_last, noted}
@@ -39,7 +39,7 @@ use Rattle.ak_desk.specs.Task.{Comes, Heard, IsDone, MayWant, TakesAnswer, Wante
 use Rattle.ak_desk.specs.Task as the
 use Rattle.ak_action.proofs.Surface.{NextStands, next_stands}
 use Rattle.ak_desk.proofs.Coming.{dispatch_comes}
-use Rattle.ak_desk.proofs.History.{all_spelled}
+use Rattle.ak_desk.proofs.History.{IsNoReply, all_spelled, find_is_none, forward_is_none}
 use Rattle.ak_desk.proofs.InStep.{answered_push, comes_may, comes_takes, done_may, done_never_fails, done_so, done_wants, failed_so, first_may, one_too_many}
 use Rattle.ak_desk.proofs.Reacting.{AimsAt, AimsBy, next_is, routed_so, waiting_tells}
 
@@ -53,42 +53,9 @@ begins opening old entries was b t s taken seen is fits none same h e =
     (subst (λ (l : List EntryData). IsBegun opening l (begun_at s taken) (task_of s.first (routed_of s taken.item)) s) (sym same) fresh))
 
 -- ---- what an answer makes of the handlers
-abbrev IsNoReply : Answer → Type 0
-IsNoReply (answer.Reply _ _) = ⊥
-IsNoReply _ = Unit {0}
-
 stays_as : (b : BegunData) (a : Answer) (s : DeskState) → IsNoReply a → IsTakenIn a b s s
-stays_as b (answer.Team team first) s h = refl
-stays_as b answer.NoTeam s h = refl
-stays_as b (answer.Written at) s h = refl
-stays_as b answer.Full s h = refl
-stays_as b answer.Closed s h = refl
-stays_as b answer.Spent s h = refl
-stays_as b answer.TooLong s h = refl
 stays_as b (answer.Reply flat m) s h = absurd h
-stays_as b answer.NoMemory s h = refl
-
-find_is_none : (a : Answer) → AnswersFind a → IsNoReply a
-find_is_none (answer.Team team first) h = tt
-find_is_none answer.NoTeam h = tt
-find_is_none (answer.Written at) h = tt
-find_is_none answer.Full h = tt
-find_is_none answer.Closed h = tt
-find_is_none answer.Spent h = tt
-find_is_none answer.TooLong h = tt
-find_is_none (answer.Reply flat m) h = absurd h
-find_is_none answer.NoMemory h = tt
-
-forward_is_none : (a : Answer) → AnswersForward a → IsNoReply a
-forward_is_none (answer.Team team first) h = tt
-forward_is_none answer.NoTeam h = tt
-forward_is_none (answer.Written at) h = tt
-forward_is_none answer.Full h = tt
-forward_is_none answer.Closed h = tt
-forward_is_none answer.Spent h = tt
-forward_is_none answer.TooLong h = tt
-forward_is_none (answer.Reply flat m) h = absurd h
-forward_is_none answer.NoMemory h = tt
+stays_as b _ s h = refl
 
 -- a reply goes by the reaction of the handler that its message went to, and by the action behind those that are carried out
 record GoesTo (b : BegunData) (i : InterpData) : Type 0 where

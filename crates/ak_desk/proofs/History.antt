@@ -1,5 +1,5 @@
 -- A list of entries, and one more at its end.
-use Rattle.std.proofs.Common.{◌≡◌, ℕ, suc, ◌+◌, ◌-◌, ◌<◌, Bool, true, false, ◌||◌, List, [], ◌∷◌, ◌++◌, All, length, Option, None, Some, option_map, unwrap_or, slice_get, refl, sym, ap, subst, ◌∙◌, arith}
+use Rattle.std.proofs.Common.{◌≡◌, ℕ, ◌+◌, ◌<◌, Bool, true, false, ◌||◌, List, [], ◌∷◌, ◌++◌, All, Option, Some, refl, sym, ap, subst}
 use Rattle.std.proofs.lemmas.List.Elements.{All-nil, All-push}
 use Rattle.ak_flatten.specs.Item.{ItemData}
 use Rattle.ak_message.specs.Message.{MessageData}
@@ -15,17 +15,18 @@ use Rattle.ak_action.specs.Interp.{AnswersFind, AnswersSend, AnswersStage}
 use Rattle.ak_action.specs.Laws.{IsSpelled}
 use Rattle.ak_route.specs.declared.outcome.Route.{Route}
 use Rattle.ak_route.specs.declared.outcome.Route.TheVariants as route
+use Rattle.ak_turn.proofs.Surface.{rise_push}
 use Rattle.ak_desk.specs.declared.entry.DeskEvent.{DeskEvent}
 use Rattle.ak_desk.specs.declared.entry.DeskEvent.TheVariants as event
 use Rattle.ak_desk.specs.declared.entry.EntryRoute.{EntryRoute}
 use Rattle.ak_desk.specs.declared.task.Task.{Task}
 use Rattle.ak_desk.specs.declared.task.Task.TheVariants as task
 use Rattle.ak_desk.specs.Answering.{AnswersForward, AreAnswered}
-use Rattle.ak_desk.specs.Desk.{BegunData, stamp_in}
+use Rattle.ak_desk.specs.Desk.{BegunData, stamp_in, stamp_number}
 use Rattle.ak_desk.specs.DeskInside.{IsBegun, IsOver}
 use Rattle.ak_desk.specs.Dispatch.{Came, Dispatch, dispatch_of, entry_route}
 use Rattle.ak_desk.specs.Entry.{EntryData}
-use Rattle.ak_desk.specs.Machine.{DeskStep, DispatchStep, Dispatches, EventStep, IsBy, IsHistory, Replays, Replies, StampsRise, counted, counted_all, dispatches, gave_up, gives_up}
+use Rattle.ak_desk.specs.Machine.{DeskStep, DispatchStep, Dispatches, EventStep, IsBy, IsHistory, Replays, Replies, counted, counted_all, dispatches, gave_up, gives_up}
 use Rattle.ak_desk.specs.Place.{routed_of}
 use Rattle.ak_desk.specs.Task.{Comes, TakesAnswer}
 use Rattle.ak_desk.specs.Task as the
@@ -40,41 +41,12 @@ replays_push looper n s [] u entry t e step = (t, (subst (λ (x : DeskState). De
 replays_push looper n s (l ∷ entries) u entry t (m, (first, rest)) step =
     (m, (first, replays_push looper (counted n l.plain.event) m entries u entry t rest step))
 
--- ---- stamps
-abbrev last_from : ℕ → List EntryData → ℕ
-last_from last [] = last
-last_from last (l ∷ entries) = last_from l.plain.stamp entries
-
-one_off : (n : ℕ) → suc n - 1 ≡ n
-one_off n = omega arith
-
-one_less : (n : ℕ) → suc (suc n) - 1 ≡ suc n
-one_less n = omega arith
-
-stamp_of_last : (l : EntryData) (entries : List EntryData) → stamp_in (l ∷ entries) ≡ last_from l.plain.stamp entries
-stamp_of_last l [] = refl
-stamp_of_last l (k ∷ entries) =
-    ap (λ (n : ℕ). unwrap_or (option_map (λ (entry : EntryData). entry.plain.stamp) (slice_get (l ∷ k ∷ entries) n)) 0) (one_less (length entries))
-    ∙ ap (λ (n : ℕ). unwrap_or (option_map (λ (entry : EntryData). entry.plain.stamp) (slice_get (k ∷ entries) n)) 0) (sym (one_off (length entries)))
-    ∙ stamp_of_last k entries
-
-last_stamp : (entries : List EntryData) → stamp_in entries ≡ last_from 0 entries
-last_stamp [] = refl
-last_stamp (l ∷ entries) = stamp_of_last l entries
-
-rises_from : (last : ℕ) (entries : List EntryData) (entry : EntryData) → StampsRise last entries → last_from last entries < entry.plain.stamp → StampsRise last (entries ++ entry ∷ [])
-rises_from last [] entry h lt = (lt, tt)
-rises_from last (l ∷ entries) entry (first, rest) lt = (first, rises_from l.plain.stamp entries entry rest lt)
-
-pub stamps_push : (entries : List EntryData) (entry : EntryData) → StampsRise 0 entries → stamp_in entries < entry.plain.stamp → StampsRise 0 (entries ++ entry ∷ [])
-stamps_push entries entry h lt = rises_from 0 entries entry h (subst (λ (n : ℕ). n < entry.plain.stamp) (last_stamp entries) lt)
-
 -- ---- the whole history
 pub history_push : (opening : DeskState) (entries : List EntryData) (u : DeskState) (entry : EntryData) (t : DeskState) → IsHistory opening entries u → DeskStep opening.looper (dispatches entries) u entry t → stamp_in entries < entry.plain.stamp → IsHistory opening (entries ++ entry ∷ []) t
 history_push opening entries u entry t h step lt =
     record {
       replays = replays_push opening.looper 0 opening entries u entry t h.replays step;
-      stamps = stamps_push entries entry h.stamps lt;
+      stamps = rise_push stamp_number entries entry h.stamps lt;
     }
 
 -- ---- giving up
@@ -97,53 +69,40 @@ gave_up_then (l ∷ entries) entry e = by_head (gives_up l.plain.event) (gave_up
     by_head false h = h
 
 -- ---- the replies that are heard
+abbrev pub IsNoReply : Answer → Type 0
+IsNoReply (answer.Reply _ _) = ⊥
+IsNoReply _ = Unit {0}
+
+pub find_is_none : (a : Answer) → AnswersFind a → IsNoReply a
+find_is_none (answer.Reply flat m) h = absurd h
+find_is_none _ h = tt
+
+pub forward_is_none : (a : Answer) → AnswersForward a → IsNoReply a
+forward_is_none (answer.Reply flat m) h = absurd h
+forward_is_none _ h = tt
+
+none_is_spelled : (a : Answer) → IsNoReply a → IsSpelled a
+none_is_spelled (answer.Reply flat m) h = absurd h
+none_is_spelled _ h = tt
+
 spelled_by_stage : (at : Stage) (a : Answer) → AnswersStage at a → IsSpelled a
 spelled_by_stage stage.Ready a h = absurd h
-spelled_by_stage (stage.Finding how m) a h = found a h
-  where
-    found : (a : Answer) → AnswersFind a → IsSpelled a
-    found (answer.Team team first) h = tt
-    found answer.NoTeam h = tt
-    found (answer.Written at) h = tt
-    found answer.Full h = tt
-    found answer.Closed h = tt
-    found answer.Spent h = tt
-    found answer.TooLong h = tt
-    found (answer.Reply flat m) h = absurd h
-    found answer.NoMemory h = tt
+spelled_by_stage (stage.Finding how m) a h = none_is_spelled a (find_is_none a h)
 spelled_by_stage (stage.Found looper how m) a h = absurd h
 spelled_by_stage (stage.Sent how) a h = sent how a h
   where
     sent : (how : Sending) (a : Answer) → AnswersSend how a → IsSpelled a
-    sent how (answer.Team team first) h = tt
-    sent how answer.NoTeam h = tt
-    sent how (answer.Written at) h = tt
-    sent how answer.Full h = tt
-    sent how answer.Closed h = tt
-    sent how answer.Spent h = tt
-    sent how answer.TooLong h = tt
     sent (sending.Post back) (answer.Reply flat m) h = absurd h
     sent (sending.Ask into) (answer.Reply flat m) h = h
-    sent how answer.NoMemory h = tt
+    sent how _ h = tt
 spelled_by_stage stage.Ended a h = absurd h
-
-spelled_by_forward : (a : Answer) → AnswersForward a → IsSpelled a
-spelled_by_forward (answer.Team team first) h = tt
-spelled_by_forward answer.NoTeam h = tt
-spelled_by_forward (answer.Written at) h = tt
-spelled_by_forward answer.Full h = tt
-spelled_by_forward answer.Closed h = tt
-spelled_by_forward answer.Spent h = tt
-spelled_by_forward answer.TooLong h = tt
-spelled_by_forward (answer.Reply flat m) h = absurd h
-spelled_by_forward answer.NoMemory h = tt
 
 spelled_taken : (t : Task) (a : Answer) → TakesAnswer t a → IsSpelled a
 spelled_taken (task.Reaction i) a h = spelled_by_stage i.stage a h
 spelled_taken (task.Property token place m) a h = absurd h
 spelled_taken (task.BuiltIn token m) a h = absurd h
 spelled_taken (task.Forward looper popped spare) a h = absurd h
-spelled_taken (task.Forwarding spare) a h = spelled_by_forward a h
+spelled_taken (task.Forwarding spare) a h = none_is_spelled a (forward_is_none a h)
 spelled_taken (task.Done word reply quit) a h = absurd h
 
 module _ {before : DeskState} {first : Task} where

@@ -22,7 +22,7 @@ use Rattle.ak_desk.specs.BuiltIns.{built_in_quits, built_in_reply}
 use Rattle.ak_desk.specs.Properties.{property_replied}
 use Rattle.ak_desk.specs.Task.{Awaits, Comes, IsDone, MayWant, TakesAnswer, Wanted, wants, wants_none, heard_of, place_in, task_by, want_of}
 use Rattle.ak_desk.specs.Task as the
-use Rattle.ak_action.proofs.Surface.{IsAsked, IsPosted, IsWaiting, NextStands, StandsBehind, next_stands}
+use Rattle.ak_action.proofs.Surface.{IsAsked, IsAsking, IsPosted, IsPosting, IsWaiting, NextStands, StandsBehind, next_stands, sent_so}
 use Rattle.ak_action.specs.Steps.{IsFinding}
 use Rattle.ak_desk.proofs.Coming.{asking_awaits, give_may, may_not, not_answered, reaction_awaits}
 use Rattle.ak_desk.proofs.Reacting.{failed_is, next_is}
@@ -60,7 +60,7 @@ open_may_not (task.Forwarding spare) h may = absurd may
 open_may_not (task.Done word reply quit) h may = absurd h
 
 -- ---- what a task takes behind a want answers it
-posted_so : (how : Sending) (a : Answer) → IsPosted (stage.Sent how) → AnswersSend how a → AnswersPost a
+posted_so : (how : Sending) (a : Answer) → IsPosting how → AnswersSend how a → AnswersPost a
 posted_so (sending.Post back) (answer.Team team first) at h = absurd h
 posted_so (sending.Post back) answer.NoTeam at h = absurd h
 posted_so (sending.Post back) (answer.Written position) at h = λ _. tt
@@ -72,7 +72,7 @@ posted_so (sending.Post back) (answer.Reply flat m) at h = absurd h
 posted_so (sending.Post back) answer.NoMemory at h = λ _. tt
 posted_so (sending.Ask into) a at h = absurd at
 
-asked_so : (how : Sending) (a : Answer) → IsAsked (stage.Sent how) → AnswersSend how a → AnswersAsk a
+asked_so : (how : Sending) (a : Answer) → IsAsking how → AnswersSend how a → AnswersAsk a
 asked_so (sending.Ask into) (answer.Team team first) at h = absurd h
 asked_so (sending.Ask into) answer.NoTeam at h = absurd h
 asked_so (sending.Ask into) (answer.Written position) at h = absurd h
@@ -92,18 +92,10 @@ found_behind (stage.Sent how) a at h = absurd at
 found_behind stage.Ended a at h = absurd h
 
 posted_behind : (at : Stage) (a : Answer) → IsPosted at → AnswersStage at a → AnswersPost a
-posted_behind stage.Ready a at h = absurd h
-posted_behind (stage.Finding how m) a at h = absurd at
-posted_behind (stage.Found looper how m) a at h = absurd h
-posted_behind (stage.Sent how) a at h = posted_so how a at h
-posted_behind stage.Ended a at h = absurd h
+posted_behind at a h = sent_so IsPosting (λ at. AnswersStage at a → AnswersPost a) (λ how so. posted_so how a so) at h
 
 asked_behind : (at : Stage) (a : Answer) → IsAsked at → AnswersStage at a → AnswersAsk a
-asked_behind stage.Ready a at h = absurd h
-asked_behind (stage.Finding how m) a at h = absurd at
-asked_behind (stage.Found looper how m) a at h = absurd h
-asked_behind (stage.Sent how) a at h = asked_so how a at h
-asked_behind stage.Ended a at h = absurd h
+asked_behind at a h = sent_so IsAsking (λ at. AnswersStage at a → AnswersAsk a) (λ how so. asked_so how a so) at h
 
 stage_behind : (w : Want) (at : Stage) → law.IsAsking w → StandsBehind w at → (a : Answer) → AnswersStage at a → AnswersWant w a
 stage_behind want.Done at asking h a takes = absurd asking

@@ -1,6 +1,6 @@
 -- How a reaction goes on: of which handler and which of its reactions it is, what its last word tells, and where the result of a reply
 -- goes.
-use Rattle.std.proofs.Common.{◌≡◌, ℕ, zero, suc, ◌+◌, ◌-◌, Bool, true, false, List, [], ◌∷◌, ◌++◌, drop, length, Option, None, Some, option_map, slice_get, is_some, unwrap_or, refl, sym, ap, subst, ◌∙◌, arith}
+use Rattle.std.proofs.Common.{◌≡◌, ◌≢◌, ℕ, zero, suc, ◌+◌, ◌-◌, Bool, true, false, List, [], ◌∷◌, ◌++◌, drop, length, Option, None, Some, option_map, slice_get, is_some, unwrap_or, refl, sym, ap, subst, ◌∙◌, arith}
 use Rattle.std.proofs.lemmas.List.{length_push}
 use Rattle.ak_base.specs.declared.error.KitError.{KitError}
 use Rattle.ak_base.specs.declared.error.KitError.TheVariants as error
@@ -17,7 +17,6 @@ use Rattle.ak_action.specs.declared.action.Action.TheVariants as action
 use Rattle.ak_action.specs.declared.action.Dest.{Dest}
 use Rattle.ak_action.specs.declared.action.Dest.TheVariants as dest
 use Rattle.ak_action.specs.declared.answer.Answer.{Answer}
-use Rattle.ak_action.specs.declared.answer.Answer.TheVariants as answer
 use Rattle.ak_action.specs.declared.answer.AnswerWord.{AnswerWord}
 use Rattle.ak_action.specs.declared.answer.AnswerWord.TheVariants as word
 use Rattle.ak_action.specs.declared.answer.Want.{Want}
@@ -33,13 +32,13 @@ use Rattle.ak_action.specs.declared.template.Template.{Template}
 use Rattle.ak_action.specs.Acts.{put}
 use Rattle.ak_action.specs.Building.{built, first_given}
 use Rattle.ak_action.specs.Doing.{Doing, says, replies, puts, sends, finds, stops, quits, add_to, back_to, doing_of, into_place, put_at, put_in, put_sum, refused_or_put, reply_of, row_of, sent_to, set_to, sum_with, to_handler, to_looper}
-use Rattle.ak_action.specs.Interp.{InterpData, Nexted, nexted, failed, AnswersStage, actions_of, carried, give_at, go_on, hear_of_send, hear_of_team, next_at, next_of, past, started, then_go_on, with_word}
+use Rattle.ak_action.specs.Interp.{InterpData, Nexted, nexted, failed, AnswersStage, actions_of, carried, give_at, go_on, hear_of_send, hear_of_team, next_at, next_of, out_of_memory, past, started, then_go_on, with_word}
 use Rattle.ak_action.specs.Laws.{by_want, unanswered}
 use Rattle.ak_action.specs.Laws as law
 use Rattle.ak_action.specs.Number.{number_of, number_value}
 use Rattle.ak_action.specs.Row.{first_of, place_of_property}
 use Rattle.ak_action.specs.State.{looper_named}
-use Rattle.ak_action.proofs.Surface.{next_drop, actions-put}
+use Rattle.ak_action.proofs.Surface.{actions-put, heard_of_send, heard_of_team, next_drop}
 use Rattle.ak_desk.specs.declared.task.Task.{Task}
 use Rattle.ak_desk.specs.declared.task.Task.TheVariants as task
 use Rattle.ak_desk.specs.BuiltIns.{built_in_quits, built_in_reply}
@@ -312,46 +311,34 @@ clear_without place stage.Ended i s j v clear e = absurd cc
 past_keeps : (e : KitError) (i : InterpData) (s : DeskState) → is_no_memory (word.Error e) ≡ false → Tells i.place i.words → Keeps i.token i.reaction (past e i) s
 past_keeps e i s other t = record { token_is = refl; reaction_is = refl; clear = tells_error i.place i.words e other t; aims = tt }
 
+spent_keeps : (i : InterpData) (s : DeskState) → Keeps i.token i.reaction (out_of_memory i) s
+spent_keeps i s = record { token_is = refl; reaction_is = refl; clear = tt; aims = tt }
+
 no_team_keeps : (i : InterpData) (s : DeskState) → Tells i.place i.words → Keeps i.token i.reaction (past error.NoTeam (with_word word.NoTeam i)) s
 no_team_keeps i s t =
     past_keeps error.NoTeam (with_word word.NoTeam i) s refl (record { clear = ran_out-push i.words word.NoTeam; told = t.told ∙ sym (told_no_team i.words) })
 
 team_keeps : (how : Sending) (m : MessageData) (i : InterpData) (s : DeskState) (a : Answer) → AimsBy how s i.token i.reaction i.place → Tells i.place i.words → Keeps i.token i.reaction (hear_of_team how m i a) s
-team_keeps how m i s (answer.Team team first) aims t =
-    record { token_is = refl; reaction_is = refl; clear = record { clear = ran_out-push i.words (word.Team team); told = t.told ∙ sym (told_team i.words team) }; aims = aims }
-team_keeps how m i s answer.NoTeam aims t = no_team_keeps i s t
-team_keeps how m i s (answer.Written at) aims t = no_team_keeps i s t
-team_keeps how m i s answer.Full aims t = no_team_keeps i s t
-team_keeps how m i s answer.Closed aims t = no_team_keeps i s t
-team_keeps how m i s answer.Spent aims t = no_team_keeps i s t
-team_keeps how m i s answer.TooLong aims t = no_team_keeps i s t
-team_keeps how m i s (answer.Reply flat said) aims t = no_team_keeps i s t
-team_keeps how m i s answer.NoMemory aims t = record { token_is = refl; reaction_is = refl; clear = tt; aims = tt }
+team_keeps how m i s a aims t =
+    heard_of_team (Keeps i.token i.reaction) i s (spent_keeps i s) how m
+    (λ team first. record { token_is = refl; reaction_is = refl; clear = record { clear = ran_out-push i.words (word.Team team); told = t.told ∙ sym (told_team i.words team) }; aims = aims })
+    (no_team_keeps i s t) a
+
+other_error : (e : KitError) → e ≢ error.NoMemory → is_no_memory (word.Error e) ≡ false
+other_error error.NoMemory other = absurd (other refl)
+other_error _ other = refl
 
 send_keeps : (how : Sending) (i : InterpData) (s : DeskState) (a : Answer) → Tells i.place i.words → Keeps i.token i.reaction (hear_of_send how i s a).interp (hear_of_send how i s a).state
-send_keeps how i s answer.NoMemory t = record { token_is = refl; reaction_is = refl; clear = tt; aims = tt }
-send_keeps (sending.Post back) i s (answer.Team team first) t = past_keeps error.Ok i s refl t
-send_keeps (sending.Post back) i s answer.NoTeam t = past_keeps error.NoTeam i s refl t
-send_keeps (sending.Post back) i s (answer.Written at) t = past_keeps error.Ok i s refl t
-send_keeps (sending.Post back) i s answer.Full t = past_keeps error.WouldBlock i s refl t
-send_keeps (sending.Post back) i s answer.Closed t = past_keeps error.BadPortId i s refl t
-send_keeps (sending.Post back) i s answer.Spent t = past_keeps error.Spent i s refl t
-send_keeps (sending.Post back) i s answer.TooLong t = past_keeps error.TooLong i s refl t
-send_keeps (sending.Post back) i s (answer.Reply flat said) t = past_keeps error.Ok i s refl t
-send_keeps (sending.Ask into) i s (answer.Team team first) t = past_keeps error.Ok i s refl t
-send_keeps (sending.Ask into) i s answer.NoTeam t = past_keeps error.NoTeam i s refl t
-send_keeps (sending.Ask into) i s (answer.Written at) t = past_keeps error.Ok i s refl t
-send_keeps (sending.Ask into) i s answer.Full t = past_keeps error.WouldBlock i s refl t
-send_keeps (sending.Ask into) i s answer.Closed t = past_keeps error.BadPortId i s refl t
-send_keeps (sending.Ask into) i s answer.Spent t = past_keeps error.Spent i s refl t
-send_keeps (sending.Ask into) i s answer.TooLong t = past_keeps error.TooLong i s refl t
-send_keeps (sending.Ask into) i s (answer.Reply flat said) t =
+send_keeps how i s a t =
+    heard_of_send (Keeps i.token i.reaction) i s (spent_keeps i s) how (λ e other. past_keeps e i s (other_error e other) t)
+    (λ into flat said.
     record {
       token_is = refl;
       reaction_is = refl;
       clear = record { clear = ran_out-push i.words (word.Reply flat); told = ap (λ (n : ℕ). n + 1) t.told ∙ sym (told_reply i.words flat) };
       aims = tt;
-    }
+    })
+    a
 
 gives_keep : (at : Stage) (i : InterpData) (s : DeskState) (a : Answer) → AimsAt at s i.token i.reaction i.place → IsClear at i.place i.words → AnswersStage at a → Keeps i.token i.reaction (give_at at i s a).interp (give_at at i s a).state
 gives_keep stage.Ready i s a aims t h = absurd h

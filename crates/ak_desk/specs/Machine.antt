@@ -1,5 +1,5 @@
 -- The machine of a desk: which entry may follow, and what it makes of the handlers.
-use Rattle.std.specs.Prelude.{◌≡◌, ℕ, ◌+◌, ◌<◌, Bool, true, false, List, [], ◌∷◌, All, Option, None, Some}
+use Rattle.std.specs.Prelude.{◌≡◌, ℕ, ◌+◌, Bool, true, false, List, [], ◌∷◌, All, Option, None, Some}
 use Rattle.std.specs.List.{list_any}
 use Rattle.ak_base.specs.Thread.{looper_thread}
 use Rattle.ak_handler.specs.declared.fault.HandlerFault.{HandlerFault}
@@ -14,6 +14,7 @@ use Rattle.ak_action.specs.declared.state.DeskState.{DeskState}
 use Rattle.ak_action.specs.Laws.{IsSpelled}
 use Rattle.ak_action.specs.declared.row.DeskRow.{DeskRow}
 use Rattle.ak_action.specs.Row.{empty_row}
+use Rattle.ak_turn.specs.Stamps.{Rise}
 use Rattle.ak_desk.specs.declared.entry.DeskEvent.{DeskEvent}
 use Rattle.ak_desk.specs.declared.entry.DeskEvent.TheVariants as event
 use Rattle.ak_desk.specs.declared.entry.Edit.{Edit}
@@ -128,8 +129,7 @@ Replays looper n s (entry ∷ entries) t =
 
 -- the stamps rise, from past the one before
 abbrev pub StampsRise : ℕ → List EntryData → Type 0
-StampsRise last [] = Unit {0}
-StampsRise last (entry ∷ entries) = (last < entry.plain.stamp) × StampsRise entry.plain.stamp entries
+StampsRise last entries = Rise (λ (entry : EntryData). entry.plain.stamp) last entries
 
 -- from that opening the list leads to this state
 pub record IsHistory (opening : DeskState) (entries : List EntryData) (state : DeskState) : Type 0 where

@@ -3,6 +3,7 @@ use Rattle.std.proofs.Common.{◌≡◌, ◌⊎◌, ℕ, ◌+◌, ◌==◌, Bool
 use Rattle.std.specs.Prelude.{slice_get}
 use Rattle.ak_base.specs.Thread.{looper_thread}
 use Rattle.ak_turn.specs.Entries.{made_by}
+use Rattle.ak_turn.proofs.Surface.{rise_before}
 use Rattle.ak_flatten.specs.Item.{ItemData}
 use Rattle.ak_flatten.specs.declared.item.Taken.{Taken}
 use Rattle.ak_action.specs.declared.answer.AnswerWord.{AnswerWord}
@@ -11,6 +12,7 @@ use Rattle.ak_desk.specs.declared.entry.DeskEvent.{DeskEvent}
 use Rattle.ak_desk.specs.declared.entry.DeskEvent.TheVariants as event
 use Rattle.ak_desk.specs.declared.entry.EntryRoute.{EntryRoute}
 use Rattle.ak_desk.specs.declared.entry.EntryRoute.TheVariants as went
+use Rattle.ak_desk.specs.Desk.{stamp_number}
 use Rattle.ak_desk.specs.Entry.{EntryData}
 use Rattle.ak_desk.specs.Laws.{EachEntryFollows, EntryTellsReply, HasOneReply}
 use Rattle.ak_desk.specs.Machine.{DeskStep, DispatchStep, EventStep, IsBy, IsHistory, Replays, StampsRise, counted, counted_all, dispatches}
@@ -73,10 +75,6 @@ replays_on : (looper n : ℕ) (s : DeskState) (entries : List EntryData) (u : De
 replays_on looper n s [] u entry t e step = (t, (subst (λ (x : DeskState). DeskStep looper n x entry t) e step, refl))
 replays_on looper n s (x ∷ entries) u entry t (m, (first, rest)) step = (m, (first, replays_on looper (counted n x.plain.event) m entries u entry t rest step))
 
-stamps_before : (last : ℕ) (xs ys : List EntryData) → StampsRise last (xs ++ ys) → StampsRise last xs
-stamps_before last [] ys rise = tt
-stamps_before last (x ∷ xs) ys rise = (rise.0, stamps_before x.plain.stamp xs ys rise.1)
-
 -- where it went
 goes_so : (s : DeskState) (r : EntryRoute) (item : ItemData) (words : List AnswerWord) (quit : Bool) (t : DeskState) → DispatchStep s r (Some item) words quit t → WentByRule s item r words quit t ⊎ WasGivenUp s r words quit t
 goes_so s went.NoMemory item words quit t d = inr (record { route = refl; wordless = d.0; goes_on = d.1.0; unchanged = d.1.1 })
@@ -123,10 +121,10 @@ module _ (follows : EachEntryFollows) (tells : EntryTellsReply) where
         of_it = (λ i. dispatched_item (is i) (has.1 i));
         meets = at.meets;
         leaves = at.leaves;
-        leads_there = record { replays = at.before_it; stamps = stamps_before 0 before (entry ∷ behind) history.stamps };
+        leads_there = record { replays = at.before_it; stamps = rise_before stamp_number 0 before (entry ∷ behind) history.stamps };
         leads_on = record {
           replays = replays_on looper 0 opening before at.meets entry at.leaves at.before_it at.step;
-          stamps = stamps_before 0 (before ++ entry ∷ []) behind (subst (StampsRise 0) (sym (append_assoc before (entry ∷ []) behind)) history.stamps);
+          stamps = rise_before stamp_number 0 (before ++ entry ∷ []) behind (subst (StampsRise 0) (sym (append_assoc before (entry ∷ []) behind)) history.stamps);
         };
         goes = goes_so at.meets r has.0 words quit at.leaves with_its;
         reply = (tells at.meets r (Some has.0) words quit quit at.leaves at.leaves with_its with_its).2;

@@ -3,24 +3,21 @@ use Rattle.std.proofs.Common.{◌≡◌, ℕ, ◌+◌, true, false, List, [], �
 use Rattle.std.proofs.lemmas.Bool.{false_from_ne_true, false≢true}
 use Rattle.std.proofs.lemmas.List.Elements.{All-cons, All-nil}
 use Rattle.ak_turn.specs.Noted.{Noted, noted}
+use Rattle.ak_turn.proofs.Surface.{rise_before}
 use Rattle.ak_port.specs.declared.port_entry.PortEntry.{PortEntry}
 use Rattle.ak_port.specs.declared.port_entry.PortEvent.{PortEvent}
 use Rattle.ak_port.specs.declared.port_entry.PortEvent.TheVariants as event
-use Rattle.ak_port.specs.PortCalls.{IsRest, by_number}
+use Rattle.ak_port.specs.PortCalls.{IsRest, by_number, stamp_number}
 use Rattle.ak_port.specs.PortLaws.{WithinLimits}
-use Rattle.ak_port.specs.PortMachine.{AreSteps, IsAllowed, IsPort, PortState, PortStep, StampsRise, follows_making, pending_count, replayed, state_after, state_of, taken_items, unmade, written_in}
+use Rattle.ak_port.specs.PortMachine.{AreSteps, IsAllowed, IsPort, PortState, PortStep, follows_making, pending_count, replayed, state_after, state_of, taken_items, unmade, written_in}
 use Rattle.ak_port.specs.TakerLaws.{HasEnded, NothingAfterRest, TakenAreCounted}
 use Rattle.ak_port.proofs.Surface.{AreSteps-before, AreSteps-behind, state_of-push}
 use Rattle.ak_diary.specs.Laws.{IsNoRest, TakesRestOnce}
 use Rattle.ak_diary.proofs.Lists.{stands_at}
 
 -- ---- a list in two parts
-stamps_before : (last : ℕ) (xs ys : List PortEntry) → StampsRise last (xs ++ ys) → StampsRise last xs
-stamps_before last [] ys rise = tt
-stamps_before last (x ∷ xs) ys rise = (rise.0, stamps_before x.stamp xs ys rise.1)
-
 first_part : (taker : ℕ) (xs ys : List PortEntry) → IsPort taker (xs ++ ys) → (state_of xs).made ≡ true → IsPort taker xs
-first_part taker xs ys port made = record { steps = AreSteps-before taker unmade xs ys port.steps; stamps = stamps_before 0 xs ys port.stamps; made = made }
+first_part taker xs ys port made = record { steps = AreSteps-before taker unmade xs ys port.steps; stamps = rise_before stamp_number 0 xs ys port.stamps; made = made }
 
 -- ---- entries that take the rest
 rested_after : (s : PortState) (e : PortEvent) → s.rested ≡ true → (state_after s e).rested ≡ true

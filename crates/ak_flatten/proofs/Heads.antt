@@ -12,6 +12,7 @@ use Rattle.ak_message.specs.declared.kind.Kind.TheVariants as k
 use Rattle.ak_message.specs.Kind.{kind_letters, code_of_kind, kind_of_code, kind_of_code-code}
 use Rattle.ak_message.specs.Message.{FieldData}
 use Rattle.ak_message.specs.Fields.{field_named}
+use Rattle.ak_message.proofs.Surface.{code-letters}
 use Rattle.ak_flatten.specs.declared.fault.FlatKind.TheVariants as fault
 use Rattle.ak_flatten.specs.Format.{magic, is_length}
 use Rattle.ak_flatten.specs.Laws.{AreBytes}
@@ -80,21 +81,6 @@ next code n one kind others is e else' = by (eqb code n) refl e where
 kind_of_code-Some : (code : ℕ) (kind : Kind) → kind_of_code code ≡ Some kind → code ≡ code_of_kind kind
 kind_of_code-Some code kind e =
     next code 0x424f4f4c k.Bool kind _ refl e (λ e. next code 0x42595445 k.Int8 kind _ refl e (λ e. next code 0x53485254 k.Int16 kind _ refl e (λ e. next code 0x4c4f4e47 k.Int32 kind _ refl e (λ e. next code 0x4c4c4e47 k.Int64 kind _ refl e (λ e. next code 0x55425954 k.UInt8 kind _ refl e (λ e. next code 0x55534854 k.UInt16 kind _ refl e (λ e. next code 0x554c4e47 k.UInt32 kind _ refl e (λ e. next code 0x554c4c47 k.UInt64 kind _ refl e (λ e. next code 0x43535452 k.Text kind _ refl e (λ e. next code 0x4d534747 k.Message kind _ refl e (λ e. next code 0x4d534e47 k.Messenger kind _ refl e (λ e. next code 0x52415754 k.Raw kind _ refl e (λ e. absurd cc)))))))))))))
-
-pub code-letters : (kind : Kind) → to_be_bytes w32 (code_of_kind kind) ≡ kind_letters kind
-code-letters k.Bool = refl
-code-letters k.Int8 = refl
-code-letters k.Int16 = refl
-code-letters k.Int32 = refl
-code-letters k.Int64 = refl
-code-letters k.UInt8 = refl
-code-letters k.UInt16 = refl
-code-letters k.UInt32 = refl
-code-letters k.UInt64 = refl
-code-letters k.Text = refl
-code-letters k.Message = refl
-code-letters k.Messenger = refl
-code-letters k.Raw = refl
 
 pub ruleset letters = (code-letters)
 

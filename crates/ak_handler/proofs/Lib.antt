@@ -16,3 +16,4 @@ pub mod Removing
 pub mod Tokens
 pub mod Surface
 pub mod Held
+pub mod Walks

@@ -12,9 +12,10 @@ use Rattle.ak_message.specs.declared.specifier.At.{At}
 use Rattle.ak_message.specs.declared.specifier.At.TheVariants as at
 use Rattle.ak_message.specs.Message.{MessageData}
 use Rattle.ak_message.specs.Reading.{Got, read_value}
+use Rattle.ak_message.specs.Written.{app_word_of}
 use Rattle.ak_hey.specs.Draft.{DraftData, new_draft, with_specifier, with_got, short_message}
 use Rattle.ak_hey.specs.Hey.{elements}
-use Rattle.ak_hey.specs.Words.{app_word_of, verb_of, is_property}
+use Rattle.ak_hey.specs.Words.{verb_of, is_property}
 
 -- ---- specifiers: a property, and its elements in brackets or by a name in quotes, or none
 pub record SpecText : Type 0 where

@@ -11,12 +11,12 @@ use Rattle.ak_message.specs.declared.specifier.At.{At}
 use Rattle.ak_message.specs.declared.specifier.At.TheVariants as at
 use Rattle.ak_message.specs.Message.{MessageData}
 use Rattle.ak_message.specs.Reading.{field_split, read_value}
+use Rattle.ak_message.specs.Written.{app_word_of, quoted_text}
 use Rattle.ak_hey.specs.declared.reading.Place.{Place}
 use Rattle.ak_hey.specs.declared.reading.Place.TheVariants as place
 use Rattle.ak_hey.specs.Brackets.{bracket_at}
 use Rattle.ak_hey.specs.Draft.{DraftData, new_draft, with_specifier, with_got, short_message}
-use Rattle.ak_hey.specs.Values.{quoted_from}
-use Rattle.ak_hey.specs.Words.{app_word_of, verb_of, is_property}
+use Rattle.ak_hey.specs.Words.{verb_of, is_property}
 
 -- ---- behind the verb
 -- what leads on behind a property and its elements
@@ -51,7 +51,7 @@ named Over = Over
 named (Within name) = Within (at.Name name)
 
 abbrev pub elements : List ℕ → Option (Limited At)
-elements word = if starts_with ◌==◌ word (91 ∷ []) then bracket word else option_map named (quoted_from word)
+elements word = if starts_with ◌==◌ word (91 ∷ []) then bracket word else option_map named (quoted_text word)
 
 abbrev pub key_or : Option Place → Option (Limited At) → Option (Place × Limited At)
 key_or (Some p) elements = Some (p, Within at.Direct)

@@ -7,5 +7,4 @@ pub mod Hey
 pub mod Kindred
 pub mod Laws
 pub mod Seen
-pub mod Values
 pub mod Words

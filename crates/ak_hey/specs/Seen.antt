@@ -4,23 +4,16 @@ use Rattle.std.specs.Borrow.{Bor}
 use Rattle.ak_base.specs.declared.app_word.AppWord.{AppWord}
 use Rattle.ak_base.specs.declared.limited.Limited.{Limited}
 use Rattle.ak_base.specs.declared.limited.Limited.TheVariants.{Within}
-use Rattle.ak_base.specs.Limited.{limited_map}
 use Rattle.ak_message.specs.declared.kind.Kind.{Kind}
 use Rattle.ak_message.specs.Message.{MessageData}
-use Rattle.ak_message.specs.Reading.{Got}
-use Rattle.ak_message.specs.Seen.{value_of}
 use Rattle.indexmap.specs.IndexMap.{IndexMap}
 use Rattle.ak_hey.specs.declared.HeyLine.{HeyLine}
 use Rattle.ak_hey.specs.declared.draft.Draft.{Draft}
 use Rattle.ak_hey.specs.declared.reading.Place.{Place}
 use Rattle.ak_hey.specs.declared.reading.Reading.{Reading}
 use Rattle.ak_hey.specs.declared.reading.Reading.TheVariants as reading
-use Rattle.ak_hey.specs.declared.value.ReadValue.{ReadValue}
 use Rattle.ak_hey.specs.Draft.{DraftData}
 use Rattle.ak_hey.specs.Hey.{State, start, hey, at_app, body}
-
-abbrev pub got_of : ReadValue → Got
-got_of r = record { kind = r.kind; value = limited_map value_of r.value }
 
 abbrev pub named_kind : Bor (List ℕ) × Kind → List ℕ × Kind
 named_kind x = (x.0.now, x.1)

@@ -1,48 +1,15 @@
 -- Words of a hey line by themselves.
-use Rattle.std.specs.Prelude.{ℕ, Bool, not, ◌&&◌, ◌||◌, ◌==◌, nat_le, if◌then◌else◌, List, codes, Option, Some, None, option_map}
+use Rattle.std.specs.Prelude.{ℕ, Bool, not, ◌&&◌, ◌||◌, if◌then◌else◌, List, codes, Option, Some}
 use Rattle.std.specs.Int.{w32, from_be_bytes}
-use Rattle.std.specs.List.{list_any}
 use Rattle.std.specs.Str.{bytes_eq}
-use Rattle.ak_base.specs.AppName.{is_signature}
 use Rattle.ak_base.specs.Word.{is_word}
-use Rattle.ak_base.specs.Option.{where_true, ◌>>=◌}
-use Rattle.ak_base.specs.declared.app_word.AppWord.{AppWord}
-use Rattle.ak_base.specs.declared.app_word.AppWord.TheVariants as app
 use Rattle.ak_base.specs.declared.code.Code.{Code}
-use Rattle.ak_message.specs.Payload.{uint_within}
-use Rattle.ak_message.specs.Reading.{code_from}
-
--- the number that a word writes, in this range
-abbrev pub number_within : List ℕ → ℕ → ℕ → Option ℕ
-number_within word least most = uint_within most word >>= λ n. where_true (nat_le least n) n
-
--- ---- the application
--- its name has no `/`
-abbrev pub is_app_name : List ℕ → Bool
-is_app_name bytes = is_word bytes && not (list_any (λ b. b == 47) bytes)
-
--- a signature, or else a name
-abbrev pub named_app : List ℕ → Option AppWord
-named_app word = if is_signature word then Some (app.Signature word) else where_true (is_app_name word) (app.Name word)
-
-abbrev pub team_or_name : Option ℕ → List ℕ → Option AppWord
-team_or_name (Some team) word = Some (app.Team team)
-team_or_name None word = named_app word
-
--- a team by its number, or else one that is named
-unfoldable pub app_word_of : List ℕ → Option AppWord
-app_word_of word = team_or_name (number_within word 0 4294967295) word
+use Rattle.ak_message.specs.Written.{coded, code_of}
 
 -- ---- the verb
-abbrev pub coded : ℕ → Code
-coded n = record { 0 = n }
-
 -- the code of four letters
 abbrev pub command : List ℕ → Option Code
 command letters = Some (coded (from_be_bytes w32 letters))
-
-abbrev pub code_of : List ℕ → Option Code
-code_of word = option_map coded (code_from word)
 
 -- one of the verbs, or else a code
 abbrev pub verb_of : List ℕ → Option Code

@@ -3,8 +3,7 @@
 ghost use Rattle.std.specs.Prelude.{◌≡◌, ◌≤◌, ◌<◌, IfSome, length, position, option_map};
 ghost use Rattle.ak_hey.specs.Brackets as reads;
 
-use crate::words::number_within;
-use ak_message::At;
+use ak_message::{At, read_number};
 
 // The greatest index, count and id.
 const MOST: u32 = 2_147_483_647;
@@ -126,7 +125,7 @@ fn one_at(part: &[u8]) -> Option<At>
 fn number_from(part: &[u8], least: u32) -> Option<i32>
     ensures { result ≡ reads.number_from part.now least }
 {
-    Some(number_within(part, least, MOST)? as i32)
+    Some(read_number(part, least, MOST)? as i32)
 }
 
 // What stands behind that sign, where the part begins with it.
@@ -151,8 +150,8 @@ fn range_at(first: &[u8], last: &[u8]) -> Option<At>
 fn range(first: &[u8], last: &[u8]) -> Option<At>
     ensures { result ≡ reads.range first.now last.now }
 {
-    let first = number_within(first, 0, MOST)?;
-    let last = number_within(last, 0, MOST)?;
+    let first = read_number(first, 0, MOST)?;
+    let last = read_number(last, 0, MOST)?;
     let count = count_between(first, last)?;
     Some(At::Range {
         index: first as i32,
@@ -164,8 +163,8 @@ fn range(first: &[u8], last: &[u8]) -> Option<At>
 fn reverse_range(first: &[u8], last: &[u8]) -> Option<At>
     ensures { result ≡ reads.reverse_range first.now last.now }
 {
-    let first = number_within(first, 1, MOST)?;
-    let last = number_within(last, 1, MOST)?;
+    let first = read_number(first, 1, MOST)?;
+    let last = read_number(last, 1, MOST)?;
     let count = count_between(last, first)?;
     Some(At::ReverseRange {
         index: first as i32,

@@ -3,17 +3,17 @@
 ghost use Rattle.std.specs.Prelude.{◌≡◌, ◌≢◌, IfOk, OnErr, Err, Some, Bool};
 ghost use Rattle.ak_base.specs.declared.limited.Limited.TheVariants.{Over};
 ghost use Rattle.ak_base.specs.Limited.{limited_map};
+ghost use Rattle.ak_message.specs.ReadSeen.{got_of};
 ghost use Rattle.ak_message.specs.Reading.{with_value};
 ghost use Rattle.ak_message.specs.Seen.{value_of};
 ghost use Rattle.ak_hey.specs.Answers.{Gives};
 ghost use Rattle.ak_hey.specs.Draft as reads;
-ghost use Rattle.ak_hey.specs.Seen.{draft_of, got_of, kinds_of};
+ghost use Rattle.ak_hey.specs.Seen.{draft_of, kinds_of};
 
 use crate::fault::WordFault;
-use crate::value::ReadValue;
 use ak_base::{Code, Limited, NoMemory, Text};
 use ak_flatten::{FLAT_LIMIT, flat_len};
-use ak_message::{AddFault, At, Kind, Message, Specifier, Value};
+use ak_message::{AddFault, At, Kind, Message, ReadValue, Specifier, Value};
 use ak_specifier::add_specifier;
 use indexmap::IndexMap;
 use std::alloc::Global;

@@ -1,12 +1,1 @@
-pub mod Dispatched
-pub mod FirstInput
 pub mod Kit
-pub mod Laws
-pub mod Limits
-pub mod Messages
-pub mod Opening
-pub mod Reading
-pub mod Rows
-pub mod Run
-pub mod Seen
-pub mod Steps

@@ -1,18 +1,13 @@
-//! The program as a function: reads a source, runs the script that it gives, and writes to a sink what comes of
-//! each statement. An input is run where it is the text of a script of the first form. That is one application
-//! with one looper, its properties, its launch, and lines that get one property each. Every ending has its
-//! cause, and what was written at each ending is said.
+//! The program as a function: reads a source, carries out the script that it gives, with a thread for each looper, and
+//! writes to a sink the line of each statement. An input that is the text of no script is refused with its first
+//! fault, and nothing is launched. Every ending has its cause, and what was written at each ending is said. What holds
+//! of every run holds of this one: each message was dispatched once and by rule, and each that waits got one reply.
 #![tactic(auto)]
 
-mod fault;
-mod laws;
-mod looper;
-mod messages;
-mod reading;
-mod run;
-mod script;
-mod stopped;
+mod closing;
+mod input;
+mod kit_end;
 mod top;
 
-pub use laws::{each_property_is_answered, no_other_is_answered, one_script, steps_match};
-pub use top::{FirstRun, KitEnd, kit};
+pub use kit_end::KitEnd;
+pub use top::kit;

@@ -8,7 +8,7 @@ use Rattle.ak_turn.specs.Entries.{made_by}
 use Rattle.ak_turn.specs.Noted.{Noted, note, noted}
 use Rattle.ak_turn.specs.Seats as seats
 use Rattle.ak_turn.specs.Seats.{IsGiven, at_leisure, at_turn, entered_by, later}
-use Rattle.ak_turn.proofs.Surface.{noted-others, noted-own, still_made}
+use Rattle.ak_turn.proofs.Surface.{noted-others, noted-own, passing_keeps, still_made, turn_keeps}
 use Rattle.ak_action.specs.declared.state.DeskState.{DeskState}
 use Rattle.ak_desk.specs.Desk.{DeskData}
 use Rattle.ak_desk.specs.Entry.{EntryData}
@@ -54,14 +54,7 @@ module _ (seat given : DeskSeat) (seen : IsGiven by_number seat given) where
     whole = after ∙ ap (λ (g : DeskSeat). at_leisure (entered_by g entry)) seen.after
 
     keeps : seat.turn ≡ false → KeepsSeat seat seat'
-    keeps idle = record {
-      lock = ap (λ (s : DeskSeat). s.lock) whole;
-      opening = ap (λ (s : DeskSeat). s.opening) whole;
-      thread = ap (λ (s : DeskSeat). s.thread) whole;
-      joined = ap (λ (s : DeskSeat). s.joined) whole;
-      turn = ap (λ (s : DeskSeat). s.turn) whole ∙ sym idle;
-      names = ap (λ (s : DeskSeat). s.names) whole;
-    }
+    keeps idle = turn_keeps by_number seat given seat' idle seen (passing_keeps entry given seat' after)
 
   -- the thread's own entry is noted, with all that stood before it
   notes_one : (n : Noted EntryData) (seat' : DeskSeat) → seat' ≡ at_leisure (entered_by given n.entry) → n.before ≡ given.front → by_number n.entry ≡ seat.thread

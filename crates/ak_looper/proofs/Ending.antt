@@ -23,7 +23,7 @@ use Rattle.ak_looper.specs.Living.{HasRestedSo, Later, kind_of}
 use Rattle.ak_looper.specs.Rosters.{RosterSeat}
 use Rattle.ak_looper.specs.Stands.{BookStands, DeskStands, DoorStands, GoesOn, IsAtOneOf, PortStands, RosterStands, Stands}
 use Rattle.ak_looper.specs.Ways.{KeepsPlaces}
-use Rattle.ak_looper.proofs.Going.{keeps_seat_on}
+use Rattle.ak_turn.proofs.Surface.{keeps_then_keeps}
 use Rattle.ak_diary.proofs.Surface.{IsServing, are_quiet, quiet_at_no_desk, serving_not_short}
 use Rattle.ak_looper.proofs.Tallies.{desk-append, none_in_hand, short-append}
 use Rattle.ak_diary.specs.Diary.{by_quit, by_team, ending_of, without_memory}
@@ -145,15 +145,15 @@ module _ (job : LooperJob) (first life : Life) (k : EndKind) (end : LooperEnd) (
     book_kept =
         subst (λ (h : Hands). KeepsSeat h.book_seat end.hands.book_seat) b.hands
         (subst (λ (h : Hands). KeepsSeat first.reach.hands.book_seat h.book_seat) (sym e.hands)
-        (keeps_seat_on first.reach.hands.book_seat life.reach.hands.book_seat e.reach.hands.book_seat keeps.book_seat e.keeps.book_seat));
+        (keeps_then_keeps first.reach.hands.book_seat life.reach.hands.book_seat e.reach.hands.book_seat keeps.book_seat e.keeps.book_seat));
     roster_kept =
         subst (λ (s : RosterSeat). KeepsSeat s end.roster_seat) b.roster_seat
         (subst (λ (s : RosterSeat). KeepsSeat first.reach.roster_seat s) (sym e.roster_seat)
-        (keeps_seat_on first.reach.roster_seat life.reach.roster_seat e.reach.roster_seat keeps.roster_seat e.keeps.roster_seat));
+        (keeps_then_keeps first.reach.roster_seat life.reach.roster_seat e.reach.roster_seat keeps.roster_seat e.keeps.roster_seat));
     port_kept =
         subst (λ (s : ports.PortSeat). KeepsSeat s end.own.port_seat) b.port_seat
         (subst (λ (s : ports.PortSeat). KeepsSeat first.reach.port_seat s) (sym e.port_seat)
-        (keeps_seat_on first.reach.port_seat life.reach.port_seat e.reach.port_seat keeps.port_seat e.keeps.port_seat));
+        (keeps_then_keeps first.reach.port_seat life.reach.port_seat e.reach.port_seat keeps.port_seat e.keeps.port_seat));
     desk_kept =
         subst (λ (s : desks.DeskSeat). KeepsSeat s end.own.desk_seat) b.desk_seat
         (subst (λ (s : desks.DeskSeat). KeepsSeat first.desk_seat s) (sym e.desk_seat) seat);

@@ -1,8 +1,7 @@
 -- A looper's thread goes on from where it stands: by no step, or by some and then by others. What its calls keep, it keeps.
 use Rattle.std.proofs.Common.{◌≡◌, ℕ, List, [], ◌++◌, refl, sym, ap, ◌∙◌, subst, append_assoc, append-nil}
 use Rattle.ak_turn.specs.declared.clock.Clock.{Clock}
-use Rattle.ak_turn.specs.Called.{KeepsSeat}
-use Rattle.ak_turn.specs.Seats.{SeatData}
+use Rattle.ak_turn.proofs.Surface.{keeps_itself, keeps_same, keeps_then_keeps}
 use Rattle.ak_port.specs.PortCalls.{CanTake}
 use Rattle.ak_diary.specs.Looper.{LooperFacts}
 use Rattle.ak_diary.specs.Step.{Step}
@@ -35,20 +34,6 @@ still_standing P r r' is goes =
     record { facts = is.facts; start = is.start; steps = is.steps ++ on.steps; stands = on.stands }
 
 -- ---- what calls keep
-module _ {O L : Type 0} where
-  pub keeps_seat : (a : SeatData O L) → KeepsSeat a a
-  keeps_seat a = record { lock = refl; opening = refl; thread = refl; joined = refl; turn = refl; names = refl }
-
-  pub keeps_seat_on : (a b c : SeatData O L) → KeepsSeat a b → KeepsSeat b c → KeepsSeat a c
-  keeps_seat_on a b c first then_on = record {
-    lock = then_on.lock ∙ first.lock;
-    opening = then_on.opening ∙ first.opening;
-    thread = then_on.thread ∙ first.thread;
-    joined = then_on.joined ∙ first.joined;
-    turn = then_on.turn ∙ first.turn;
-    names = then_on.names ∙ first.names;
-  }
-
 pub keeps_on : (a b c : Reach) → KeepsReach a b → KeepsReach b c → KeepsReach a c
 keeps_on a b c first then_on = record {
   number = then_on.number ∙ first.number;
@@ -59,9 +44,9 @@ keeps_on a b c first then_on = record {
   port = then_on.port ∙ first.port;
   roster = then_on.roster ∙ first.roster;
   thread = then_on.thread ∙ first.thread;
-  book_seat = keeps_seat_on a.hands.book_seat b.hands.book_seat c.hands.book_seat first.book_seat then_on.book_seat;
-  port_seat = keeps_seat_on a.port_seat b.port_seat c.port_seat first.port_seat then_on.port_seat;
-  roster_seat = keeps_seat_on a.roster_seat b.roster_seat c.roster_seat first.roster_seat then_on.roster_seat;
+  book_seat = keeps_then_keeps a.hands.book_seat b.hands.book_seat c.hands.book_seat first.book_seat then_on.book_seat;
+  port_seat = keeps_then_keeps a.port_seat b.port_seat c.port_seat first.port_seat then_on.port_seat;
+  roster_seat = keeps_then_keeps a.roster_seat b.roster_seat c.roster_seat first.roster_seat then_on.roster_seat;
   taking = λ thread room can. then_on.taking thread room (first.taking thread room can);
 }
 
@@ -75,9 +60,9 @@ keeps_all r = record {
   port = refl;
   roster = refl;
   thread = refl;
-  book_seat = keeps_seat r.hands.book_seat;
-  port_seat = keeps_seat r.port_seat;
-  roster_seat = keeps_seat r.roster_seat;
+  book_seat = keeps_itself r.hands.book_seat;
+  port_seat = keeps_itself r.port_seat;
+  roster_seat = keeps_itself r.roster_seat;
   taking = λ thread room can. can;
 }
 
@@ -96,9 +81,6 @@ pub record IsWithClock (clock : Clock) (r r' : Reach) : Type 0 where
   pub roster : r'.roster ≡ r.roster
   pub roster_seat : r'.roster_seat ≡ r.roster_seat
 
-same_seat : {O L : Type 0} (a b : SeatData O L) → b ≡ a → KeepsSeat a b
-same_seat a b is = subst (λ s. KeepsSeat a s) (sym is) (keeps_seat a)
-
 pub keeps_with_clock : (clock : Clock) (r r' : Reach) → clock.thread ≡ r.hands.clock.thread → IsWithClock clock r r' → KeepsReach r r'
 keeps_with_clock clock r r' thread is = record {
   number = is.number;
@@ -109,8 +91,8 @@ keeps_with_clock clock r r' thread is = record {
   port = is.port;
   roster = is.roster;
   thread = ap (λ (c : Clock). c.thread) is.clock_is ∙ thread;
-  book_seat = same_seat r.hands.book_seat r'.hands.book_seat is.book_seat;
-  port_seat = same_seat r.port_seat r'.port_seat is.port_seat;
-  roster_seat = same_seat r.roster_seat r'.roster_seat is.roster_seat;
+  book_seat = keeps_same r.hands.book_seat r'.hands.book_seat is.book_seat;
+  port_seat = keeps_same r.port_seat r'.port_seat is.port_seat;
+  roster_seat = keeps_same r.roster_seat r'.roster_seat is.roster_seat;
   taking = λ thread room can. subst (CanTake thread room) (sym is.port_seat) can;
 }

@@ -8,6 +8,7 @@ use Rattle.std.proofs.lemmas.Option.{same_Some, slice_get-get_or, slice_get_with
 use Rattle.ak_turn.specs.Entries.{StartsWith}
 use Rattle.ak_turn.specs.Noted.{Noted, noted}
 use Rattle.ak_turn.specs.Seats.{LockId}
+use Rattle.ak_turn.proofs.Surface.{seen_still}
 use Rattle.ak_port.specs.declared.port_entry.PortEntry.{PortEntry}
 use Rattle.ak_port.specs.declared.reply_entry.ReplyEntry.{ReplyEntry}
 use Rattle.ak_port.specs.PortCalls.{PortSeat}
@@ -20,7 +21,7 @@ use Rattle.ak_looper.specs.declared.reach.Reach.{Reach}
 use Rattle.ak_looper.specs.Rosters.{LeadsTo, RosterSeat, plain_of}
 use Rattle.ak_looper.specs.Side.{IsOnSide, Side, SideDoes, SideGoes, side}
 use Rattle.ak_looper.specs.Stands.{BookStands, DoorStands, GoesOn, IsAtOneOf, PortStands, RosterStands, Stands, StartsTeam, doors_kept, numbers_of}
-use Rattle.ak_looper.proofs.Sides.{seen_still, stamped_behind, time_behind}
+use Rattle.ak_looper.proofs.Sides.{stamped_behind, time_behind}
 
 -- ---- what steps at one port and at the book leave elsewhere
 module _ (looper : ℕ) where

@@ -22,13 +22,13 @@ use Rattle.ak_diary.specs.Step.{Step, at_roster, at_book, at_port, at_desk, saw_
 use Rattle.ak_diary.specs.Wants.{LacksDoor, Opens}
 use Rattle.ak_looper.specs.declared.door.Door.{Door}
 use Rattle.ak_looper.specs.declared.reach.Reach.{Reach}
-use Rattle.ak_looper.specs.Rosters.{HasLooked, LeadsTo, RosterSeat}
+use Rattle.ak_looper.specs.Rosters.{HasLooked, LeadsTo, RosterSeat, by_number}
 use Rattle.ak_looper.specs.RosterCalls.{HasEnteredDoor, IsPartOf}
 use Rattle.ak_looper.specs.Stands.{DoorStands, GoesOn, IsAtOneOf, PortStands, Stands, numbers_of}
 use Rattle.ak_looper.proofs.Kept.{has_none, has_other, has_own, opens_none, opens_now}
 use Rattle.ak_looper.proofs.RosterStands.{IsSameBeside, stands_beside, stands_with}
 use Rattle.ak_looper.proofs.RosterSteps.{entered_goes, looked_goes, noted_call}
-use Rattle.ak_looper.proofs.RosterTurns.{seen_nothing}
+use Rattle.ak_turn.proofs.Surface.{seen_nothing}
 
 -- ---- at a port to which it has no way it did nothing
 other_number : {A : Type 0} (ways : List ℕ) (number looper : ℕ) (x : A) → Contains ways number → (Contains ways looper → ⊥) → (if number == looper then x ∷ [] else []) ≡ []
@@ -111,7 +111,7 @@ lacks_door l start so_far r r' looper stands same items looked other none = reco
 
 -- nothing was done at the roster
 pub looked_at_nothing : (clock : Clock) (seat : RosterSeat) → HasLooked clock clock seat seat
-looked_at_nothing clock seat = record { seen = seen_nothing seat; clocked = refl }
+looked_at_nothing clock seat = record { seen = seen_nothing by_number seat; clocked = refl }
 
 -- ---- it gets the door
 module _ (l : LooperFacts) (start : ℕ) (so_far : List Step) (r r' : Reach) (looper : ℕ) (door : Door) (stands : Stands l start so_far r) (same : IsSameBeside r r') (items : r'.doors.items ≡ r.doors.items ++ (looper, door) ∷ [])

@@ -7,6 +7,7 @@ use Rattle.std.proofs.lemmas.List.Concat.{flat_map-append}
 use Rattle.std.proofs.lemmas.List.Elements.{All-append, All-head, All-nil, All-tail, All-weaker, Contains-append_left}
 use Rattle.ak_turn.specs.Entries.{StartsWith}
 use Rattle.ak_turn.specs.Noted.{Noted, noted}
+use Rattle.ak_turn.proofs.Surface.{starts_then_starts}
 use Rattle.ak_roster.specs.declared.entry.EntryWithObjects.{EntryWithObjects}
 use Rattle.ak_roster.specs.declared.entry.RosterEntry.{RosterEntry}
 use Rattle.ak_roster.specs.Roster.{objects_of, plain_entries}
@@ -24,9 +25,6 @@ use Rattle.ak_looper.proofs.RosterSteps.{DoesNoDoor, any_still}
 use Rattle.ak_looper.proofs.RosterTurns.{leads_on}
 
 -- ---- lists that go on
-pub starts_still : {X : Type 0} (xs ys zs : List X) → StartsWith ys xs → StartsWith zs ys → StartsWith zs xs
-starts_still xs ys zs one two = (one.0 ++ two.0, two.1 ∙ ap (λ l. l ++ two.0) one.1 ∙ append_assoc xs one.0 two.0)
-
 plain_starts : (front front' : List (EntryWithObjects Object)) → StartsWith front' front → StartsWith (plain_entries front') (plain_entries front)
 plain_starts front front' on =
     let plain : EntryWithObjects Object → RosterEntry = λ e. e.plain in
@@ -149,7 +147,7 @@ module _ (l : LooperFacts) (start : ℕ) (so_far steps : List Step) (r r' : Reac
         noted_is = goes.noted_is ∙ ap (λ (ns : List (Noted RosterEntry)). ns ++ roster_entries steps) stands.roster.noted_is ∙ sym (flat_map-append roster_entry so_far steps);
         seen = subst (λ (lists : List (List RosterEntry)). All (StartsWith (plain_of r'.roster_seat)) lists) (sym (flat_map-append roster_sight so_far steps))
             (All-append (StartsWith (plain_of r'.roster_seat)) (roster_sights so_far) (roster_sights steps)
-            (All-weaker (StartsWith (plain_of r.roster_seat)) (StartsWith (plain_of r'.roster_seat)) (λ seen starts. starts_still seen (plain_of r.roster_seat) (plain_of r'.roster_seat) starts shown) (roster_sights so_far) stands.roster.seen)
+            (All-weaker (StartsWith (plain_of r.roster_seat)) (StartsWith (plain_of r'.roster_seat)) (λ seen starts. starts_then_starts seen (plain_of r.roster_seat) (plain_of r'.roster_seat) starts shown) (roster_sights so_far) stands.roster.seen)
             goes.seen);
       }
 

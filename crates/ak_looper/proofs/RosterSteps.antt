@@ -1,5 +1,5 @@
 -- What a call at the roster is as steps of the thread.
-use Rattle.std.proofs.Common.{◌≡◌, ◌≢◌, ℕ, ◌+◌, ◌-◌, ◌<◌, max, Bool, true, List, [], ◌∷◌, ◌++◌, length, map, Any, Option, None, Some, inl, inr, refl, sym, ap, ◌∙◌, subst, append_assoc, append-nil, length-append, arith}
+use Rattle.std.proofs.Common.{◌≡◌, ◌≢◌, ℕ, ◌+◌, ◌-◌, ◌<◌, max, Bool, true, List, [], ◌∷◌, ◌++◌, length, map, Any, Option, None, Some, inl, inr, refl, sym, ap, ◌∙◌, subst, append-nil, length-append, arith}
 use Rattle.std.specs.Prelude.{option_map, slice_get, unwrap_or}
 use Rattle.std.specs.List.{list_any}
 use Rattle.std.proofs.lemmas.List.{get_or-map, get_or_append_left, length-map, map-append}
@@ -9,7 +9,7 @@ use Rattle.ak_base.specs.declared.app_word.AppWord.{AppWord}
 use Rattle.ak_turn.specs.declared.clock.Clock.{Clock}
 use Rattle.ak_turn.specs.Entries.{AreByOthers, StartsWith, last_stamp_of}
 use Rattle.ak_turn.specs.Noted.{Noted, note, noted}
-use Rattle.ak_turn.proofs.Surface.{noted-others, noted-own, same_before}
+use Rattle.ak_turn.proofs.Surface.{called_keeps, called_starts, noted-others, noted-own, same_before, seen_keeps, seen_starts, starts_itself}
 use Rattle.ak_roster.specs.declared.entry.EntryWithObjects.{EntryWithObjects}
 use Rattle.ak_roster.specs.declared.entry.RosterEntry.{RosterEntry}
 use Rattle.ak_roster.specs.declared.entry.RosterEvent.{RosterEvent}
@@ -29,7 +29,6 @@ use Rattle.ak_diary.specs.Wants.{LooksUp, ServesFind, found_answer}
 use Rattle.ak_looper.specs.Rosters.{HasEntered, HasLooked, IsAtRoster, Object, RosterGoes, RosterSeat, by_number, maker_of, plain_of}
 use Rattle.ak_looper.specs.Stands.{StartsTeam}
 use Rattle.ak_looper.specs.RosterCalls.{HasFound, HasLeft, HasLookedUp, HasSeenGone, entered, seen}
-use Rattle.ak_looper.proofs.RosterTurns.{keeps_called, keeps_seen}
 
 -- ---- the journal shows the same
 plain_by_others : (thread : ℕ) (entries : List (EntryWithObjects Object)) → AreByOthers by_number thread entries → AreByOthers maker_of thread (plain_entries entries)
@@ -51,9 +50,6 @@ last_shown entries =
     ∙ ap (λ (n : ℕ). option_map roster_stamp (slice_get (map plain entries) (n - 1))) (sym (length-map entries plain)))
 
 -- ---- without an entry
-starts_itself : {X : Type 0} (xs : List X) → StartsWith xs xs
-starts_itself xs = ([], sym (append-nil xs))
-
 noted_seen : (seat seat' : RosterSeat) (clock clock' : Clock) → HasLooked clock clock' seat seat' → noted maker_of seat'.thread (plain_of seat') ≡ noted maker_of seat.thread (plain_of seat)
 noted_seen seat seat' clock clock' looked =
     let between = looked.seen.between in
@@ -70,8 +66,8 @@ module _ (clock clock' : Clock) (seat seat' : RosterSeat) (looked : HasLooked cl
     thread = ap (λ (k : Clock). k.thread) looked.clocked;
     stamped = tt;
     time = sym (ap (λ (k : Clock). k.time) looked.clocked);
-    keeps = keeps_seen seat seat' looked.seen;
-    on = (looked.seen.between, ap (λ (s : RosterSeat). s.front) looked.seen.after);
+    keeps = seen_keeps by_number seat seat' looked.seen;
+    on = seen_starts by_number seat seat' looked.seen;
     noted_is = noted_nothing;
     seen = All-nil (StartsWith (plain_of seat'));
   }
@@ -83,8 +79,8 @@ module _ (clock clock' : Clock) (seat seat' : RosterSeat) (looked : HasLooked cl
     thread = ap (λ (k : Clock). k.thread) looked.clocked;
     stamped = (tt, tt);
     time = sym (ap (λ (k : Clock). k.time) looked.clocked);
-    keeps = keeps_seen seat seat' looked.seen;
-    on = (looked.seen.between, ap (λ (s : RosterSeat). s.front) looked.seen.after);
+    keeps = seen_keeps by_number seat seat' looked.seen;
+    on = seen_starts by_number seat seat' looked.seen;
     noted_is = noted_nothing;
     seen = All-cons (StartsWith (plain_of seat')) (plain_of seat') [] (starts_itself (plain_of seat')) (All-nil (StartsWith (plain_of seat')));
   }
@@ -115,8 +111,8 @@ module _ (clock clock' : Clock) (e : RosterEvent) (seat seat' : RosterSeat) (mad
         thread = ap (λ (k : Clock). k.thread) made.clocked;
         stamped = (ap (λ (n : ℕ). 1 + max clock.time n) (last_shown made.before), tt);
         time = sym (ap (λ (k : Clock). k.time) made.clocked);
-        keeps = keeps_called x seat seat' made.called;
-        on = (made.called.between ++ x ∷ [], ap (λ (s : RosterSeat). s.front) made.called.after ∙ append_assoc seat.front made.called.between (x ∷ []));
+        keeps = called_keeps by_number x seat seat' made.called;
+        on = called_starts by_number x seat seat' made.called;
         noted_is = noted_one;
         seen = All-nil (StartsWith (plain_of seat'));
       }

@@ -1,16 +1,15 @@
 -- What one turn at the roster comes to, from what the turn, the book and the end of the turn told.
-use Rattle.std.proofs.Common.{◌≡◌, ◌≢◌, ℕ, zero, suc, Bool, false, List, [], ◌∷◌, ◌++◌, map, Option, None, Some, refl, sym, ap, ◌∙◌, subst, append_assoc, append-nil}
+use Rattle.std.proofs.Common.{◌≡◌, ℕ, zero, suc, Bool, false, List, [], ◌∷◌, ◌++◌, map, Option, None, Some, refl, sym, ap, ◌∙◌, subst, append_assoc}
 use Rattle.std.specs.Prelude.{slice_get}
 use Rattle.std.proofs.lemmas.List.Concat.{flat_map-append}
-use Rattle.std.proofs.lemmas.List.Elements.{All-nil}
 use Rattle.ak_base.specs.declared.app_word.AppWord.{AppWord}
 use Rattle.ak_turn.specs.declared.clock.Clock.{Clock}
 use Rattle.ak_turn.specs.Called as at_lock
-use Rattle.ak_turn.specs.Called.{KeepsSeat}
 use Rattle.ak_turn.specs.Entries.{AreByOthers, made_by}
 use Rattle.ak_turn.specs.Noted.{entry_of}
-use Rattle.ak_turn.specs.Seats.{HasCalled, HasSeen, IsGiven, at_leisure, entered_by, later, with_own}
-use Rattle.ak_turn.proofs.Surface.{noted-others, noted_is_made, seen_then_called, seen_then_seen}
+use Rattle.ak_turn.specs.Seats.{HasSeen, IsGiven, at_leisure, entered_by, later, with_own}
+use Rattle.ak_turn.proofs.Surface as seats
+use Rattle.ak_turn.proofs.Surface.{noted-others, noted_is_made}
 use Rattle.ak_roster.specs.declared.answer.FindAnswer.{FindAnswer}
 use Rattle.ak_roster.specs.declared.answer.FindAnswer.TheVariants as found
 use Rattle.ak_roster.specs.declared.entry.EntryWithObjects.{EntryWithObjects}
@@ -20,7 +19,7 @@ use Rattle.ak_roster.specs.declared.team.Running.{Running}
 use Rattle.ak_roster.specs.Answers.{OnFound, UnlessFound, answer_of}
 use Rattle.ak_roster.specs.Heads.{team_for}
 use Rattle.ak_roster.specs.Machine.{IsHistory, find_of, state_of}
-use Rattle.ak_roster.specs.Roster.{Enters, IsStranger, RosterData, Stays, new_entry, objects_of, plain_entries, stamp_number, state}
+use Rattle.ak_roster.specs.Roster.{Enters, IsStranger, RosterData, Stays, entry_with, new_entry, objects_of, plain_entries, stamp_number, state}
 use Rattle.ak_action.specs.declared.answer.Answer.{Answer}
 use Rattle.ak_diary.specs.Wants.{found_answer}
 use Rattle.ak_looper.specs.Rosters.{HasEntered, HasLooked, MayGetDoor, Object, RosterSeat, by_number}
@@ -128,43 +127,8 @@ module _ {D : Type 0} (seat given seat' : RosterSeat) (book book' : RosterData D
   found_by_turn f a heard is enters stays = subst (λ (b : Answer). HasFound word b clock clock' seat seat') (sym heard) (found_so f is enters stays)
 
 -- ---- one call after another
-pub seen_nothing : (x : RosterSeat) → HasSeen by_number x x
-seen_nothing x =
-    let at : List (EntryWithObjects Object) → RosterSeat = λ l. record x { front = l } in
-    record { between = []; others = All-nil (λ (entry : EntryWithObjects Object). by_number entry ≢ x.thread); after = ap at (sym (append-nil x.front)) }
-
-pub seen_then_looked : (clock a b : Clock) (x y z : RosterSeat) → HasSeen by_number x y → a ≡ clock → HasLooked a b y z → HasLooked clock b x z
-seen_then_looked clock a b x y z one same two = record { seen = seen_then_seen by_number x y z one two.seen; clocked = two.clocked ∙ same }
-
 pub seen_then_entered : (e : RosterEvent) (clock a b : Clock) (x y z : RosterSeat) → HasSeen by_number x y → a ≡ clock → HasEntered a b e y z → HasEntered clock b e x z
-seen_then_entered e clock a b x y z one same two =
-    let now : Clock → EntryWithObjects Object = λ k. new_entry k two.before e [] in
-    record {
-      before = two.before;
-      front = two.front ∙ ap (λ (k : Clock). two.before ++ now k ∷ []) same;
-      called = subst (λ (k : Clock). HasCalled by_number (now k) x z) same (seen_then_called by_number (now a) x y z one two.called);
-      clocked = two.clocked ∙ ap (λ (k : Clock). at_lock.clock_after stamp_number k two.before) same;
-    }
-
-pub keeps_seen : (x y : RosterSeat) → HasSeen by_number x y → KeepsSeat x y
-keeps_seen x y seen = record {
-  lock = ap (λ (s : RosterSeat). s.lock) seen.after;
-  opening = ap (λ (s : RosterSeat). s.opening) seen.after;
-  thread = ap (λ (s : RosterSeat). s.thread) seen.after;
-  joined = ap (λ (s : RosterSeat). s.joined) seen.after;
-  turn = ap (λ (s : RosterSeat). s.turn) seen.after;
-  names = ap (λ (s : RosterSeat). s.names) seen.after;
-}
-
-pub keeps_called : (entry : EntryWithObjects Object) (x y : RosterSeat) → HasCalled by_number entry x y → KeepsSeat x y
-keeps_called entry x y called = record {
-  lock = ap (λ (s : RosterSeat). s.lock) called.after;
-  opening = ap (λ (s : RosterSeat). s.opening) called.after;
-  thread = ap (λ (s : RosterSeat). s.thread) called.after;
-  joined = ap (λ (s : RosterSeat). s.joined) called.after;
-  turn = ap (λ (s : RosterSeat). s.turn) called.after;
-  names = ap (λ (s : RosterSeat). s.names) called.after;
-}
+seen_then_entered e clock a b x y z one same two = seats.seen_then_entered by_number stamp_number (entry_with []) e clock a b x y z one same two
 
 -- ---- who may get a door
 -- at the turn the thread has no part of what the looper's door leads to

@@ -1,13 +1,13 @@
 -- What a thread did at the book and at one port, by no step, by one, and by steps behind others.
 use Rattle.std.proofs.Common.{◌≡◌, ℕ, Bool, List, [], ◌∷◌, ◌++◌, All, cond, refl, sym, ap, ◌∙◌, subst, append_assoc, append-nil, eq-eqb}
 use Rattle.std.proofs.lemmas.List.Concat.{flat_map-append}
-use Rattle.std.proofs.lemmas.List.Elements.{All-append, All-cons, All-nil, All-weaker}
+use Rattle.std.proofs.lemmas.List.Elements.{All-append, All-cons, All-nil}
 use Rattle.ak_turn.specs.declared.clock.Clock.{Clock}
 use Rattle.ak_turn.specs.Called.{KeepsSeat}
 use Rattle.ak_turn.specs.Entries.{StartsWith}
 use Rattle.ak_turn.specs.Noted.{Noted, note, noted}
 use Rattle.ak_turn.specs.Seats.{SeatData, HasCalled, HasSeen}
-use Rattle.ak_turn.proofs.Surface.{called_notes_one, seen_notes_nothing}
+use Rattle.ak_turn.proofs.Surface.{called_keeps, called_notes_one, called_starts, keeps_itself, keeps_then_keeps, seen_keeps, seen_notes_nothing, seen_starts, seen_still, starts_itself, starts_then_starts}
 use Rattle.ak_port.specs.declared.port_entry.PortEntry.{PortEntry}
 use Rattle.ak_port.specs.declared.port_entry.PortEvent.{PortEvent}
 use Rattle.ak_port.specs.declared.reply_entry.ReplyEntry.{ReplyEntry}
@@ -17,7 +17,6 @@ use Rattle.ak_port.specs.PortCalls.{PortSeat}
 use Rattle.ak_port.specs.ReplySeats as books
 use Rattle.ak_port.specs.ReplySeats.{ReplySeat}
 use Rattle.ak_diary.specs.Step.{Step, at_book, at_port, saw_book, saw_port, lacked, AreStamped, book_entries, book_entry, book_sight, book_sights, port_entries, port_entry, port_sight, port_sights, time_after, time_of}
-use Rattle.ak_looper.proofs.Going.{keeps_seat, keeps_seat_on}
 use Rattle.ak_looper.specs.Side.{Side, SideDoes, SideGoes, IsOnSide, side}
 
 -- ---- stamps of steps behind others
@@ -29,31 +28,9 @@ pub stamped_behind : (time : ℕ) (xs ys : List Step) → AreStamped time xs →
 stamped_behind time [] ys one two = two
 stamped_behind time (step ∷ xs) ys one two = (one.0, stamped_behind (time_after time step) xs ys one.1 two)
 
--- ---- lists that go on
-module _ {L : Type 0} where
-  pub starts_itself : (a : List L) → StartsWith a a
-  starts_itself a = ([], sym (append-nil a))
-
-  pub starts_then : (a b c : List L) → StartsWith b a → StartsWith c b → StartsWith c a
-  starts_then a b c one two = (one.0 ++ two.0, two.1 ∙ ap (λ (l : List L). l ++ two.0) one.1 ∙ append_assoc a one.0 two.0)
-
-  -- what was seen is still a beginning
-  pub seen_still : (b c : List L) (seen : List (List L)) → StartsWith c b → All (StartsWith b) seen → All (StartsWith c) seen
-  seen_still b c seen on all = All-weaker (StartsWith b) (StartsWith c) (λ a starts. starts_then a b c starts on) seen all
-
 -- ---- one seat
 module _ {O L : Type 0} where
   module _ (by : L → ℕ) where
-    keeps_seen : (a b : SeatData O L) → HasSeen by a b → KeepsSeat a b
-    keeps_seen a b seen =
-        let after = seen.after in
-        record { lock = ap (λ s. s.lock) after; opening = ap (λ s. s.opening) after; thread = ap (λ s. s.thread) after; joined = ap (λ s. s.joined) after; turn = ap (λ s. s.turn) after; names = ap (λ s. s.names) after }
-
-    keeps_called : (entry : L) (a b : SeatData O L) → HasCalled by entry a b → KeepsSeat a b
-    keeps_called entry a b call =
-        let after = call.after in
-        record { lock = ap (λ s. s.lock) after; opening = ap (λ s. s.opening) after; thread = ap (λ s. s.thread) after; joined = ap (λ s. s.joined) after; turn = ap (λ s. s.turn) after; names = ap (λ s. s.names) after }
-
     -- the seat went on, and its thread made those entries
     pub record SeatGoes (made : List (Noted L)) (a b : SeatData O L) : Type 0 where
       pub keeps : KeepsSeat a b
@@ -61,19 +38,19 @@ module _ {O L : Type 0} where
       pub noted_is : noted by b.thread b.front ≡ noted by a.thread a.front ++ made
 
     pub stays : (a b : SeatData O L) → b ≡ a → SeatGoes [] a b
-    stays a b same = subst (λ (s : SeatData O L). SeatGoes [] a s) (sym same) (record { keeps = keeps_seat a; on = starts_itself a.front; noted_is = sym (append-nil (noted by a.thread a.front)) })
+    stays a b same = subst (λ (s : SeatData O L). SeatGoes [] a s) (sym same) (record { keeps = keeps_itself a; on = starts_itself a.front; noted_is = sym (append-nil (noted by a.thread a.front)) })
 
     pub looks : (a b : SeatData O L) → HasSeen by a b → SeatGoes [] a b
     looks a b seen = record {
-      keeps = keeps_seen a b seen;
-      on = (seen.between, ap (λ (s : SeatData O L). s.front) seen.after);
+      keeps = seen_keeps by a b seen;
+      on = seen_starts by a b seen;
       noted_is = seen_notes_nothing by a b seen ∙ sym (append-nil (noted by a.thread a.front));
     }
 
     pub calls : (entry : L) (before : List L) (a b : SeatData O L) → HasCalled by entry a b → b.front ≡ before ++ entry ∷ [] → SeatGoes (note before entry ∷ []) a b
     calls entry before a b call front = record {
-      keeps = keeps_called entry a b call;
-      on = (call.between ++ entry ∷ [], ap (λ (s : SeatData O L). s.front) call.after ∙ append_assoc a.front call.between (entry ∷ []));
+      keeps = called_keeps by entry a b call;
+      on = called_starts by entry a b call;
       noted_is = called_notes_one by entry before a b call front;
     }
 
@@ -176,7 +153,7 @@ module _ (looper : ℕ) where
         thread = ap (λ (c : Clock). c.thread) entered.clocked;
         stamped = (refl, tt);
         time = ap (λ (c : Clock). c.time) (sym entered.clocked);
-        keeps_book = keeps_seat book;
+        keeps_book = keeps_itself book;
         keeps_port = there.keeps;
         book_on = starts_itself book.front;
         port_on = there.on;
@@ -197,7 +174,7 @@ module _ (looper : ℕ) where
         stamped = (refl, tt);
         time = ap (λ (c : Clock). c.time) (sym entered.clocked);
         keeps_book = there.keeps;
-        keeps_port = keeps_seat port;
+        keeps_port = keeps_itself port;
         book_on = there.on;
         port_on = starts_itself port.front;
         book_noted = there.noted_is;
@@ -213,10 +190,10 @@ module _ (looper : ℕ) where
     thread = two.thread ∙ one.thread;
     stamped = stamped_behind a.clock.time xs ys one.stamped (subst (λ (t : ℕ). AreStamped t ys) (sym one.time) two.stamped);
     time = time_behind a.clock.time xs ys ∙ ap (λ (t : ℕ). time_of t ys) one.time ∙ two.time;
-    keeps_book = keeps_seat_on a.book b.book c.book one.keeps_book two.keeps_book;
-    keeps_port = keeps_seat_on a.port b.port c.port one.keeps_port two.keeps_port;
-    book_on = starts_then a.book.front b.book.front c.book.front one.book_on two.book_on;
-    port_on = starts_then a.port.front b.port.front c.port.front one.port_on two.port_on;
+    keeps_book = keeps_then_keeps a.book b.book c.book one.keeps_book two.keeps_book;
+    keeps_port = keeps_then_keeps a.port b.port c.port one.keeps_port two.keeps_port;
+    book_on = starts_then_starts a.book.front b.book.front c.book.front one.book_on two.book_on;
+    port_on = starts_then_starts a.port.front b.port.front c.port.front one.port_on two.port_on;
     book_noted =
         two.book_noted ∙ ap (λ (l : List (Noted ReplyEntry)). l ++ book_entries ys) one.book_noted
         ∙ append_assoc (noted books.maker_of a.book.thread a.book.front) (book_entries xs) (book_entries ys)

@@ -2,13 +2,13 @@
 use Rattle.std.proofs.Common.{◌≡◌, ℕ, List, [], ◌++◌, refl, sym, ◌∙◌, subst, append_assoc, append-nil}
 use Rattle.std.specs.Prelude.{Option, IsSomeAnd}
 use Rattle.ak_turn.specs.Called.{KeepsSeat}
+use Rattle.ak_turn.proofs.Surface.{keeps_itself, keeps_then_keeps}
 use Rattle.ak_action.specs.declared.state.DeskState.{DeskState}
 use Rattle.ak_desk.specs.Shared.{DeskSeat}
 use Rattle.ak_looper.specs.Carrying.{IsDeskOf}
 use Rattle.ak_looper.specs.Living.{GoesOnWorking, IsWorking, Later}
 use Rattle.ak_looper.specs.Ways.{KeepsPlaces, KeepsReach}
 use Rattle.ak_looper.specs.declared.reach.Reach.{Reach}
-use Rattle.ak_looper.proofs.Going.{keeps_seat, keeps_seat_on}
 use Rattle.ak_diary.specs.Looper.{LooperFacts}
 use Rattle.ak_diary.specs.Step.{Step}
 
@@ -32,12 +32,6 @@ works_on r r' desk desk' is later =
     record { facts = is.facts; start = is.start; work = is.work ++ more.turn; goes_on = more.then_is }
 
 -- ---- what no call changes
-pub desk_same : (a : DeskSeat) → KeepsSeat a a
-desk_same a = keeps_seat a
-
-pub desk_then : (a b c : DeskSeat) → KeepsSeat a b → KeepsSeat b c → KeepsSeat a c
-desk_then a b c first second = keeps_seat_on a b c first second
-
 pub desk_as : (a b c : DeskSeat) → b ≡ a → KeepsSeat b c → KeepsSeat a c
 desk_as a b c same keeps = subst (λ (s : DeskSeat). KeepsSeat s c) same keeps
 
@@ -70,9 +64,9 @@ places_same r = record {
   port = refl;
   roster = refl;
   thread = refl;
-  book_seat = keeps_seat r.hands.book_seat;
-  port_seat = keeps_seat r.port_seat;
-  roster_seat = keeps_seat r.roster_seat;
+  book_seat = keeps_itself r.hands.book_seat;
+  port_seat = keeps_itself r.port_seat;
+  roster_seat = keeps_itself r.roster_seat;
 }
 
 pub places_then : (a b c : Reach) → KeepsPlaces a b → KeepsPlaces b c → KeepsPlaces a c
@@ -85,7 +79,7 @@ places_then a b c first second = record {
   port = second.port ∙ first.port;
   roster = second.roster ∙ first.roster;
   thread = second.thread ∙ first.thread;
-  book_seat = keeps_seat_on a.hands.book_seat b.hands.book_seat c.hands.book_seat first.book_seat second.book_seat;
-  port_seat = keeps_seat_on a.port_seat b.port_seat c.port_seat first.port_seat second.port_seat;
-  roster_seat = keeps_seat_on a.roster_seat b.roster_seat c.roster_seat first.roster_seat second.roster_seat;
+  book_seat = keeps_then_keeps a.hands.book_seat b.hands.book_seat c.hands.book_seat first.book_seat second.book_seat;
+  port_seat = keeps_then_keeps a.port_seat b.port_seat c.port_seat first.port_seat second.port_seat;
+  roster_seat = keeps_then_keeps a.roster_seat b.roster_seat c.roster_seat first.roster_seat second.roster_seat;
 }

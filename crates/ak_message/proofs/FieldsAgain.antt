@@ -4,12 +4,12 @@ use Rattle.std.specs.Prelude.{All, AllPairs}
 use Rattle.std.specs.List.{list_any}
 use Rattle.std.specs.Str.{bytes_eq}
 use Rattle.std.proofs.lemmas.Bool.{or_from, lt-ltb}
-use Rattle.std.proofs.lemmas.List.{append-nil, length-append, take_at, get_or_at, map_push}
+use Rattle.std.proofs.lemmas.List.{append-nil, length-append, get_or_at, map_push}
 use Rattle.std.proofs.lemmas.List.Elements.{All-head, All-tail}
 use Rattle.std.proofs.lemmas.Slice.Eq.{bytes_eq-Decides}
 use Rattle.ak_base.specs.Code.{code_text}
-use Rattle.ak_base.specs.Word.{is_word_byte, is_word}
-use Rattle.ak_base.proofs.Surface.{printed_codes_are_read, word_parts}
+use Rattle.ak_base.specs.Word.{is_word}
+use Rattle.ak_base.proofs.Surface.{printed_codes_are_read}
 use Rattle.ak_base.specs.declared.limited.Limited.{Limited}
 use Rattle.ak_base.specs.declared.limited.Limited.TheVariants.{Within}
 use Rattle.ak_message.specs.declared.kind.Kind.{Kind}
@@ -17,12 +17,12 @@ use Rattle.ak_message.specs.Fields.{field_named, added, add_fault, new_field, Is
 use Rattle.ak_message.specs.Kind.{is_same_kind}
 use Rattle.ak_message.specs.Message.{ValueData, NestedValues, no_values, then_value, NestedFields, no_fields, then_field, FieldData, MessageData, kind_of, depth_of_value, depth_of_nested_values, depth_of_nested_fields, listed_values, listed_fields, message_of_nested}
 use Rattle.ak_message.specs.MessageText.{value_text, more_values_text, nested_values_text, field_texts}
-use Rattle.ak_message.specs.Reading.{Got, GotValues, Built, got, value_with, values_with, values_of, values_behind, add_or_not, values_added, field_split, field_behind, fields_behind, message_of}
+use Rattle.ak_message.specs.Reading.{Got, GotValues, Built, got, value_with, values_with, values_of, values_behind, add_or_not, values_added, field_behind, fields_behind, message_of}
 use Rattle.ak_message.specs.Whole.{FitsValues, FitsFields}
 use Rattle.ak_message.proofs.CodeLaws.{code_again}
+use Rattle.ak_message.proofs.FieldWords.{split_again}
 use Rattle.ak_message.proofs.Finding.{names_differ, same_kind-refl}
 use Rattle.ak_message.proofs.PiecesAgain.{value_texts, values_again}
-use Rattle.ak_message.proofs.ValuesAgain.{position_again, drop_past}
 
 -- each of these values is read from its text
 abbrev pub AreRead : (List ℕ → Option Got) → NestedValues → Type 0
@@ -99,11 +99,6 @@ no_fault_more name kind values v fs word new same room shallow =
     rw (word, last_found name kind values fs new, same, lt-ltb (length values) 255 room, lt-ltb (depth_of_value v) 16 shallow) refl
 
 -- ---- a field
-
-split_again : (name text : List ℕ) → is_word name ≡ true → field_split (name ++ 61 ∷ text) ≡ Some (name, text)
-unfolding field_split
-split_again name text word =
-    rw (position_again is_word_byte 61 name text (word_parts name word).1 refl, take_at name (61 ∷ text) (length name) refl, drop_past name 61 text, word) refl
 
 module _ (message : List ℕ → Option Got) (what : ℕ) (name : List ℕ) (kind : Kind) (front : List FieldData) (word : is_word name ≡ true) (new : NoneNamed name front) where
   -- the message, with these values in the field

@@ -22,3 +22,4 @@ pub mod Seen
 pub mod Specifier
 pub mod Whole
 pub mod Words
+pub mod Written

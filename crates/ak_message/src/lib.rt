@@ -5,6 +5,7 @@
 #![tactic(auto)]
 
 mod address;
+mod app_word;
 mod fault;
 mod field_ref;
 mod kind;
@@ -22,6 +23,7 @@ mod specifier;
 mod words;
 
 pub use address::{Address, Target};
+pub use app_word::read_app_word;
 pub use fault::{AddFault, FindFault, RemoveFault, ReplaceFault};
 pub use field_ref::FieldRef;
 pub use kind::Kind;
@@ -34,8 +36,11 @@ pub use message::{
     DEPTH_LIMIT, FIELD_LIMIT, Field, Message, VALUE_LIMIT, Value, added_values_are_found,
 };
 pub use parse_fault::ParseFault;
-pub use payload::ints_are_read;
+pub use payload::{ints_are_read, read_number, read_uint};
 pub use quoted::{raws_are_read, texts_are_read};
-pub use reading::{read_message, read_quoted, read_value, read_values, split_field};
+pub use reading::{
+    ReadValue, read_code, read_message, read_quoted, read_value, read_values, read_with_kind,
+    split_field,
+};
 pub use specifier::{At, AtRef, Specifier, SpecifierRef};
 pub use words::{WordsFault, one_line, split_words};

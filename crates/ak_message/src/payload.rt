@@ -4,6 +4,7 @@ ghost use Rattle.std.specs.Prelude.{◌≡◌, ◌<◌, ◌≤◌, ◌^◌, ◌&
 ghost use Rattle.ak_base.specs.Limits.{digits_limit};
 ghost use Rattle.ak_message.specs.InputText.{IntsAreRead};
 ghost use Rattle.ak_message.specs.Payload as reads;
+ghost use Rattle.ak_message.specs.Written.{number_within};
 ghost use Rattle.ak_base.specs.Option.{where_true};
 
 use crate::address::{Address, Target};
@@ -61,6 +62,24 @@ fn int_within(text: &[u8], low: i128, high: i128) -> Option<i128>
         None => None,
         Some(number) => within(number, low, high),
     }
+}
+
+/// The number that a word writes, up to `most`, as it is printed. `None` where it writes none of them.
+pub fn read_uint(word: &[u8], most: u64) -> Option<u64>
+    ensures number { result ≡ reads.uint_within most word.now }
+    ensures within { IfSome result (λ n. n ≤ most) }
+{
+    Some(int_within(word, 0, i128::from(most))? as u64)
+}
+
+/// The number that a word writes, from `least` to `most`, as it is printed. `None` where it writes none of
+/// them.
+pub fn read_number(word: &[u8], least: u32, most: u32) -> Option<u32>
+    ensures number { result ≡ number_within word.now least most }
+    ensures within { IfSome result (λ n. n ≤ most) }
+{
+    let number = read_uint(word, u64::from(most))? as u32;
+    if least <= number { Some(number) } else { None }
 }
 
 pub(crate) fn int8_from(text: &[u8]) -> Option<i8>

@@ -9,6 +9,7 @@ ghost use Rattle.ak_message.specs.Seen.{value_of};
 ghost use Rattle.ak_message.specs.Kind.{is_same_kind};
 ghost use Rattle.ak_message.specs.Payload.{kind_before};
 ghost use Rattle.ak_message.specs.Limits.{depth_limit};
+ghost use Rattle.ak_message.specs.Written.{code_of};
 
 use crate::fault::AddFault;
 use crate::kind::Kind;
@@ -25,9 +26,11 @@ use std::alloc::Global;
 
 /// What a text is read as: its kind, and the value where it passes no limit.
 #[derive(Drop)]
-struct ReadValue {
-    kind: Kind,
-    value: Limited<Value>,
+pub struct ReadValue {
+    /// The kind, which a value that passes a limit has too.
+    pub kind: Kind,
+    /// The value.
+    pub value: Limited<Value>,
 }
 
 /// The values of a field: their kind, and the values where they pass no limit.
@@ -53,6 +56,19 @@ pub fn read_value(alloc: Global, word: &[u8]) -> Result<Value, ParseFault>
     ensures { GivesValue result (reads.read_value word.now) }
 {
     kept(value(alloc, DEPTH_LIMIT, word)?)
+}
+
+/// The value that a word writes, as `read_value` reads it, with its kind. One that passes a limit is not kept,
+/// and has its kind all the same. `None` where the word writes no value. Answers `NoMemory` where memory ran
+/// out.
+pub fn read_with_kind(alloc: Global, word: &[u8]) -> Result<Option<ReadValue>, NoMemory>
+    ensures { IfOk result (λ read. option_map got_of read ≡ reads.read_value word.now) }
+{
+    match value(alloc, DEPTH_LIMIT, word) {
+        Ok(read) => Ok(Some(read)),
+        Err(ParseFault::NoMemory) => Err(NoMemory),
+        Err(ParseFault::BadValue | ParseFault::Limit) => Ok(None),
+    }
 }
 
 // The value, where it passes no limit.
@@ -364,7 +380,7 @@ fn message_of(alloc: Global, levels: u32, words: &[&[u8]]) -> Result<Limited<Mes
     let Some((first, fields)) = words.split_first() else {
         return Err(ParseFault::BadValue);
     };
-    let Some(what) = code_from(first) else {
+    let Some(what) = read_code(first) else {
         return Err(ParseFault::BadValue);
     };
     let mut building = Building {
@@ -377,8 +393,11 @@ fn message_of(alloc: Global, levels: u32, words: &[&[u8]]) -> Result<Limited<Mes
     Ok(building.message)
 }
 
-fn code_from(word: &[u8]) -> Option<Code>
-    ensures { option_map (λ c. c.0) result ≡ reads.code_from word.now }
+/// The code that a word writes: four letters in single quotes, or eight digits behind `0x`. `None` where it
+/// writes none.
+pub fn read_code(word: &[u8]) -> Option<Code>
+    ensures number { option_map (λ c. c.0) result ≡ reads.code_from word.now }
+    ensures code { result ≡ code_of word.now }
 {
     match Code::read(word) {
         Some(code) => Some(code),

@@ -6,6 +6,7 @@ use Rattle.std.proofs.lemmas.List.Elements.{All-append, All-nil, All-weaker}
 use Rattle.ak_base.specs.Thread.{main_thread}
 use Rattle.ak_turn.specs.Entries.{StartsWith}
 use Rattle.ak_turn.specs.Noted.{Noted, StandsIn, noted}
+use Rattle.ak_turn.proofs.Surface.{seen_still, starts_itself, starts_then_starts}
 use Rattle.ak_port.specs.PortCalls as at_ports
 use Rattle.ak_port.specs.ReplySeats as at_books
 use Rattle.ak_desk.specs.Entry.{EntryData}
@@ -14,12 +15,8 @@ use Rattle.ak_headline.specs.Main.{begun}
 use Rattle.ak_looper.specs.Rosters.{maker_of, plain_of}
 use Rattle.ak_run.specs.declared.run.Run.{Run}
 use Rattle.ak_run.specs.Recording.{Fronts, GoesBy, fronts_of, list_at}
-use Rattle.ak_run.proofs.Acts.{diary-append, recorded_on, seen_still}
-use Rattle.ak_run.proofs.Standing.{starts_then_starts}
+use Rattle.ak_run.proofs.Acts.{diary-append, recorded_on}
 use Rattle.ak_run.specs.Doing.{Does, DoesSo, HasDoneSoFar, desk_front}
-
-starts_itself : {L : Type 0} (xs : List L) → StartsWith xs xs
-starts_itself xs = ([], sym (append-nil xs))
 
 -- edits that stand at a desk still stand there when its list went on
 edits_then : (looper : ℕ) (xs ys : List Step) (b c : Run) → StartsWith (desk_front c looper) (desk_front b looper) → All (StandsIn (desk_front b looper)) (desk_entries looper xs) → All (StandsIn (desk_front c looper)) (desk_entries looper ys)

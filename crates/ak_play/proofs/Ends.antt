@@ -8,6 +8,8 @@ use Rattle.ak_base.specs.declared.ending.Ending.TheVariants as ending
 use Rattle.ak_base.specs.Thread.{main_thread}
 use Rattle.ak_turn.specs.Noted.{StandsIn}
 use Rattle.ak_roster.specs.declared.head.AppHead.{AppHead}
+use Rattle.ak_describe.specs.Whole.{heads_of}
+use Rattle.ak_describe.specs.declared.described.AppText.{AppText}
 use Rattle.ak_diary.specs.declared.histories.Histories.{Histories}
 use Rattle.ak_diary.specs.Step.{Step, desk_entries, desk_entry}
 use Rattle.ak_headline.specs.Headline.{EachGotOneReply}
@@ -68,7 +70,7 @@ lines_by_main (Err stop.ThreadFault) lacked main tolds old new is written found 
 lines_by_main (Err stop.NoMemory) lacked main tolds old new is written found end = let bad : true ≡ false = sym is ∙ found in absurd (cc bad)
 
 -- ---- the steps at the end
-module _ (h : Histories) (steps more : List Step) (at_end : DoneAtEnd (steps ++ more) h) where
+module _ (heads : List AppHead) (h : Histories) (steps more : List Step) (at_end : DoneAtEnd heads (steps ++ more) h) where
   regrouped : (steps ++ more) ++ at_end.closing ≡ steps ++ (more ++ at_end.closing)
   regrouped = append_assoc steps more at_end.closing
 
@@ -83,41 +85,44 @@ module _ (h : Histories) (steps more : List Step) (at_end : DoneAtEnd (steps ++ 
       all_front (StandsIn (desk_list h looper)) (desk_entries looper steps) (desk_entries looper more)
       (subst (All (StandsIn (desk_list h looper))) (flat_map-append (desk_entry looper) steps more) (at_end.edits looper))
 
-module _ {A : Type 0} (heads : List AppHead) (statements : List Statement) (played : Result A Stop) (run : Run) (end : RunEnd) (old new : Option (List ℕ)) where
-  pub is_play : IsPlayedTo heads statements end.outcomes (stopped_as played) run old new → OnOk played (length end.outcomes ≡ length statements) → end.short.main ≡ is_lack played → IsRun heads end.short.loopers end.histories
-      → EachGotOneReply end.short.loopers end.histories → ((steps : List Step) → HasDoneSoFar steps run → DoneAtEnd steps end.histories) → IsPlay heads statements (ended_as played (is_any end.short.loopers)) end old new
+module _ {A : Type 0} (apps : List AppText) (statements : List Statement) (played : Result A Stop) (run : Run) (end : RunEnd) (old new : Option (List ℕ)) where
+  pub is_play : IsPlayedTo apps statements end.outcomes (stopped_as played) run old new → OnOk played (length end.outcomes ≡ length statements) → end.short.main ≡ is_lack played → IsRun (heads_of apps) end.short.loopers end.histories
+      → EachGotOneReply end.short.loopers end.histories → ((steps : List Step) → HasDoneSoFar steps run → DoneAtEnd (heads_of apps) steps end.histories) → IsPlay apps statements (ended_as played (is_any end.short.loopers)) end old new
   is_play to whole main of_run answered did =
       let h = end.histories in
       let steps = all_steps to.blocks in
       let at_end = did (steps ++ to.more) to.done in
-      let done = done_at_end h steps to.more at_end in
+      let done = done_at_end (heads_of apps) h steps to.more at_end in
       record {
         tolds = to.tolds;
         played = record {
           blocks = to.blocks;
           are = to.are;
-          closing = to.more ++ at_end.closing;
-          diary = diary_at_end h steps to.more at_end;
+          stopped = to.more;
+          none_stopped = to.none_more;
+          closing = at_end.closing;
+          closes = at_end.closes;
+          diary = diary_at_end (heads_of apps) h steps to.more at_end;
           done = done;
-          edits = edits_at_end h steps to.more at_end;
+          edits = edits_at_end (heads_of apps) h steps to.more at_end;
         };
         written = written_at_end played (is_any end.short.loopers) to.tolds old new to.written;
         all_lines = lines_by_main played (is_any end.short.loopers) end.short.main to.tolds old new main to.written;
-        replies = replies end.short.loopers h (steps ++ (to.more ++ at_end.closing)) of_run.histories.ports done answered heads statements end.outcomes to.tolds to.blocks (to.more ++ at_end.closing) refl to.are;
+        replies = replies end.short.loopers h (steps ++ (to.more ++ at_end.closing)) of_run.histories.ports done answered apps statements end.outcomes to.tolds to.blocks (to.more ++ at_end.closing) refl to.are;
         whole = done_is_whole (length end.outcomes ≡ length statements) played (is_any end.short.loopers) whole;
         short = λ short. done_not_short played end.short (is_any end.short.loopers) main refl short;
         ran_short = lacking_is_short played end.short (is_any end.short.loopers) main refl;
       }
 
   -- the same, as the calls tell it
-  pub is_play_as : (heads1 heads2 : List AppHead) (statements1 : List Statement) (outcomes : List Outcome) (end_is : Ending) → heads1 ≡ heads → heads2 ≡ heads → statements1 ≡ statements → end.outcomes ≡ outcomes → end_is ≡ ended_as played (is_any end.short.loopers)
-      → IsPlayedTo heads1 statements1 outcomes (stopped_as played) run old new → OnOk played (length outcomes ≡ length statements1) → end.short.main ≡ is_lack played → IsRun heads2 end.short.loopers end.histories → EachGotOneReply end.short.loopers end.histories
-      → ((steps : List Step) → HasDoneSoFar steps run → DoneAtEnd steps end.histories) → IsPlay heads statements end_is end old new
-  is_play_as heads1 heads2 statements1 outcomes end_is one two of_script kept ended to whole main of_run answered did =
-      let to_kept = subst (λ (os : List Outcome). IsPlayedTo heads1 statements1 os (stopped_as played) run old new) (sym kept) to in
-      let to_heads = subst (λ (hs : List AppHead). IsPlayedTo hs statements1 end.outcomes (stopped_as played) run old new) one to_kept in
-      let to_all = subst (λ (ss : List Statement). IsPlayedTo heads ss end.outcomes (stopped_as played) run old new) of_script to_heads in
+  pub is_play_as : (apps1 : List AppText) (heads1 heads2 : List AppHead) (statements1 : List Statement) (outcomes : List Outcome) (end_is : Ending) → apps1 ≡ apps → heads1 ≡ heads_of apps → heads2 ≡ heads_of apps → statements1 ≡ statements → end.outcomes ≡ outcomes
+      → end_is ≡ ended_as played (is_any end.short.loopers) → IsPlayedTo apps1 statements1 outcomes (stopped_as played) run old new → OnOk played (length outcomes ≡ length statements1) → end.short.main ≡ is_lack played → IsRun heads1 end.short.loopers end.histories
+      → EachGotOneReply end.short.loopers end.histories → ((steps : List Step) → HasDoneSoFar steps run → DoneAtEnd heads2 steps end.histories) → IsPlay apps statements end_is end old new
+  is_play_as apps1 heads1 heads2 statements1 outcomes end_is one two three of_script kept ended to whole main of_run answered did =
+      let to_kept = subst (λ (os : List Outcome). IsPlayedTo apps1 statements1 os (stopped_as played) run old new) (sym kept) to in
+      let to_apps = subst (λ (xs : List AppText). IsPlayedTo xs statements1 end.outcomes (stopped_as played) run old new) one to_kept in
+      let to_all = subst (λ (ss : List Statement). IsPlayedTo apps ss end.outcomes (stopped_as played) run old new) of_script to_apps in
       let whole_kept = subst (λ (os : List Outcome). OnOk played (length os ≡ length statements1)) (sym kept) whole in
       let whole_all = subst (λ (ss : List Statement). OnOk played (length end.outcomes ≡ length ss)) of_script whole_kept in
-      subst (λ (e : Ending). IsPlay heads statements e end old new) (sym ended)
-      (is_play to_all whole_all main (subst (λ (hs : List AppHead). IsRun hs end.short.loopers end.histories) two of_run) answered did)
+      subst (λ (e : Ending). IsPlay apps statements e end old new) (sym ended)
+      (is_play to_all whole_all main (subst (λ (hs : List AppHead). IsRun hs end.short.loopers end.histories) two of_run) answered (λ steps done. subst (λ (hs : List AppHead). DoneAtEnd hs steps end.histories) three (did steps done)))

@@ -56,7 +56,7 @@ module _ (heads : List AppHead) (p : Post) (team first loopers place : ℕ) wher
   module _ (within : p.looper < loopers) (looper : ℕ) (looper_is : looper ≡ first + p.looper) where
     post_block : (xs ys : List Step) → FoundSo heads p.app (found.Team team first loopers place) xs → (o : Outcome) (t : Told) → IsSent p looper o t ys → IsPostBlock heads p o t (xs ++ ys)
     post_block xs ys finds (came.Posted at position) told.Posted sent = finding heads p.app team first loopers place p.looper xs finds looper (IsPosted (post_item p) at position) ys within looper_is sent
-    post_block xs ys finds (came.SendRefused at where_at why) (told.Refused e) sent = (sent.0, finding heads p.app team first loopers place p.looper xs finds looper (IsPostRefused at where_at why) ys within looper_is sent.1)
+    post_block xs ys finds (came.SendRefused at where_at why) (told.Refused e) sent = (sent.0, finding heads p.app team first loopers place p.looper xs finds looper (IsPostRefused p.waits at where_at why) ys within looper_is sent.1)
     post_block xs ys finds _ _ sent = absurd sent
 
     post_so : (result : Result Came NoMemory) (xs ys : List Step) → FoundSo heads p.app (found.Team team first loopers place) xs → MayCome (IsSent p looper) result ys → MayCome (IsPostBlock heads p) result (xs ++ ys)

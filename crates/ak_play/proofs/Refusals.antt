@@ -90,19 +90,19 @@ module _ (looper : ℕ) (r' : Run) where
       (λ steps asked. ask_came h why steps result (subst (λ (item : ItemData). AskedSo looper item (Err why) r' steps) (hey_item_is h e is) asked) refusal) did
 
   -- ---- posts
-  post_refused : (p : Post) (e : PortEvent) (why : KitError) (steps : List Step) (result : Result Came NoMemory) → error_of e ≡ Some why → EntersLast looper e r' steps → IsRefusedAs looper seen why result → MayCome (IsSent p looper) result steps
-  post_refused p e why steps result why_is last is =
+  post_refused : (p : Post) (e : PortEvent) (why : KitError) (steps : List Step) (result : Result Came NoMemory) → error_of e ≡ Some why → (why ≡ error.WouldBlock → p.waits ≡ false) → EntersLast looper e r' steps → IsRefusedAs looper seen why result → MayCome (IsSent p looper) result steps
+  post_refused p e why steps result why_is at_once last is =
       refused_as (λ o t. IsSent p looper o t steps) why result is
-      (refl, record { at_is = refl; e = e; why_is = why_is; enters = last.enters; place_is = last_place e steps last })
+      (refl, record { at_is = refl; e = e; why_is = why_is; at_once = at_once; enters = last.enters; place_is = last_place e steps last })
       (λ made. MayCome (IsSent p looper) made steps) (λ c holds. holds)
 
-  pub post_not_written : (p : Post) (why : SendFault) (steps : List Step) (result : Result Came NoMemory) → PostedSo looper (post_envelope p) p.message (Err why) r' steps → IsRefusal looper seen why result → MayCome (IsSent p looper) result steps
-  post_not_written p fault.BadPort steps result posted is = post_refused p event.Refused error.BadPortId steps result refl posted is
-  post_not_written p fault.Spent steps result posted is = post_refused p event.Spent error.Spent steps result refl posted is
-  post_not_written p fault.WouldBlock steps result posted is = post_refused p event.Full error.WouldBlock steps result refl posted is
-  post_not_written p fault.TooLong steps result posted is = absurd is
-  post_not_written p fault.NoMemory steps (Ok c) posted is = absurd is
-  post_not_written p fault.NoMemory steps (Err e) posted is = tt
+  pub post_not_written : (p : Post) (why : SendFault) → (why ≡ fault.WouldBlock → p.waits ≡ false) → (steps : List Step) (result : Result Came NoMemory) → PostedSo looper (post_envelope p) p.message (Err why) r' steps → IsRefusal looper seen why result → MayCome (IsSent p looper) result steps
+  post_not_written p fault.BadPort at_once steps result posted is = post_refused p event.Refused error.BadPortId steps result refl (λ same. absurd (cc same)) posted is
+  post_not_written p fault.Spent at_once steps result posted is = post_refused p event.Spent error.Spent steps result refl (λ same. absurd (cc same)) posted is
+  post_not_written p fault.WouldBlock at_once steps result posted is = post_refused p event.Full error.WouldBlock steps result refl (λ same. at_once refl) posted is
+  post_not_written p fault.TooLong at_once steps result posted is = absurd is
+  post_not_written p fault.NoMemory at_once steps (Ok c) posted is = absurd is
+  post_not_written p fault.NoMemory at_once steps (Err e) posted is = tt
 
   pub post_may : (p : Post) (why : SendFault) (steps : List Step) → PostedSo looper (post_envelope p) p.message (Err why) r' steps → (why ≡ fault.TooLong → ⊥) → MayRefuse seen why
   post_may p fault.BadPort steps posted short = some_seen event.Refused steps posted
@@ -111,6 +111,6 @@ module _ (looper : ℕ) (r' : Run) where
   post_may p fault.TooLong steps posted short = short refl
   post_may p fault.NoMemory steps posted short = tt
 
-  pub post_in_vain : (p : Post) (why : SendFault) (r : Run) (result : Result Came NoMemory) → IsRefusal looper seen why result → DoesSo (PostedSo looper (post_envelope p) p.message (Err why) r') r r' → DoesSo (MayCome (IsSent p looper) result) r r'
-  post_in_vain p why r result refusal did =
-      does_as (PostedSo looper (post_envelope p) p.message (Err why) r') (MayCome (IsSent p looper) result) r r' (λ steps posted. post_not_written p why steps result posted refusal) did
+  pub post_in_vain : (p : Post) (why : SendFault) (r : Run) (result : Result Came NoMemory) → (why ≡ fault.WouldBlock → p.waits ≡ false) → IsRefusal looper seen why result → DoesSo (PostedSo looper (post_envelope p) p.message (Err why) r') r r' → DoesSo (MayCome (IsSent p looper) result) r r'
+  post_in_vain p why r result at_once refusal did =
+      does_as (PostedSo looper (post_envelope p) p.message (Err why) r') (MayCome (IsSent p looper) result) r r' (λ steps posted. post_not_written p why at_once steps result posted refusal) did

@@ -10,7 +10,7 @@ use Rattle.ak_flatten.specs.Item.{ItemData}
 use Rattle.ak_flatten.specs.Laws.{Spells}
 use Rattle.ak_turn.specs.Noted.{StandsIn, noted}
 use Rattle.ak_turn.proofs.Surface.{noted_stands}
-use Rattle.ak_roster.specs.declared.head.AppHead.{AppHead}
+use Rattle.ak_describe.specs.declared.described.AppText.{AppText}
 use Rattle.ak_port.specs.declared.reply_entry.ReplyEntry.{ReplyEntry}
 use Rattle.ak_port.specs.declared.reply_entry.ReplyEvent.TheVariants as slot_event
 use Rattle.ak_port.specs.PortCalls as at_ports
@@ -113,27 +113,27 @@ module _ (short : List ℕ) (h : Histories) (steps : List Step) (ports : All IsP
       subst (λ (n : ℕ). (g : GotOneReply h short n) × Spells g.text message) (sym (a.slot_is ∙ sym a.answered.slot_is))
       (got_it, subst (λ (m : MessageData). Spells got_it.text m) (sym a.message_is) spells)
 
-  hey_reply : (heads : List AppHead) (s : Statement) (slot : ℕ) (message : MessageData) (before block after : List Step) → steps ≡ before ++ (block ++ after) → IsBlock heads s (came.Replied slot) (told.Reply message) block
+  hey_reply : (apps : List AppText) (s : Statement) (slot : ℕ) (message : MessageData) (before block after : List Step) → steps ≡ before ++ (block ++ after) → IsBlock apps s (came.Replied slot) (told.Reply message) block
       → (got_it : GotOneReply h short slot) × Spells got_it.text message
-  hey_reply heads (statement.Launch l) slot message before block after whole is = absurd is
-  hey_reply heads (statement.Post p) slot message before block after whole is = absurd is
-  hey_reply heads (statement.Lock l) slot message before block after whole is = absurd is
-  hey_reply heads (statement.Hey q) slot message before block after whole is =
+  hey_reply apps (statement.Launch l) slot message before block after whole is = absurd is
+  hey_reply apps (statement.Post p) slot message before block after whole is = absurd is
+  hey_reply apps (statement.Lock l) slot message before block after whole is = absurd is
+  hey_reply apps (statement.Hey q) slot message before block after whole is =
       answered_so (hey_item q) slot message (is.running.first + 0) (before ++ is.found) after is.rest (within_parts steps before block after is.found is.rest is.rest whole is.is refl) is.then_does.1
 
-  one_reply : (heads : List AppHead) (s : Statement) (o : Outcome) (t : Told) (before block after : List Step) → steps ≡ before ++ (block ++ after) → IsBlock heads s o t block → IsReplyOf short h o t
-  one_reply heads s (came.Replied slot) (told.Reply message) before block after whole is = hey_reply heads s slot message before block after whole is
-  one_reply heads s _ _ before block after whole is = tt
+  one_reply : (apps : List AppText) (s : Statement) (o : Outcome) (t : Told) (before block after : List Step) → steps ≡ before ++ (block ++ after) → IsBlock apps s o t block → IsReplyOf short h o t
+  one_reply apps s (came.Replied slot) (told.Reply message) before block after whole is = hey_reply apps s slot message before block after whole is
+  one_reply apps s _ _ before block after whole is = tt
 
   -- ---- of all
-  are_replies : (heads : List AppHead) (ss : List Statement) (os : List Outcome) (ts : List Told) (bs : List (List Step)) (before after : List Step) → steps ≡ before ++ (all_steps bs ++ after) → AreBlocks heads ss os ts bs → AreReplies short h os ts
-  are_replies heads ss [] [] [] before after whole are = tt
-  are_replies heads (s ∷ ss) (o ∷ os) (t ∷ ts) (b ∷ bs) before after whole are = (
-    one_reply heads s o t before b (all_steps bs ++ after) (whole ∙ ap (λ (l : List Step). before ++ l) (append_assoc b (all_steps bs) after)) are.0,
-    are_replies heads ss os ts bs (before ++ b) after
+  are_replies : (apps : List AppText) (ss : List Statement) (os : List Outcome) (ts : List Told) (bs : List (List Step)) (before after : List Step) → steps ≡ before ++ (all_steps bs ++ after) → AreBlocks apps ss os ts bs → AreReplies short h os ts
+  are_replies apps ss [] [] [] before after whole are = tt
+  are_replies apps (s ∷ ss) (o ∷ os) (t ∷ ts) (b ∷ bs) before after whole are = (
+    one_reply apps s o t before b (all_steps bs ++ after) (whole ∙ ap (λ (l : List Step). before ++ l) (append_assoc b (all_steps bs) after)) are.0,
+    are_replies apps ss os ts bs (before ++ b) after
         (whole ∙ ap (λ (l : List Step). before ++ l) (append_assoc b (all_steps bs) after) ∙ sym (append_assoc before b (all_steps bs ++ after))) are.1,
   )
-  are_replies heads _ _ _ _ before after whole are = absurd are
+  are_replies apps _ _ _ _ before after whole are = absurd are
 
-  pub replies : (heads : List AppHead) (ss : List Statement) (os : List Outcome) (ts : List Told) (bs : List (List Step)) (after : List Step) → steps ≡ all_steps bs ++ after → AreBlocks heads ss os ts bs → AreReplies short h os ts
-  replies heads ss os ts bs after whole are = are_replies heads ss os ts bs [] after whole are
+  pub replies : (apps : List AppText) (ss : List Statement) (os : List Outcome) (ts : List Told) (bs : List (List Step)) (after : List Step) → steps ≡ all_steps bs ++ after → AreBlocks apps ss os ts bs → AreReplies short h os ts
+  replies apps ss os ts bs after whole are = are_replies apps ss os ts bs [] after whole are

@@ -1,5 +1,5 @@
 -- What main does for a statement, step by step; what the statement came to; and what is told of it.
-use Rattle.std.specs.Prelude.{◌≡◌, ◌≤◌, ◌<◌, ◌+◌, ℕ, false, List, [], ◌∷◌, ◌++◌, length, Option, None, Some}
+use Rattle.std.specs.Prelude.{◌≡◌, ◌≤◌, ◌<◌, ◌+◌, ℕ, Bool, false, List, [], ◌∷◌, ◌++◌, length, Option, None, Some}
 use Rattle.ak_base.specs.declared.app_word.AppWord.{AppWord}
 use Rattle.ak_base.specs.declared.error.KitError.{KitError}
 use Rattle.ak_base.specs.declared.error.KitError.TheVariants as error
@@ -26,7 +26,9 @@ use Rattle.ak_script.specs.declared.statement.Statement.{Statement}
 use Rattle.ak_script.specs.declared.statement.Statement.TheVariants as statement
 use Rattle.ak_print.specs.declared.told.Told.{Told}
 use Rattle.ak_print.specs.declared.told.Told.TheVariants as told
-use Rattle.ak_run.specs.Doing.{Answered, EditsAt, FindsAt, LaunchesAt, address_of}
+use Rattle.ak_describe.specs.Whole.{heads_of}
+use Rattle.ak_describe.specs.declared.described.AppText.{AppText}
+use Rattle.ak_run.specs.Doing.{Answered, EditsAt, FindsAt, FindsRunning, LaunchesAt, StartsTeam, address_of}
 use Rattle.ak_play.specs.declared.outcome.Outcome.{Outcome}
 use Rattle.ak_play.specs.declared.outcome.Outcome.TheVariants as came
 
@@ -90,11 +92,12 @@ pub record IsPosted (item : ItemData) (at position : ℕ) (looper : ℕ) (steps 
   pub at_is : at ≡ looper
   pub enters : EntersPort looper (event.Written position item) steps
 
--- the port refuses it
-pub record IsPostRefused (at place : ℕ) (why : KitError) (looper : ℕ) (steps : List Step) : Type 0 where
+-- the port refuses it: for want of room only where the post does not wait for it
+pub record IsPostRefused (waits : Bool) (at place : ℕ) (why : KitError) (looper : ℕ) (steps : List Step) : Type 0 where
   pub at_is : at ≡ looper
   pub e : PortEvent
   pub why_is : error_of e ≡ Some why
+  pub at_once : why ≡ error.WouldBlock → waits ≡ false
   pub enters : EntersPort looper e steps
   pub place_is : place ≡ length enters.noted.before
 
@@ -104,13 +107,13 @@ pub record IsEdited (l : Lock) (at place : ℕ) (answer : EditAnswer) (looper : 
   pub edits : EditsAt looper l.edit answer place steps
 
 -- ---- each statement
--- a launch: its one entry at the roster
-abbrev pub IsLaunchBlock : List AppHead → Launch → Outcome → Told → List Step → Type 0
-IsLaunchBlock heads l (came.Launched place) (told.Started team) steps = (description : ℕ) × (first : ℕ) × LaunchesAt l.word (outcome.Started description team first) place steps
-IsLaunchBlock heads l (came.Launched place) (told.Running team) steps = LaunchesAt l.word (outcome.AlreadyRunning team) place steps
-IsLaunchBlock heads l (came.Launched place) told.NotFound steps = LaunchesAt l.word outcome.NotFound place steps
-IsLaunchBlock heads l (came.Launched place) told.Limit steps = LaunchesAt l.word outcome.Limit place steps
-IsLaunchBlock heads l _ _ steps = ⊥
+-- a launch: its entry at the roster, and where a team starts or runs what is entered at its ports
+abbrev pub IsLaunchBlock : List AppText → Launch → Outcome → Told → List Step → Type 0
+IsLaunchBlock apps l (came.Launched place) (told.Started team) steps = StartsTeam apps l.word l.arguments team place steps
+IsLaunchBlock apps l (came.Launched place) (told.Running team) steps = FindsRunning apps l.word l.arguments team place steps
+IsLaunchBlock apps l (came.Launched place) told.NotFound steps = LaunchesAt l.word outcome.NotFound place steps
+IsLaunchBlock apps l (came.Launched place) told.Limit steps = LaunchesAt l.word outcome.Limit place steps
+IsLaunchBlock apps l _ _ steps = ⊥
 
 -- a hey line: a slot, an item and its reply, or the refusal; no team fits
 abbrev pub IsHeyBlock : List AppHead → Hey → Outcome → Told → List Step → Type 0
@@ -121,7 +124,7 @@ IsHeyBlock heads h _ _ steps = ⊥
 
 abbrev pub IsPostBlock : List AppHead → Post → Outcome → Told → List Step → Type 0
 IsPostBlock heads p (came.Posted looper position) told.Posted steps = FindingLooper heads p.app p.looper (IsPosted (post_item p) looper position) steps
-IsPostBlock heads p (came.SendRefused looper place why) (told.Refused e) steps = (e ≡ why) × FindingLooper heads p.app p.looper (IsPostRefused looper place why) steps
+IsPostBlock heads p (came.SendRefused looper place why) (told.Refused e) steps = (e ≡ why) × FindingLooper heads p.app p.looper (IsPostRefused p.waits looper place why) steps
 IsPostBlock heads p (came.NoTeam place) told.NoTeam steps = FindsAt heads p.app None place steps
 IsPostBlock heads p (came.NoLooper place) told.NoLooper steps = FindingNone heads p.app p.looper place steps
 IsPostBlock heads p _ _ steps = ⊥
@@ -132,14 +135,14 @@ IsLockBlock heads l (came.NoTeam place) told.NoTeam steps = FindsAt heads l.app 
 IsLockBlock heads l (came.NoLooper place) told.NoLooper steps = FindingNone heads l.app l.looper place steps
 IsLockBlock heads l _ _ steps = ⊥
 
-abbrev pub IsBlock : List AppHead → Statement → Outcome → Told → List Step → Type 0
-IsBlock heads (statement.Launch l) o t steps = IsLaunchBlock heads l o t steps
-IsBlock heads (statement.Hey h) o t steps = IsHeyBlock heads h o t steps
-IsBlock heads (statement.Post p) o t steps = IsPostBlock heads p o t steps
-IsBlock heads (statement.Lock l) o t steps = IsLockBlock heads l o t steps
+abbrev pub IsBlock : List AppText → Statement → Outcome → Told → List Step → Type 0
+IsBlock apps (statement.Launch l) o t steps = IsLaunchBlock apps l o t steps
+IsBlock apps (statement.Hey h) o t steps = IsHeyBlock (heads_of apps) h o t steps
+IsBlock apps (statement.Post p) o t steps = IsPostBlock (heads_of apps) p o t steps
+IsBlock apps (statement.Lock l) o t steps = IsLockBlock (heads_of apps) l o t steps
 
 -- of the first statements, one after the other, each has its outcome, what is told of it, and its block
-abbrev pub AreBlocks : List AppHead → List Statement → List Outcome → List Told → List (List Step) → Type 0
-AreBlocks heads statements [] [] [] = Unit {0}
-AreBlocks heads (s ∷ statements) (o ∷ outcomes) (t ∷ tolds) (block ∷ blocks) = IsBlock heads s o t block × AreBlocks heads statements outcomes tolds blocks
-AreBlocks heads _ _ _ _ = ⊥
+abbrev pub AreBlocks : List AppText → List Statement → List Outcome → List Told → List (List Step) → Type 0
+AreBlocks apps statements [] [] [] = Unit {0}
+AreBlocks apps (s ∷ statements) (o ∷ outcomes) (t ∷ tolds) (block ∷ blocks) = IsBlock apps s o t block × AreBlocks apps statements outcomes tolds blocks
+AreBlocks apps _ _ _ _ = ⊥

@@ -34,7 +34,7 @@ IsAsked h looper _ _ steps = ⊥
 -- a post to it is written or refused
 abbrev pub IsSent : Post → ℕ → Outcome → Told → List Step → Type 0
 IsSent p looper (came.Posted at position) told.Posted steps = IsPosted (post_item p) at position looper steps
-IsSent p looper (came.SendRefused at place why) (told.Refused e) steps = (e ≡ why) × IsPostRefused at place why looper steps
+IsSent p looper (came.SendRefused at place why) (told.Refused e) steps = (e ≡ why) × IsPostRefused p.waits at place why looper steps
 IsSent p looper _ _ steps = ⊥
 
 -- its handlers are edited

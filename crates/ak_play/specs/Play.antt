@@ -7,7 +7,8 @@ use Rattle.ak_base.specs.declared.ending.Ending.TheVariants as ending
 use Rattle.ak_base.specs.Thread.{main_thread}
 use Rattle.ak_flatten.specs.Laws.{Spells}
 use Rattle.ak_turn.specs.Noted.{StandsIn}
-use Rattle.ak_roster.specs.declared.head.AppHead.{AppHead}
+use Rattle.ak_describe.specs.Whole.{heads_of}
+use Rattle.ak_describe.specs.declared.described.AppText.{AppText}
 use Rattle.ak_diary.specs.declared.histories.Histories.{Histories}
 use Rattle.ak_diary.specs.Step.{Step, desk_entries}
 use Rattle.ak_headline.specs.Answers.{GotOneReply}
@@ -16,6 +17,7 @@ use Rattle.ak_headline.specs.Run.{HasDone, desk_list}
 use Rattle.ak_print.specs.declared.told.Told.{Told}
 use Rattle.ak_print.specs.declared.told.Told.TheVariants as told
 use Rattle.ak_print.specs.Told.{told_line}
+use Rattle.ak_run.specs.AtEnd.{IsClosing}
 use Rattle.ak_script.specs.declared.statement.Statement.{Statement}
 use Rattle.ak_play.specs.declared.outcome.Outcome.{Outcome}
 use Rattle.ak_play.specs.declared.outcome.Outcome.TheVariants as came
@@ -26,14 +28,18 @@ use Rattle.ak_play.specs.Blocks.{AreBlocks}
 abbrev pub all_steps : List (List Step) → List Step
 all_steps blocks = flat_map (λ (block : List Step). block) blocks
 
--- Main's diary is the blocks of the first statements, in order, and then what it did besides: for the statement at which it stopped, and to end the
--- run. The diary has all that main made at the roster, at the reply book and at each port, and its edits stand at the desks
-pub record HasPlayed (heads : List AppHead) (statements : List Statement) (outcomes : List Outcome) (tolds : List Told) (h : Histories) : Type 0 where
+-- Main's diary is the blocks of the first statements, in order, then what it did for the statement at which it stopped, which is nothing where each
+-- was carried out, and then the end of the run. The diary has all that main made at the roster, at the reply book and at each port, and its edits
+-- stand at the desks
+pub record HasPlayed (apps : List AppText) (statements : List Statement) (outcomes : List Outcome) (tolds : List Told) (h : Histories) : Type 0 where
   pub blocks : List (List Step)
-  pub are : AreBlocks heads statements outcomes tolds blocks
+  pub are : AreBlocks apps statements outcomes tolds blocks
+  pub stopped : List Step
+  pub none_stopped : length outcomes ≡ length statements → stopped ≡ []
   pub closing : List Step
-  pub diary : IsMainDiary (all_steps blocks ++ closing)
-  pub done : HasDone h main_thread (all_steps blocks ++ closing)
+  pub closes : IsClosing (heads_of apps) h closing
+  pub diary : IsMainDiary (all_steps blocks ++ (stopped ++ closing))
+  pub done : HasDone h main_thread (all_steps blocks ++ (stopped ++ closing))
   pub edits : (looper : ℕ) → All (StandsIn (desk_list h looper)) (desk_entries looper (all_steps blocks))
 
 -- each reply that is told is the one that the slot got, which the rules make
@@ -77,9 +83,9 @@ abbrev pub IsShort : Short → Type 0
 IsShort s = (s.main ≡ true) ⊎ (s.loopers ≢ [])
 
 -- The run of these statements: what main did for them, what was written, and whose replies were told
-pub record IsPlay (heads : List AppHead) (statements : List Statement) (end : Ending) (run : RunEnd) (old new : Option (List ℕ)) : Type 0 where
+pub record IsPlay (apps : List AppText) (statements : List Statement) (end : Ending) (run : RunEnd) (old new : Option (List ℕ)) : Type 0 where
   pub tolds : List Told
-  pub played : HasPlayed heads statements run.outcomes tolds run.histories
+  pub played : HasPlayed apps statements run.outcomes tolds run.histories
   pub written : IsWritten end tolds old new
   -- where main found memory no line is missing
   pub all_lines : run.short.main ≡ false → end ≡ ending.NoMemory → Appends old new (text_of tolds)

@@ -1,10 +1,10 @@
 -- Statements carried out one after the other: what one adds, and how far a run came.
-use Rattle.std.specs.Prelude.{◌≡◌, ◌⊎◌, ℕ, List, [], ◌∷◌, ◌++◌, Bool, true, false, Option, Result, Ok, Err}
+use Rattle.std.specs.Prelude.{◌≡◌, ◌⊎◌, ℕ, List, [], ◌∷◌, ◌++◌, length, Bool, true, false, Option, Result, Ok, Err}
 use Rattle.std.specs.Io.KnownBytes.{Appends}
 use Rattle.ak_base.specs.declared.ending.Ending.{Ending}
 use Rattle.ak_base.specs.declared.ending.Ending.TheVariants as ending
 use Rattle.ak_outside.specs.Sink.{AppendsPart}
-use Rattle.ak_roster.specs.declared.head.AppHead.{AppHead}
+use Rattle.ak_describe.specs.declared.described.AppText.{AppText}
 use Rattle.ak_diary.specs.Step.{Step}
 use Rattle.ak_print.specs.declared.told.Told.{Told}
 use Rattle.ak_print.specs.Told.{told_line}
@@ -26,11 +26,11 @@ HasWritten (Err stop.ThreadFault) line old new = ⊥
 HasWritten (Err stop.NoMemory) line old new = Appends old new []
 
 -- it has its outcome and its block, and of its line that was written
-pub record StepsOn (heads : List AppHead) (s : Statement) (outcomes outcomes' : List Outcome) (r r' : Run) (Written : List ℕ → Type 0) : Type 0 where
+pub record StepsOn (apps : List AppText) (s : Statement) (outcomes outcomes' : List Outcome) (r r' : Run) (Written : List ℕ → Type 0) : Type 0 where
   pub outcome : Outcome
   pub told : Told
   pub block : List Step
-  pub is : IsBlock heads s outcome told block
+  pub is : IsBlock apps s outcome told block
   pub does : Does block r r'
   pub pushed : outcomes' ≡ outcomes ++ outcome ∷ []
   pub written : Written (told_line told)
@@ -42,19 +42,19 @@ pub record StopsShort (outcomes outcomes' : List Outcome) (r r' : Run) (old new 
   pub same : outcomes' ≡ outcomes
   pub written : Appends old new []
 
-abbrev pub HasStepped : {A : Type 0} → List AppHead → Statement → Result A Stop → List Outcome → List Outcome → Run → Run → Option (List ℕ) → Option (List ℕ) → Type 0
-HasStepped heads s (Ok _) outcomes outcomes' r r' old new = StepsOn heads s outcomes outcomes' r r' (Appends old new)
-HasStepped heads s (Err stop.WriteFault) outcomes outcomes' r r' old new = StepsOn heads s outcomes outcomes' r r' (AppendsPart old new)
-HasStepped heads s (Err stop.ThreadFault) outcomes outcomes' r r' old new = StopsShort outcomes outcomes' r r' old new
-HasStepped heads s (Err stop.NoMemory) outcomes outcomes' r r' old new =
-    StopsShort outcomes outcomes' r r' old new ⊎ StepsOn heads s outcomes outcomes' r r' (λ line. Appends old new [])
+abbrev pub HasStepped : {A : Type 0} → List AppText → Statement → Result A Stop → List Outcome → List Outcome → Run → Run → Option (List ℕ) → Option (List ℕ) → Type 0
+HasStepped apps s (Ok _) outcomes outcomes' r r' old new = StepsOn apps s outcomes outcomes' r r' (Appends old new)
+HasStepped apps s (Err stop.WriteFault) outcomes outcomes' r r' old new = StepsOn apps s outcomes outcomes' r r' (AppendsPart old new)
+HasStepped apps s (Err stop.ThreadFault) outcomes outcomes' r r' old new = StopsShort outcomes outcomes' r r' old new
+HasStepped apps s (Err stop.NoMemory) outcomes outcomes' r r' old new =
+    StopsShort outcomes outcomes' r r' old new ⊎ StepsOn apps s outcomes outcomes' r r' (λ line. Appends old new [])
 
 -- ---- all statements
 -- the first ones are done, and their lines are written
-pub record IsPlayedSoFar (heads : List AppHead) (statements : List Statement) (outcomes : List Outcome) (r : Run) (old new : Option (List ℕ)) : Type 0 where
+pub record IsPlayedSoFar (apps : List AppText) (statements : List Statement) (outcomes : List Outcome) (r : Run) (old new : Option (List ℕ)) : Type 0 where
   pub tolds : List Told
   pub blocks : List (List Step)
-  pub are : AreBlocks heads statements outcomes tolds blocks
+  pub are : AreBlocks apps statements outcomes tolds blocks
   pub done : HasDoneSoFar (all_steps blocks) r
   pub written : Appends old new (text_of tolds)
 
@@ -66,11 +66,12 @@ stopped_as (Err stop.ThreadFault) = ending.ThreadFault
 stopped_as (Err stop.NoMemory) = ending.NoMemory
 
 -- the first ones are done, and steps of one more, at which it ended so
-pub record IsPlayedTo (heads : List AppHead) (statements : List Statement) (outcomes : List Outcome) (end : Ending) (r : Run) (old new : Option (List ℕ)) : Type 0 where
+pub record IsPlayedTo (apps : List AppText) (statements : List Statement) (outcomes : List Outcome) (end : Ending) (r : Run) (old new : Option (List ℕ)) : Type 0 where
   pub tolds : List Told
   pub blocks : List (List Step)
-  pub are : AreBlocks heads statements outcomes tolds blocks
+  pub are : AreBlocks apps statements outcomes tolds blocks
   pub more : List Step
+  pub none_more : length outcomes ≡ length statements → more ≡ []
   pub done : HasDoneSoFar (all_steps blocks ++ more) r
   pub written : IsWritten end tolds old new
 

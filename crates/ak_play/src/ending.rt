@@ -8,6 +8,7 @@ ghost use Rattle.ak_run.specs.Running.{IsRunning};
 ghost use Rattle.ak_script.specs.Limits.{statement_limit};
 ghost use Rattle.ak_run.specs.AtEnd.{DoneAtEnd};
 ghost use Rattle.ak_run.specs.Doing.{HasDoneSoFar};
+ghost use Rattle.ak_run.specs.Opened.{WereOpened};
 ghost use Rattle.ak_play.specs.Steps.{ended_as, is_any, is_lack};
 
 use crate::outcome::Outcome;
@@ -58,11 +59,12 @@ pub(crate) fn finish<R: Threads + Wait>(
     ensures accepted { EachLooper result.0.histories IsAccounted }
     ensures dispatched { EachLooper result.0.histories IsByRule }
     ensures answered { EachGotOneReply result.0.short.loopers result.0.histories }
+    ensures opened { WereOpened run.apps.items result.0.histories }
     ensures apps { result.0.script.apps.items ≡ run.apps.items }
     ensures statements { result.0.script.statements.items ≡ statements.items }
     ensures outcomes { result.0.outcomes ≡ outcomes.items }
     ensures short { result.0.short.main ≡ is_lack played }
-    ensures did { (steps : List Step) → HasDoneSoFar steps run → DoneAtEnd steps result.0.histories }
+    ensures did { (steps : List Step) → HasDoneSoFar steps run → DoneAtEnd (heads_of run.apps.items) steps result.0.histories }
 {
     let Ended {
         apps,

@@ -1,7 +1,6 @@
 //! Launches.
 ghost use Rattle.std.specs.Prelude.{◌≡◌, ◌≤◌, IsErrOf};
 ghost use Rattle.ak_outside.specs.Faults.{Rose};
-ghost use Rattle.ak_describe.specs.Whole.{heads_of};
 ghost use Rattle.ak_run.specs.Running.{IsRunning};
 ghost use Rattle.ak_run.specs.Doing.{DoesSo};
 ghost use Rattle.ak_play.specs.Blocks.{IsLaunchBlock};
@@ -37,7 +36,7 @@ pub(crate) fn launch<W: Spawner, G: Gate + 'static, R: Threads + Wait + Copy + S
     launch: &Launch,
 ) -> Result<Came, Stop>
     requires running { IsRunning run.old }
-    ensures did { DoesSo (MayCome (IsLaunchBlock (heads_of run.old.apps.items) launch.now) result) run.old run.new }
+    ensures did { DoesSo (MayCome (IsLaunchBlock run.old.apps.items launch.now) result) run.old run.new }
     ensures not_written { IsErrOf result Stop.WriteFault → ⊥ }
     ensures cause { IsErrOf result Stop.ThreadFault → Rose (W.faults spawner.old) (W.faults spawner.new) }
     ensures kept { ¬ (IsErrOf result Stop.ThreadFault) → W.faults spawner.new ≡ W.faults spawner.old }

@@ -5,6 +5,7 @@ ghost use Rattle.ak_outside.specs.Faults.{Rose};
 ghost use Rattle.ak_describe.specs.Whole.{heads_of};
 ghost use Rattle.ak_headline.specs.Headline.{EachGotOneReply, EachLooper, IsAccounted, IsByRule};
 ghost use Rattle.ak_headline.specs.Run.{IsRun};
+ghost use Rattle.ak_run.specs.Opened.{WereOpened};
 ghost use Rattle.ak_play.specs.Play.{IsPlay, IsPlayEnding};
 
 use crate::ending::finish;
@@ -42,9 +43,12 @@ pub fn run_script<
     ensures dispatched { IfSome result.0 (λ end. EachLooper end.histories IsByRule) }
     ensures answered { IfSome result.0 (λ end. EachGotOneReply end.short.loopers end.histories) }
 
+    // What each looper was opened as.
+    ensures opened { IfSome result.0 (λ end. WereOpened script.apps.items end.histories) }
+
     // The statements, their outcomes, and what was written.
     ensures script { IfSome result.0 (λ end. (end.script.apps.items ≡ script.apps.items) × (end.script.statements.items ≡ script.statements.items)) }
-    ensures play { IfSome result.0 (λ end. IsPlay (heads_of script.apps.items) script.statements.items result.1 end (K.written sink.old) (K.written sink.new)) }
+    ensures play { IfSome result.0 (λ end. IsPlay script.apps.items script.statements.items result.1 end (K.written sink.old) (K.written sink.new)) }
     ensures none { IfNone result.0 ((result.1 ≡ Ending.NoMemory) × Appends (K.written sink.old) (K.written sink.new) []) }
 
     // Each fault has its cause.

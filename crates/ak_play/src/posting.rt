@@ -1,5 +1,5 @@
 //! Posts.
-ghost use Rattle.std.specs.Prelude.{◌≡◌, ◌<◌, IsErrOf};
+ghost use Rattle.std.specs.Prelude.{◌≡◌, ◌<◌, false, IsErrOf};
 ghost use Rattle.ak_describe.specs.Whole.{heads_of};
 ghost use Rattle.ak_run.specs.Running.{IsRunning};
 ghost use Rattle.ak_run.specs.Sending.{looper_count};
@@ -65,6 +65,7 @@ fn send<R: Wait>(run: &mut Run, rt: &R, looper: u32, post: &Post) -> Result<u64,
     requires there { looper < looper_count run.old }
     ensures did { DoesSo (PostedSo looper (post_envelope post.now) post.now.message result run.new) run.old run.new }
     ensures not_long { IsErrOf result SendFault.TooLong → ⊥ }
+    ensures waits { IsErrOf result SendFault.WouldBlock → post.now.waits ≡ false }
     ensures running { IsRunning run.new }
     ensures count { looper_count run.new ≡ looper_count run.old }
     ensures apps { run.new.apps ≡ run.old.apps }

@@ -1,7 +1,6 @@
 //! Statements, one after the other.
 ghost use Rattle.std.specs.Prelude.{◌≡◌, ◌≤◌, ◌+◌, [], length, vec_capacity, IsErrOf, OnOk};
 ghost use Rattle.ak_outside.specs.Faults.{Rose};
-ghost use Rattle.ak_describe.specs.Whole.{heads_of};
 ghost use Rattle.ak_run.specs.Running.{IsRunning};
 ghost use Rattle.ak_run.specs.Doing.{DoesSo, HasDoneSoFar};
 ghost use Rattle.ak_play.specs.Blocks.{IsBlock};
@@ -32,7 +31,7 @@ fn carry_out<W: Spawner, G: Gate + 'static, R: Threads + Wait + Copy + Send + 's
     gate: &G,
 ) -> Result<Came, Stop>
     requires running { IsRunning run.old }
-    ensures did { DoesSo (MayCome (IsBlock (heads_of run.old.apps.items) statement.now) result) run.old run.new }
+    ensures did { DoesSo (MayCome (IsBlock run.old.apps.items statement.now) result) run.old run.new }
     ensures not_written { IsErrOf result Stop.WriteFault → ⊥ }
     ensures cause { IsErrOf result Stop.ThreadFault → Rose (W.faults spawner.old) (W.faults spawner.new) }
     ensures kept { ¬ (IsErrOf result Stop.ThreadFault) → W.faults spawner.new ≡ W.faults spawner.old }
@@ -61,7 +60,7 @@ fn step<K: Sink, W: Spawner, G: Gate + 'static, R: Threads + Wait + Copy + Send 
 ) -> Result<(), Stop>
     requires running { IsRunning run.old }
     requires room { length outcomes.old.items + 1 ≤ vec_capacity outcomes.old }
-    ensures stepped { HasStepped (heads_of run.old.apps.items) statement.now result outcomes.old.items outcomes.new.items run.old run.new (K.written sink.old) (K.written sink.new) }
+    ensures stepped { HasStepped run.old.apps.items statement.now result outcomes.old.items outcomes.new.items run.old run.new (K.written sink.old) (K.written sink.new) }
     ensures room { vec_capacity outcomes.new ≡ vec_capacity outcomes.old }
     ensures write_fault { IsErrOf result Stop.WriteFault → Rose (K.faults sink.old) (K.faults sink.new) }
     ensures sink_kept { ¬ (IsErrOf result Stop.WriteFault) → K.faults sink.new ≡ K.faults sink.old }
@@ -97,7 +96,7 @@ pub(crate) fn play_all<
     requires nothing { HasDoneSoFar [] run.old }
     requires none { outcomes.old.items ≡ [] }
     requires room { length statements.now ≤ vec_capacity outcomes.old }
-    ensures played { IsPlayedTo (heads_of run.old.apps.items) statements.now outcomes.new.items (stopped_as result) run.new (K.written sink.old) (K.written sink.new) }
+    ensures played { IsPlayedTo run.old.apps.items statements.now outcomes.new.items (stopped_as result) run.new (K.written sink.old) (K.written sink.new) }
     ensures whole { OnOk result (length outcomes.new.items ≡ length statements.now) }
     ensures write_fault { IsErrOf result Stop.WriteFault → Rose (K.faults sink.old) (K.faults sink.new) }
     ensures sink_kept { ¬ (IsErrOf result Stop.WriteFault) → K.faults sink.new ≡ K.faults sink.old }

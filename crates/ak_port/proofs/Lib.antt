@@ -1,4 +1,3 @@
-pub mod Stamps
 pub mod PortReplays
 pub mod PortLimits
 pub mod PortItems

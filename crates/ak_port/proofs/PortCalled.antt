@@ -1,4 +1,4 @@
--- Calls of a shared port: what a turn comes to, and calls that try again.
+-- Calls of a shared port: what a turn comes to.
 use Rattle.std.proofs.Common.{◌≡◌, ℕ, Bool, false, ◌++◌, ◌∷◌, [], List, Option, Some, None, All, length, refl, sym, ap, ◌∙◌, subst, arith}
 use Rattle.std.specs.Prelude.{IfSome, IsSomeAnd}
 use Rattle.ak_base.specs.declared.thread.ThreadId.{ThreadId}
@@ -31,19 +31,6 @@ ends_turn (Some event) k l p p' b c added list same entered = (
   entered (entry_now k b.front event) (ap (λ (q : PortData). q.entries) added.0 ∙ ap (λ xs. xs ++ entry_now k xs event ∷ []) list),
   added.1 ∙ ap (clock_after k) list,
 )
-
--- what it keeps of the seat and the clock
-pub turn_keeps : (e : Option PortEvent) (k l : Clock) (b c : PortSeat) → HasAnsweredAtTurn e k l b c → KeepsSeat (at_leisure b) c × (l.thread ≡ k.thread)
-turn_keeps None k l b c answered =
-    let after = answered.0 in (
-      record { lock = ap (λ s. s.lock) after; opening = ap (λ s. s.opening) after; thread = ap (λ s. s.thread) after; joined = ap (λ s. s.joined) after; turn = ap (λ s. s.turn) after; names = ap (λ s. s.names) after },
-      ap (λ t. t.thread) answered.1,
-    )
-turn_keeps (Some event) k l b c answered =
-    let after = answered.0 in (
-      record { lock = ap (λ s. s.lock) after; opening = ap (λ s. s.opening) after; thread = ap (λ s. s.thread) after; joined = ap (λ s. s.joined) after; turn = ap (λ s. s.turn) after; names = ap (λ s. s.names) after },
-      ap (λ t. t.thread) answered.1,
-    )
 
 -- the port's history then
 pub port_after_turn : (e : Option PortEvent) (k l : Clock) (p p' : PortData) (b c : PortSeat) → HasAdded e k l p p' → p.entries ≡ b.front → b.opening ≡ Some p.taker → HasAnsweredAtTurn e k l b c → IsPortBook p' → IsAtPort c
@@ -141,42 +128,6 @@ refused_shown (written.Closed back) item k l a c answered at = refusal_shown ref
 refused_shown (written.Spent back) item k l a c answered at = refusal_shown refusal.Spent k l a c answered at
 refused_shown (written.Full back) item k l a c answered at = refusal_shown refusal.Full k l a c answered at
 refused_shown (written.NoMemory back) item k l a c answered at = tt
-
--- ---- tries
--- a call that looked, and then looked or answered
-pub looked_then_looked : (k l m : Clock) (a b c : PortSeat) → HasLooked k l a b → HasLooked l m b c → HasLooked k m a c
-looked_then_looked k l m a b c one two = record { seen = seen_then_seen by_number a b c one.seen two.seen; clocked = two.clocked ∙ one.clocked }
-
-pub looked_then_entered : (event : PortEvent) (k l m : Clock) (a b c : PortSeat) → HasLooked k l a b → HasEntered l m event b c → HasEntered k m event a c
-looked_then_entered event k l m a b c one two = record {
-  before = two.before;
-  front = two.front ∙ ap (λ t. two.before ++ entry_now t two.before event ∷ []) one.clocked;
-  called = subst (λ t. HasCalled by_number (entry_now t two.before event) a c) one.clocked (seen_then_called by_number (entry_now l two.before event) a b c one.seen two.called);
-  clocked = two.clocked ∙ ap (λ t. clock_after t two.before) one.clocked;
-}
-
-pub looked_then_answered : (e : Option PortEvent) (k l m : Clock) (a b c : PortSeat) → HasLooked k l a b → HasAnswered e l m b c → HasAnswered e k m a c
-looked_then_answered None k l m a b c one two = looked_then_looked k l m a b c one two
-looked_then_answered (Some event) k l m a b c one two = looked_then_entered event k l m a b c one two
-
--- what stays of a seat that looked
-pub looked_stays : (k l : Clock) (a b : PortSeat) → HasLooked k l a b → (b.lock ≡ a.lock) × (b.turn ≡ a.turn) × (b.thread ≡ a.thread) × (l.thread.0 ≡ k.thread.0)
-looked_stays k l a b looked =
-    let after = looked.seen.after in
-    (ap (λ s. s.lock) after, ap (λ s. s.turn) after, ap (λ s. s.thread) after, ap (λ t. t.thread.0) looked.clocked)
-
--- what every call keeps
-pub answered_keeps : (e : Option PortEvent) (k l : Clock) (a b : PortSeat) → HasAnswered e k l a b → KeepsSeat a b × (l.thread ≡ k.thread)
-answered_keeps None k l a b answered =
-    let after = answered.seen.after in (
-      record { lock = ap (λ s. s.lock) after; opening = ap (λ s. s.opening) after; thread = ap (λ s. s.thread) after; joined = ap (λ s. s.joined) after; turn = ap (λ s. s.turn) after; names = ap (λ s. s.names) after },
-      ap (λ t. t.thread) answered.clocked,
-    )
-answered_keeps (Some event) k l a b answered =
-    let after = answered.called.after in (
-      record { lock = ap (λ s. s.lock) after; opening = ap (λ s. s.opening) after; thread = ap (λ s. s.thread) after; joined = ap (λ s. s.joined) after; turn = ap (λ s. s.turn) after; names = ap (λ s. s.names) after },
-      ap (λ t. t.thread) answered.clocked,
-    )
 
 -- ---- a new port
 -- its first seat knows its list

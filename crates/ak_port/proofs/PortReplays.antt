@@ -6,7 +6,7 @@ use Rattle.ak_port.specs.declared.port_entry.PortEvent.TheVariants as event
 use Rattle.ak_turn.specs.Entries.{last_stamp_of}
 use Rattle.ak_port.specs.PortCalls.{stamp_number}
 use Rattle.ak_port.specs.PortMachine.{PortState, PortStep, AreSteps, IsPort, replayed, state_after, state_of, unmade}
-use Rattle.ak_port.proofs.Stamps.{rise_push}
+use Rattle.ak_turn.proofs.Surface.{rise_push}
 
 pub replayed-append : (s : PortState) (xs ys : List PortEntry) → replayed s (xs ++ ys) ≡ replayed (replayed s xs) ys
 replayed-append s [] ys = refl

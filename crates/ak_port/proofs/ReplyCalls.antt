@@ -8,12 +8,12 @@ use Rattle.ak_base.specs.declared.no_memory.NoMemory.{NoMemory}
 use Rattle.ak_turn.specs.declared.clock.Clock.{Clock}
 use Rattle.ak_turn.specs.Entries.{AreByOthers}
 use Rattle.ak_turn.specs.Seats.{HasCalled, HasSeen, IsGiven, at_leisure, entered_by, with_own}
-use Rattle.ak_turn.proofs.Surface.{seen_then_seen, seen_then_called}
+use Rattle.ak_turn.proofs.Surface as seats
 use Rattle.ak_port.specs.declared.reply_entry.ReplyEntry.{ReplyEntry}
 use Rattle.ak_port.specs.declared.reply_entry.ReplyEvent.{ReplyEvent}
 use Rattle.ak_port.specs.declared.reply_entry.ReplyEvent.TheVariants.{Opened, Filled, Cancelled, Taken}
 use Rattle.ak_port.specs.Reply.{Stage, open_stage, filled_stage, cancelled_stage, taken_stage, SlotData, slot_of, with_stage, changed, slots_from, slots_after, BookStep, Replays, IsLegal}
-use Rattle.ak_port.specs.ReplySeats.{ReplySeat, maker_of, clock_after, entry_at, entry_now, HasEnteredBook, HasFoundSettled, HasLooked, IsItsSlot, IsUntaken, IsUncancelled, MayTake, MayCancel}
+use Rattle.ak_port.specs.ReplySeats.{ReplySeat, maker_of, stamp_of, clock_after, entry_at, entry_now, entry_of, HasEnteredBook, HasFoundSettled, HasLooked, IsItsSlot, IsUntaken, IsUncancelled, MayTake, MayCancel}
 use Rattle.ak_port.proofs.ReplyHistory.{Replays-append, slots_from-append, slots_push}
 use Rattle.ak_port.proofs.ReplySlots.{get_left, get_last, get_same, get_other}
 
@@ -173,24 +173,8 @@ module _ (old given : ReplySeat) (entries : List ReplyEntry) (seen : IsGiven mak
         subst (λ (all : List ReplyEntry). MayTake new.thread n all) (list ∙ sym (ap (λ (s : ReplySeat). s.front) after)) (takes_at_turn new.thread n threads may (subst IsLegal waits legal))
 
 -- ---- one call after another
-pub seen_nothing : (x : ReplySeat) → HasSeen maker_of x x
-seen_nothing x = record { between = []; others = All-nil (λ entry. maker_of entry ≢ x.thread); after = let at : List ReplyEntry → ReplySeat = λ l. record x { front = l } in ap at (sym (append-nil x.front)) }
-
 pub seen_then_entered : (event : ReplyEvent) (clock a b : Clock) (x y z : ReplySeat) → HasSeen maker_of x y → a ≡ clock → HasEnteredBook a b event y z → HasEnteredBook clock b event x z
-seen_then_entered event clock a b x y z one same two =
-    let made = two.entered in
-    record {
-      entered = record {
-        before = made.before;
-        front = made.front ∙ ap (λ (k : Clock). made.before ++ entry_now k made.before event ∷ []) same;
-        called = subst (λ (k : Clock). HasCalled maker_of (entry_now k made.before event) x z) same (seen_then_called maker_of (entry_now a made.before event) x y z one made.called);
-        clocked = made.clocked ∙ ap (λ (k : Clock). clock_after k made.before) same;
-      };
-      legal = two.legal;
-    }
-
-seen_then_looked : (clock a b : Clock) (x y z : ReplySeat) → HasSeen maker_of x y → a ≡ clock → HasLooked a b y z → HasLooked clock b x z
-seen_then_looked clock a b x y z one same two = record { seen = seen_then_seen maker_of x y z one two.seen; clocked = two.clocked ∙ same }
+seen_then_entered event clock a b x y z one same two = record { entered = seats.seen_then_entered maker_of stamp_of entry_of event clock a b x y z one same two.entered; legal = two.legal }
 
 pub seen_then_settled : (n : ℕ) (clock a b : Clock) (x y z : ReplySeat) → HasSeen maker_of x y → a ≡ clock → HasFoundSettled n a b y z → HasFoundSettled n clock b x z
-seen_then_settled n clock a b x y z one same two = record { looked = seen_then_looked clock a b x y z one same two.looked; legal = two.legal; settled = two.settled }
+seen_then_settled n clock a b x y z one same two = record { looked = seats.seen_then_looked maker_of clock a b x y z one same two.looked; legal = two.legal; settled = two.settled }

@@ -4,7 +4,7 @@ use Rattle.ak_turn.specs.Entries.{last_stamp_of}
 use Rattle.ak_port.specs.declared.reply_entry.ReplyEntry.{ReplyEntry}
 use Rattle.ak_port.specs.Reply.{SlotData, changed, slots_from, slots_after, BookStep, Replays, IsLegal}
 use Rattle.ak_port.specs.ReplySeats.{stamp_of}
-use Rattle.ak_port.proofs.Stamps.{rise_push}
+use Rattle.ak_turn.proofs.Surface.{rise_push}
 
 pub slots_from-append : (slots : List SlotData) (xs ys : List ReplyEntry) → slots_from slots (xs ++ ys) ≡ slots_from (slots_from slots xs) ys
 slots_from-append slots [] ys = refl

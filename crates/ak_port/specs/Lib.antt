@@ -9,5 +9,4 @@ pub mod ReplyInside
 pub mod ReplyKept
 pub mod ReplyLaws
 pub mod ReplySeats
-pub mod Stamps
 pub mod TakerLaws

@@ -4,7 +4,7 @@ use Rattle.std.specs.List.{list_any}
 use Rattle.ak_base.specs.Code.{code_of}
 use Rattle.ak_flatten.specs.Laws.{first_fault}
 use Rattle.ak_flatten.specs.Spelling.{spelling}
-use Rattle.ak_port.specs.Stamps.{Rise}
+use Rattle.ak_turn.specs.Stamps.{Rise}
 use Rattle.ak_port.specs.declared.reply_entry.ReplyEntry.{ReplyEntry}
 use Rattle.ak_port.specs.declared.reply_entry.ReplyEvent.{ReplyEvent}
 use Rattle.ak_port.specs.declared.reply_entry.ReplyEvent.TheVariants.{Opened, Filled, Cancelled, Taken}

@@ -1,5 +1,4 @@
 pub mod Letters
-pub mod Depths
 pub mod Pieces
 pub mod Words
 pub mod LineEnds

@@ -17,12 +17,15 @@ pub record IsHeads (heads : List AppHead) : Type 0 where
   pub limit : length heads ≤ app_limit
   pub loopers : All (λ head. (1 ≤ head.loopers) × (head.loopers ≤ app_looper_limit)) heads
 
--- a description fits a path or a signature that is equal, and a name that is the last part of its path; it has no team's number
+-- a word fits a path or a signature that is equal, and as a name the last part of the path; a team's number fits none
+abbrev pub word_fits : AppWord → List ℕ → List ℕ → Bool
+word_fits (word.Path asked) path signature = bytes_eq path asked
+word_fits (word.Signature asked) path signature = bytes_eq signature asked
+word_fits (word.Name asked) path signature = bytes_eq (last_part path) asked
+word_fits (word.Team asked) path signature = false
+
 abbrev pub head_fits : AppWord → AppHead → Bool
-head_fits (word.Path path) head = bytes_eq head.path path
-head_fits (word.Signature signature) head = bytes_eq head.signature signature
-head_fits (word.Name name) head = bytes_eq (last_part head.path) name
-head_fits (word.Team team) head = false
+head_fits w head = word_fits w head.path head.signature
 
 -- the number that a word has, if it is a team's
 abbrev pub is_number : AppWord → ℕ → Bool

@@ -1,21 +1,28 @@
 //! Which descriptions and teams a word names.
 ghost use Rattle.std.specs.Prelude.{◌≡◌, slice_get};
-ghost use Rattle.ak_roster.specs.Heads.{head_fits, is_number, team_fits, first_fit, team_for, excludes, excluder, passes};
+ghost use Rattle.ak_roster.specs.Heads.{word_fits, head_fits, is_number, team_fits, first_fit, team_for, excludes, excluder, passes};
 
 use crate::head::{AppHead, Mode};
 use crate::team::Running;
 use ak_base::{AppWord, last_part};
 
-// Whether the description fits: by an equal path or signature, or by the last part of its path.
+/// Whether a word fits an application of that path and signature: by an equal path or signature, or as a name
+/// by the last part of the path. A team's number fits no application, only the team.
+pub fn word_fits(word: &AppWord, path: &[u8], signature: &[u8]) -> bool
+    ensures { result ≡ word_fits word.now path.now signature.now }
+{
+    match word {
+        AppWord::Path(asked) => path == asked.as_bytes(),
+        AppWord::Signature(asked) => signature == asked.as_bytes(),
+        AppWord::Name(asked) => last_part(path) == asked.as_bytes(),
+        AppWord::Team(_) => false,
+    }
+}
+
 fn head_fits(head: &AppHead, word: &AppWord) -> bool
     ensures { result ≡ head_fits word.now head.now }
 {
-    match word {
-        AppWord::Path(path) => head.path.as_bytes() == path.as_bytes(),
-        AppWord::Signature(signature) => head.signature.as_bytes() == signature.as_bytes(),
-        AppWord::Name(name) => last_part(head.path.as_bytes()) == name.as_bytes(),
-        AppWord::Team(_) => false,
-    }
+    word_fits(word, head.path.as_bytes(), head.signature.as_bytes())
 }
 
 fn is_number(word: &AppWord, number: u32) -> bool

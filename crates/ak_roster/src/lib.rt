@@ -21,6 +21,7 @@ pub use ak_base::LOOPER_LIMIT;
 pub use answer::{Decision, FindAnswer, Launched};
 pub use book::RosterBook;
 pub use entry::{EntryWithObjects, FindOutcome, LaunchOutcome, RosterEntry, RosterEvent};
+pub use fit::word_fits;
 pub use grant::Grant;
 pub use head::{AppHead, Mode};
 pub use laws::{

@@ -1,5 +1,5 @@
 -- What main does at one port, at the book for an ask, and at the roster, by what its calls say of its seats.
-use Rattle.std.proofs.Common.{◌≡◌, ◌≢◌, ◌⊎◌, ℕ, ◌≤◌, List, [], ◌∷◌, ◌++◌, length, All, Any, Option, None, Some, Result, Ok, Err, true, map, refl, sym, ap, ◌∙◌, subst, append_assoc, append-nil, inl, inr, ⊎_elim, arith}
+use Rattle.std.proofs.Common.{◌≡◌, ◌≢◌, ◌⊎◌, eq-eqb, ne_eqb, Bool, cond, ℕ, ◌≤◌, List, [], ◌∷◌, ◌++◌, length, All, Any, Option, None, Some, Result, Ok, Err, true, map, refl, sym, ap, ◌∙◌, subst, append_assoc, append-nil, inl, inr, ⊎_elim, arith}
 use Rattle.std.specs.Prelude.{IfSome}
 use Rattle.std.proofs.lemmas.List.{map-append}
 use Rattle.std.proofs.lemmas.List.Elements.{All-append, All-cons, All-head, All-map, All-nil, Contains-push_cases}
@@ -26,6 +26,7 @@ use Rattle.ak_port.specs.declared.reply_entry.ReplyEvent.{ReplyEvent}
 use Rattle.ak_port.specs.declared.reply_entry.ReplyEvent.TheVariants as slot_event
 use Rattle.ak_port.specs.PortCalls as at_ports
 use Rattle.ak_port.specs.PortCalls.{PortSeat, close_entry}
+use Rattle.ak_port.specs.PortMachine.{state_of}
 use Rattle.ak_port.specs.Reply.{FillsWith}
 use Rattle.ak_port.specs.ReplySeats as at_books
 use Rattle.ak_port.specs.ReplySeats.{HasEnteredBook, ReplySeat}
@@ -36,9 +37,10 @@ use Rattle.ak_messenger.specs.declared.asking.Reply.{Reply}
 use Rattle.ak_messenger.specs.declared.envelope.Envelope.{Envelope}
 use Rattle.ak_messenger.specs.declared.fault.SendFault.{SendFault}
 use Rattle.ak_messenger.specs.declared.fault.SendFault.TheVariants as fault
-use Rattle.ak_diary.specs.Step.{Step, at_book, at_port, at_roster, desk_entries, saw_book}
+use Rattle.ak_diary.specs.Step.{Step, at_book, at_port, at_roster, desk_entries, port_sights, roster_sights, saw_book, saw_port}
+use Rattle.ak_diary.specs.Turns.{FindsShut, Shuts}
 use Rattle.ak_diary.specs.Wants.{Cancels, Converses, IsRefusedBy, Withdraws}
-use Rattle.ak_headline.specs.Main.{IsMainDiary, MayEnterPort, MayEnterRoster, MayRefuse, asks, asks_in_vain, begun, enters_port, enters_roster, owes_no_slot}
+use Rattle.ak_headline.specs.Main.{IsMainDiary, MayEnterPort, MayEnterRoster, MayRefuse, asks, asks_in_vain, begun, enters_port, enters_roster, finds_shut, owes_no_slot}
 use Rattle.ak_looper.specs.Rosters.{Object, by_number, maker_of}
 use Rattle.ak_run.specs.declared.run.Run.{Run}
 use Rattle.ak_run.specs.Doing.{Answered, AskedSo, EnteredSo, EntersLast, RefusedBy, address_of}
@@ -85,6 +87,11 @@ adds_by (Some e) k l a b main may entered =
       may = All-cons May n [] may (All-nil May);
       noted_is = called_one at_ports.by_number a b main (at_ports.entry_now k entered.before e) entered.before entered.called entered.front;
     }
+
+-- what main had seen there is a beginning of what it has seen
+pub port_on : (e : Option PortEvent) (k l : Clock) (a b : PortSeat) → a.thread ≡ main_thread → at_ports.HasAnswered e k l a b → StartsWith b.front a.front
+port_on None k l a b main looked = seen_on at_ports.by_number a b main looked.seen
+port_on (Some e) k l a b main entered = called_on at_ports.by_number a b main (at_ports.entry_now k entered.before e) entered.called
 
 -- the making of a port
 pub adds_making : (k : Clock) (capacity life : ℕ) → k.thread.0 ≡ main_thread → AddsAtPort [] (at_ports.making k capacity life ∷ [])
@@ -214,6 +221,45 @@ module _ (looper : ℕ) where
         so = record { enters = record { noted = y; event_is = refl; is = refl }; last = sees ∙ entered.front };
         acts = one_act (at_port looper y ∷ []) (enters_port looper e may (record { noted = y; event_is = refl; is = refl }));
         goes = at_the_port e k l a b book main entered;
+      }
+
+  -- its port is shut, by one entry or as main saw, and these are its steps
+  pub record SeesShut (seen : List PortEntry) (steps : List Step) : Type 0 where
+    pub shuts : Shuts looper steps
+    pub ports_seen : All (StartsWith seen) (port_sights looper steps)
+    pub elsewhere : (other : ℕ) → other ≢ looper → port_sights other steps ≡ []
+    pub no_roster : roster_sights steps ≡ []
+
+  sees_port : (k l : Clock) (a b : PortSeat) (book : List ReplyEntry) → a.thread ≡ main_thread → at_ports.HasLooked k l a b → GoesAtBoth looper (saw_port looper b.front ∷ []) book book a.front b.front
+  sees_port k l a b book main looked =
+      let goes = looks_at_port k l a b book main looked in
+      record { roster_none = refl; noted_book = goes.noted_book; book_on = goes.book_on; book_seen = goes.book_seen; noted_port = goes.noted_port; elsewhere = λ other differ. refl; no_edits = λ other. refl }
+
+  pub shuts_so : (answer : CloseAnswer) (k l : Clock) (a b : PortSeat) (book : List ReplyEntry) → a.thread ≡ main_thread → (state_of b.front).shut ≡ true → at_ports.HasAnswered (close_entry answer) k l a b → ActsAtBoth looper (SeesShut b.front) book book a.front b.front
+  shuts_so closed.Shut k l a b book main shut entered =
+      let y = noted_there event.Shut k l a b entered in
+      let steps : List Step = at_port looper y ∷ [] in
+      record {
+        steps = steps;
+        so = record { shuts = inl (record { noted = y; event_is = refl; is = refl }); ports_seen = All-nil (StartsWith b.front); elsewhere = λ other differ. refl; no_roster = refl };
+        acts = one_act steps (enters_port looper event.Shut tt (record { noted = y; event_is = refl; is = refl }));
+        goes = at_the_port event.Shut k l a b book main entered;
+      }
+  shuts_so closed.AlreadyShut k l a b book main shut looked =
+      let steps : List Step = saw_port looper b.front ∷ [] in
+      let finds : FindsShut looper steps = record { seen = b.front; shut = shut; is = refl } in
+      record {
+        steps = steps;
+        so = record {
+          shuts = inr finds;
+          ports_seen =
+              subst (All (StartsWith b.front)) (sym (ap (λ (same : Bool). cond same (b.front ∷ []) [] ++ []) (eq-eqb looper looper refl)))
+              (All-cons (StartsWith b.front) b.front [] ([], sym (append-nil b.front)) (All-nil (StartsWith b.front)));
+          elsewhere = λ other differ. ap (λ (same : Bool). cond same (b.front ∷ []) [] ++ []) (ne_eqb looper other (λ same. differ (sym same)));
+          no_roster = refl;
+        };
+        acts = one_act steps (finds_shut looper finds);
+        goes = sees_port k l a b book main looked;
       }
 
   -- the looper that is asked

@@ -3,12 +3,13 @@ use Rattle.std.proofs.Common.{◌≡◌, ◌≢◌, ℕ, zero, suc, ◌<◌, con
 use Rattle.std.specs.Prelude.{set}
 use Rattle.std.specs.List.{flat_map}
 use Rattle.std.proofs.lemmas.List.Concat.{flat_map-append}
-use Rattle.std.proofs.lemmas.List.Elements.{All-append, All-head, All-nil, All-tail, All-weaker}
+use Rattle.std.proofs.lemmas.List.Elements.{All-append, All-head, All-nil, All-tail}
 use mathlib.Core.Logic.{dite}
 use native.Mathlib.Decide.{ℕ_discrete}
 use Rattle.ak_base.specs.Thread.{main_thread}
 use Rattle.ak_turn.specs.Entries.{StartsWith}
 use Rattle.ak_turn.specs.Noted.{Noted, noted}
+use Rattle.ak_turn.proofs.Surface.{seen_still, starts_then_starts}
 use Rattle.ak_roster.specs.declared.entry.RosterEntry.{RosterEntry}
 use Rattle.ak_port.specs.declared.port_entry.PortEntry.{PortEntry}
 use Rattle.ak_port.specs.declared.reply_entry.ReplyEntry.{ReplyEntry}
@@ -18,7 +19,6 @@ use Rattle.ak_diary.specs.Step.{Step, at_port, book_entries, book_entry, book_si
 use Rattle.ak_headline.specs.Main.{IsAct, IsMainDiary, MayEnterPort, begun, enters_port, went_on}
 use Rattle.ak_looper.specs.Rosters.{maker_of}
 use Rattle.ak_run.specs.Recording.{AddsAtPort, Fronts, GoesBy, IsRecorded, Records, fronts, list_at}
-use Rattle.ak_run.proofs.Standing.{starts_then_starts}
 
 -- ---- steps
 pub diary-append : (xs ys : List Step) → IsMainDiary xs → IsMainDiary ys → IsMainDiary (xs ++ ys)
@@ -27,10 +27,6 @@ diary-append xs _ one (went_on so_far act diary is) = subst IsMainDiary (append_
 
 pub one_act : (act : List Step) → IsAct act → IsMainDiary act
 one_act act is = went_on [] act begun is
-
--- what was seen is still a beginning
-pub seen_still : (b c : List ReplyEntry) (seen : List (List ReplyEntry)) → StartsWith c b → All (StartsWith b) seen → All (StartsWith c) seen
-seen_still b c seen on all = All-weaker (StartsWith b) (StartsWith c) (λ a starts. starts_then_starts a b c starts on) seen all
 
 -- what was noted before, then by these steps, and then by those
 then_those : {X : Type 0} (f : Step → List X) (xs ys : List Step) (a b c : List X) → b ≡ a ++ flat_map f xs → c ≡ b ++ flat_map f ys → c ≡ a ++ flat_map f (xs ++ ys)

@@ -1,5 +1,5 @@
 -- Main's calls through its door to one looper.
-use Rattle.std.proofs.Common.{◌≡◌, ℕ, ◌<◌, false, List, [], length, refl, sym, ap, ◌∙◌, subst, append_assoc, append-nil, ◌∷◌, ◌++◌, Option, None, Some, Result, vec_capacity}
+use Rattle.std.proofs.Common.{◌≡◌, ℕ, ◌<◌, List, [], length, refl, sym, ap, ◌∙◌, subst, append-nil, Option, None, Some, Result, vec_capacity}
 use Rattle.std.specs.Prelude.{IfSome, get_or, option_map, set, slice_get}
 use Rattle.std.proofs.lemmas.List.Elements.{All-get_or}
 use Rattle.std.proofs.lemmas.List.{get_or-set_same, length-set}
@@ -7,8 +7,8 @@ use Rattle.std.proofs.lemmas.Option.{slice_get_read}
 use Rattle.ak_base.specs.Thread.{main_thread}
 use Rattle.ak_turn.specs.Called.{KeepsSeat}
 use Rattle.ak_turn.specs.Entries.{StartsWith}
-use Rattle.ak_turn.specs.Seats.{IsGiven, SeatData, at_leisure}
 use Rattle.ak_turn.specs.declared.clock.Clock.{Clock}
+use Rattle.ak_turn.proofs.Surface.{answered_keeps, answered_starts, keeps_same, starts_itself}
 use Rattle.ak_roster.specs.declared.head.AppHead.{AppHead}
 use Rattle.ak_port.specs.declared.port_entry.PortEntry.{PortEntry}
 use Rattle.ak_port.specs.declared.port_entry.PortEvent.{PortEvent}
@@ -19,6 +19,7 @@ use Rattle.ak_messenger.specs.Asks.{AskTells}
 use Rattle.ak_messenger.specs.declared.asking.Reply.{Reply}
 use Rattle.ak_messenger.specs.declared.fault.SendFault.{SendFault}
 use Rattle.ak_desk.specs.declared.entry.DeskEvent.{DeskEvent}
+use Rattle.ak_desk.specs.Desk.{entry_with, stamp_number}
 use Rattle.ak_desk.specs.Shared as desks
 use Rattle.ak_desk.specs.Shared.{DeskSeat}
 use Rattle.ak_diary.specs.Step.{Step}
@@ -41,60 +42,23 @@ use Rattle.ak_run.proofs.Recorded.{beside_same, call_goes, fronts_same, sees_fro
 use Rattle.ak_run.proofs.Standing.{BookOn, nothing_entered, one_called, same_book, same_loopers}
 
 -- ---- seats
-pub keeps_itself : {O L : Type 0} (seat : SeatData O L) → KeepsSeat seat seat
-keeps_itself seat = record { lock = refl; opening = refl; thread = refl; joined = refl; turn = refl; names = refl }
-
--- with the turn and without it again
-pub turn_keeps : {O L : Type 0} (by : L → ℕ) (a b c : SeatData O L) → a.turn ≡ false → IsGiven by a b → KeepsSeat (at_leisure b) c → KeepsSeat a c
-turn_keeps by a b c idle given keeps = record {
-  lock = keeps.lock ∙ ap (λ s. s.lock) given.after;
-  opening = keeps.opening ∙ ap (λ s. s.opening) given.after;
-  thread = keeps.thread ∙ ap (λ s. s.thread) given.after;
-  joined = keeps.joined ∙ ap (λ s. s.joined) given.after;
-  turn = keeps.turn ∙ sym idle;
-  names = keeps.names ∙ ap (λ s. s.names) given.after;
-}
-
 -- what a call at the port leaves of the door
 pub seats_of : (door door' : Door) → KeepsDoor door door' → KeepsSeats door door'
 seats_of door door' keeps = record {
   port = keeps.port_seat;
-  desk = subst (KeepsSeat door.desk_seat) (sym keeps.desk_seat) (keeps_itself door.desk_seat);
+  desk = keeps_same door.desk_seat door'.desk_seat keeps.desk_seat;
   desk_on = ([], ap (λ (s : DeskSeat). s.front) keeps.desk_seat ∙ sym (append-nil door.desk_seat.front));
 }
 
 -- nothing was called at the desk
 pub desk_same : (d : Door) → StartsWith d.desk_seat.front d.desk_seat.front
-desk_same d = ([], sym (append-nil d.desk_seat.front))
+desk_same d = starts_itself d.desk_seat.front
 
 -- a call at a desk changes the seat's front and its own entries alone, and of the clock the time; the front goes on
 pub desk_keeps : (e : Option DeskEvent) (k l : Clock) (a b : DeskSeat) → desks.HasAnswered e k l a b → KeepsSeat a b × StartsWith b.front a.front × (l.thread ≡ k.thread)
-desk_keeps None k l a b looked =
-    let after = looked.seen.after in (
-      record {
-        lock = ap (λ s. s.lock) after;
-        opening = ap (λ s. s.opening) after;
-        thread = ap (λ s. s.thread) after;
-        joined = ap (λ s. s.joined) after;
-        turn = ap (λ s. s.turn) after;
-        names = ap (λ s. s.names) after;
-      },
-      (looked.seen.between, ap (λ s. s.front) after),
-      ap (λ (c : Clock). c.thread) looked.clocked,
-    )
-desk_keeps (Some event) k l a b entered =
-    let after = entered.called.after in (
-      record {
-        lock = ap (λ s. s.lock) after;
-        opening = ap (λ s. s.opening) after;
-        thread = ap (λ s. s.thread) after;
-        joined = ap (λ s. s.joined) after;
-        turn = ap (λ s. s.turn) after;
-        names = ap (λ s. s.names) after;
-      },
-      (entered.called.between ++ _ ∷ [], ap (λ s. s.front) after ∙ append_assoc a.front entered.called.between _),
-      ap (λ (c : Clock). c.thread) entered.clocked,
-    )
+desk_keeps e k l a b answered =
+    let keeps = answered_keeps desks.by_number stamp_number (entry_with None) e k l a b answered in
+    (keeps.0, answered_starts desks.by_number stamp_number (entry_with None) e k l a b answered, keeps.1)
 
 -- ---- the door to a looper
 -- it is main's own

@@ -1,9 +1,10 @@
 -- The application that is to start.
-use Rattle.std.proofs.Common.{◌≡◌, ℕ, zero, suc, ◌+◌, ◌≤◌, ◌<◌, List, [], ◌∷◌, length, map, get_or, Option, None, Some, refl, sym, ap, ◌∙◌, subst, arith, All, Contains}
+use Rattle.std.proofs.Common.{◌≡◌, ℕ, zero, suc, ◌+◌, ◌≤◌, ◌<◌, List, [], ◌∷◌, length, map, get_or, Option, None, Some, refl, sym, ap, ◌∙◌, subst, arith, All}
 use Rattle.std.specs.Prelude.{slice_get, option_map, unwrap_or}
 use Rattle.std.proofs.lemmas.List.{length-map}
-use Rattle.std.proofs.lemmas.List.Elements.{All-get_or, Contains-get_or}
-use Rattle.std.proofs.lemmas.Option.{slice_get_within}
+use Rattle.std.proofs.lemmas.List.Elements.{All-get_or}
+use Rattle.std.specs.List.{find}
+use Rattle.std.proofs.lemmas.Option.{slice_get_read, slice_get_within}
 use Rattle.ak_base.specs.declared.app_word.AppWord.{AppWord}
 use Rattle.ak_roster.specs.declared.answer.Decision.TheVariants as decision
 use Rattle.ak_roster.specs.declared.entry.LaunchOutcome.{LaunchOutcome}
@@ -11,7 +12,9 @@ use Rattle.ak_roster.specs.declared.entry.LaunchOutcome.TheVariants as launch
 use Rattle.ak_roster.specs.declared.entry.RosterEvent.TheVariants as event
 use Rattle.ak_roster.specs.declared.head.AppHead.{AppHead}
 use Rattle.ak_roster.specs.Answers.{decision_of}
-use Rattle.ak_roster.specs.Machine.{launch_of, loopers_at}
+use Rattle.ak_message.specs.Message.{MessageData}
+use Rattle.ak_roster.specs.Machine.{launch_of, loopers_at, runs_team}
+use Rattle.ak_roster.specs.declared.team.Running.{Running}
 use Rattle.ak_roster.specs.Roster.{state}
 use Rattle.ak_roster.proofs.Surface.{started_facts}
 use Rattle.ak_action.specs.declared.plan.PlanParts.{PlanParts}
@@ -21,9 +24,12 @@ use Rattle.ak_run.specs.declared.launching.Launch.{Launch}
 use Rattle.ak_run.specs.declared.launching.Launch.TheVariants as answer
 use Rattle.ak_run.specs.declared.new_looper.Shared.{Shared}
 use Rattle.ak_run.specs.declared.new_team.Making.{Making}
-use Rattle.ak_run.specs.Launching.{Book, ComesTo, HasEntered, IsDecided, IsMade, IsRunningTeam}
+use Rattle.ak_run.specs.declared.new_team.NewTeam.{NewTeam}
+use Rattle.ak_run.specs.Greeting.{EachMains, FirstHoldsTwo, capacities_in, port_events, told_first, written_from}
+use Rattle.ak_run.specs.Launching.{Book, ComesTo, HasEntered, IsDecided, IsMade, IsRunningTeam, IsTeamOf, TellsTeam}
 use Rattle.ak_run.specs.NewTeam.{IsNewTeam}
 use Rattle.ak_run.specs.Opening.{FitPlaces}
+use Rattle.ak_run.specs.Recording.{team_fronts}
 use Rattle.ak_run.proofs.Entering.{loopers_on}
 use Rattle.ak_run.proofs.Ways.{kept_count}
 
@@ -48,6 +54,18 @@ running_comes apps shared word book book' team (answer.Started t) entered is = a
 running_comes apps shared word book book' team answer.NotFound entered is = absurd is
 running_comes apps shared word book book' team answer.Limit entered is = absurd is
 running_comes apps shared word book book' team answer.NoMemory entered is = absurd is
+
+-- and it has its first looper
+pub running_told : (apps : List AppText) (arguments : Option MessageData) (word : AppWord) (book book' : Book) (team : ℕ) (l : Launch) → (state book').running ≡ (state book).running → IsRunningTeam book' team l → TellsTeam apps arguments word book l
+running_told apps arguments word book book' team (answer.Running number first) same is = (
+  is.2,
+  ap (λ (n : ℕ). find (runs_team n) (state book).running) is.0 ∙ ap (λ (xs : List Running). find (runs_team team) xs) (sym same) ∙ is.3,
+  is.4,
+)
+running_told apps arguments word book book' team (answer.Started t) same is = absurd is
+running_told apps arguments word book book' team answer.NotFound same is = absurd is
+running_told apps arguments word book book' team answer.Limit same is = absurd is
+running_told apps arguments word book book' team answer.NoMemory same is = absurd is
 
 module _ (apps : List AppText) (book : Book) (word : AppWord) (place team first : ℕ) (heads : book.heads ≡ heads_of apps) (whole : All IsWholeApp apps) (told : decision.Starts place team first ≡ decision_of (launch_of book.heads (state book) word))
     (app : AppText) (app_is : app ≡ get_or apps place app) where
@@ -75,21 +93,40 @@ module _ (apps : List AppText) (book : Book) (word : AppWord) (place team first 
       let facts = started_facts book.heads (state book) word place team first starts in
       app_whole.places_fit first k p (omega (arith, facts.few_loopers, count)) there
 
-  pub made : (shared : Shared) (m : Making) → IsNewTeam app.loopers team first shared m.team m.kept.items → length app.loopers ≡ length m.team.others.items + 1 → IsMade apps shared m team first
+  pub made : (shared : Shared) (m : Making) → IsNewTeam app.loopers team first shared m.team m.kept.items → length app.loopers ≡ length m.team.others.items + 1 → IsMade apps shared m place team first
   made shared m new all = record {
     plans = app.loopers;
-    described = record { app = app; there = subst (Contains apps) (sym app_is) (Contains-get_or apps place app within); plans_are = refl };
+    described = record { app = app; there = slice_get_read apps (length apps) place app refl within app_is; plans_are = refl };
     new = new;
     all = all;
     few = app_whole.few_loopers;
   }
 
-  pub decided : (shared : Shared) (m : Making) → IsNewTeam app.loopers team first shared m.team m.kept.items → length app.loopers ≡ length m.team.others.items + 1 → IsDecided book word m team first
+  pub decided : (shared : Shared) (m : Making) → IsNewTeam app.loopers team first shared m.team m.kept.items → length app.loopers ≡ length m.team.others.items + 1 → IsDecided book word m place team first
   decided shared m new all = record {
-    place = place;
     starts = starts;
     many = count ∙ all ∙ sym (kept_count app.loopers team first shared m.team m.kept.items new);
     apps = apps;
     shared = shared;
     made = made shared m new all;
   }
+
+  -- the port of its first looper holds two items
+  pub first_holds : FirstHoldsTwo app.loopers
+  first_holds = app_whole.own_capacity
+
+  -- what is told of the team that was made
+  pub started_told : (arguments : Option MessageData) (new : NewTeam) (l : Launch) → EachMains (port_events (capacities_in app.loopers) (written_from 0 (told_first arguments))) (team_fronts new) → IsTeamOf new team first l → TellsTeam apps arguments word book l
+  started_told arguments new (answer.Started t) ports is = (
+    place,
+    starts ∙ ap (λ (n : ℕ). launch.Started place n first) (sym is.1) ∙ ap (λ (n : ℕ). launch.Started place t.team.number n) (sym is.2),
+    record {
+      app = app;
+      described = slice_get_read apps (length apps) place app refl within app_is;
+      ports = subst (λ (n : NewTeam). EachMains (port_events (capacities_in app.loopers) (written_from 0 (told_first arguments))) (team_fronts n)) (sym is.0) ports;
+    },
+  )
+  started_told arguments new answer.NoMemory ports is = tt
+  started_told arguments new (answer.Running number looper) ports is = absurd is
+  started_told arguments new answer.NotFound ports is = absurd is
+  started_told arguments new answer.Limit ports is = absurd is

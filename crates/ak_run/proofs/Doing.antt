@@ -5,6 +5,7 @@ use Rattle.std.proofs.lemmas.List.Concat.{flat_map-append}
 use Rattle.std.proofs.lemmas.List.Elements.{All-append, All-nil, All-weaker}
 use Rattle.ak_turn.specs.Entries.{StartsWith}
 use Rattle.ak_turn.specs.Noted.{Noted, StandsIn}
+use Rattle.ak_turn.proofs.Surface.{starts_then_starts}
 use Rattle.ak_desk.specs.Entry.{EntryData}
 use Rattle.ak_diary.specs.Step.{Step, desk_entries, desk_entry}
 use Rattle.ak_looper.specs.Rosters.{plain_of}
@@ -15,7 +16,6 @@ use Rattle.ak_run.specs.Entering.{DoesWith}
 use Rattle.ak_run.specs.Recording.{GoesBy, Records, fronts_of, fronts_with}
 use Rattle.ak_run.proofs.Acts.{goes_then, nothing_after, recorded_on}
 use Rattle.ak_run.proofs.GoingOn.{DesksOn, desks_then, plain_on}
-use Rattle.ak_run.proofs.Standing.{starts_then_starts}
 
 -- what stood at a desk stands there still
 pub edits_still : (before after : List EntryData) (notes : List (Noted EntryData)) → StartsWith after before → All (StandsIn before) notes → All (StandsIn after) notes

@@ -157,23 +157,26 @@ module _ (heads : List AppHead) (s : RosterState) (team : ℕ) where
   already word launch.NotFound is told = absurd cc
   already word launch.Limit is told = absurd cc
 
--- it runs on behind the entry of that answer
-pub runs_on : (book book' : Book) (clock clock' : Clock) (word : AppWord) (team : ℕ) → decision.AlreadyRunning team ≡ decision_of (launch_of book.heads (state book) word)
-    → Enters (event.Launch word (launch_of book.heads (state book) word)) [] book.doors book book' clock clock' → Runs team (state book').running
-runs_on book book' clock clock' word team told enters =
+-- behind the entry of that answer the same teams run
+pub same_running : (book book' : Book) (clock clock' : Clock) (word : AppWord) (team : ℕ) → decision.AlreadyRunning team ≡ decision_of (launch_of book.heads (state book) word)
+    → Enters (event.Launch word (launch_of book.heads (state book) word)) [] book.doors book book' clock clock' → (state book').running ≡ (state book).running
+same_running book book' clock clock' word team told enters =
     let outcome = launch_of book.heads (state book) word in
     let entry : RosterEntry = record { stamp = (new_entry clock book.entries (event.Launch word outcome) []).plain.stamp; by = clock.thread; event = event.Launch word outcome } in
-    let there : Runs team (state book).running = already book.heads (state book) team word outcome refl told in
-    let is : (state book').running ≡ (state book).running =
     ap (λ (r : Book). (state r).running) enters.0 ∙ ap (λ l. (state_of book.heads l).running) (plain-append book.entries (new_entry clock book.entries (event.Launch word outcome) [] ∷ []))
-    ∙ ap (λ (t : RosterState). t.running) (state_of-append book.heads (plain_entries book.entries) entry) ∙ nothing_more outcome told in
-    subst (Runs team) (sym is) there
+    ∙ ap (λ (t : RosterState). t.running) (state_of-append book.heads (plain_entries book.entries) entry) ∙ nothing_more outcome told
   where
     nothing_more : (o : LaunchOutcome) → decision.AlreadyRunning team ≡ decision_of o → (state book).running ++ team_of book.heads o ≡ (state book).running
     nothing_more (launch.AlreadyRunning t) told = append-nil (state book).running
     nothing_more (launch.Started p t f) told = absurd cc
     nothing_more launch.NotFound told = absurd cc
     nothing_more launch.Limit told = absurd cc
+
+-- so it runs on
+pub runs_on : (book book' : Book) (clock clock' : Clock) (word : AppWord) (team : ℕ) → decision.AlreadyRunning team ≡ decision_of (launch_of book.heads (state book) word)
+    → Enters (event.Launch word (launch_of book.heads (state book) word)) [] book.doors book book' clock clock' → Runs team (state book').running
+runs_on book book' clock clock' word team told enters =
+    subst (Runs team) (sym (same_running book book' clock clock' word team told enters)) (already book.heads (state book) team word (launch_of book.heads (state book) word) refl told)
 
 -- ---- the loopers of each team that runs were started, and it has one
 pub record IsFound (many : ℕ) (r : Running) : Type 0 where

@@ -2,6 +2,7 @@
 use Rattle.std.proofs.Common.{◌≡◌, ℕ, zero, suc, ◌+◌, ◌<◌, List, length, ◌∷◌, ◌++◌, Some, refl, ap, sym, subst, [], ◌∙◌, arith, append-nil, length-append}
 use Rattle.std.specs.Prelude.{get_or, option_map, set, slice_get, unwrap_or}
 use Rattle.ak_turn.specs.Entries.{StartsWith}
+use Rattle.ak_turn.proofs.Surface.{starts_then_starts}
 use Rattle.ak_roster.specs.declared.entry.EntryWithObjects.{EntryWithObjects}
 use Rattle.ak_roster.specs.declared.head.AppHead.{AppHead}
 use Rattle.ak_roster.specs.Roster.{plain_entries}
@@ -17,7 +18,7 @@ use Rattle.ak_run.specs.Running.{IsRunning, KeepsRest, Stands}
 use Rattle.ak_run.specs.Starting.{GoesOn, GoesOnWith}
 use Rattle.ak_run.proofs.Recorded.{beside_then, record_on}
 use Rattle.ak_run.proofs.RosterTurn.{RosterOn, plain-append}
-use Rattle.ak_run.proofs.Standing.{BookOn, SameLoopers, stands_on, starts_then_starts}
+use Rattle.ak_run.proofs.Standing.{BookOn, SameLoopers, stands_on}
 
 -- what Some holds
 pub some_same : {X : Type 0} (x y : X) → Some x ≡ Some y → x ≡ y

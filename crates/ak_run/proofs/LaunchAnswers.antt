@@ -1,28 +1,68 @@
 -- What main did by a launch, by its answer.
-use Rattle.std.proofs.Common.{◌≡◌, ◌+◌, ℕ, List, [], ◌++◌, length, sym, subst}
+use Rattle.std.proofs.Common.{◌≡◌, ◌+◌, ◌<◌, ℕ, List, [], ◌++◌, length, Option, refl, sym, subst}
+use Rattle.std.specs.Prelude.{IfSome, get_or, set}
+use Rattle.ak_base.specs.Thread.{main_thread}
 use Rattle.ak_base.specs.declared.app_word.AppWord.{AppWord}
+use Rattle.ak_message.specs.Message.{MessageData}
+use Rattle.ak_turn.specs.Entries.{StartsWith}
+use Rattle.ak_turn.specs.declared.clock.Clock.{Clock}
+use Rattle.ak_describe.specs.declared.described.AppText.{AppText}
 use Rattle.ak_diary.specs.Step.{Step}
+use Rattle.ak_port.specs.PortCalls as at_ports
+use Rattle.ak_port.specs.declared.port_entry.PortEntry.{PortEntry}
+use Rattle.ak_port.specs.declared.port_entry.PortEvent.{PortEvent}
+use Rattle.ak_port.specs.declared.reply_entry.ReplyEntry.{ReplyEntry}
 use Rattle.ak_roster.specs.declared.entry.LaunchOutcome.TheVariants as outcome
 use Rattle.ak_run.specs.declared.answers.LaunchAnswer.{LaunchAnswer}
 use Rattle.ak_run.specs.declared.answers.LaunchAnswer.TheVariants as answer
 use Rattle.ak_run.specs.declared.launching.Launch.TheVariants as launch
+use Rattle.ak_headline.specs.Main.{MayEnterPort}
+use Rattle.ak_looper.specs.declared.door.Door.{Door}
+use Rattle.ak_run.specs.declared.member.Member.{Member}
 use Rattle.ak_run.specs.declared.run.Run.{Run}
-use Rattle.ak_run.specs.Doing.{DoesSo, LaunchedSo}
-use Rattle.ak_run.specs.Entering.{AreAtPorts, DoesWith, EntersLaunch, GreetsAgain}
+use Rattle.ak_run.specs.Doing.{DoesSo, EnteredSo, FindsRunning, LaunchedSo}
+use Rattle.ak_run.specs.Entering.{DoesWith, EntersLaunch, EntersRunning, GreetsAgain, GreetsSo}
+use Rattle.ak_run.specs.Greeting.{SendsEach, arguments_told}
+use Rattle.ak_run.proofs.Acting.{ActsAtBoth}
+use Rattle.ak_run.proofs.Calls.{one_does, post_acts}
 use Rattle.ak_run.proofs.Doing.{does_so_then, does_with}
-use Rattle.ak_run.proofs.Launches.{launches_at, launches_then}
+use Rattle.ak_run.proofs.Launches.{launches_at}
 
 -- the team runs: what is sent to it follows
-module _ (word : AppWord) (team first : ℕ) (r s t : Run) (entered : DoesWith (EntersLaunch word (launch.Running team first) s) [] r s) (sends : DoesSo AreAtPorts s t) where
-  pub runs_so : (result : LaunchAnswer) → GreetsAgain team (length s.roster_seat.front) result → DoesSo (LaunchedSo word result) r t
-  runs_so (answer.Running number place) is =
-      let P = LaunchedSo word (answer.Running team place) in
-      let at_roster : DoesSo P r s = does_with (EntersLaunch word (launch.Running team first) s) P r s (λ steps last. launches_at word (outcome.AlreadyRunning team) s place steps is.1 last) entered in
-      subst (λ (n : ℕ). DoesSo (LaunchedSo word (answer.Running n place)) r t) (sym is.0) (does_so_then P AreAtPorts P r s t (λ xs ys launched at_ports. launches_then word (outcome.AlreadyRunning team) place xs ys launched at_ports) at_roster sends)
-  runs_so answer.NoMemory is =
+module _ (apps : List AppText) (word : AppWord) (arguments : Option MessageData) (team first : ℕ) (r s t : Run) (entered : DoesWith (EntersLaunch apps word arguments (launch.Running team first) s) [] r s) where
+  abbrev Entered : List Step → Type 0
+  Entered = EntersRunning apps word team first s
+
+  pub runs_so : (result : LaunchAnswer) → GreetsAgain team (length s.roster_seat.front) result → DoesSo (GreetsSo first arguments result) s t → DoesSo (LaunchedSo apps word arguments result) r t
+  runs_so (answer.Running number place) is sends =
+      let at_roster : DoesSo Entered r s = does_with (EntersLaunch apps word arguments (launch.Running team first) s) Entered r s (λ steps last. last) entered in
+      subst (λ (n : ℕ). DoesSo (LaunchedSo apps word arguments (answer.Running n place)) r t) (sym is.0)
+      (does_so_then Entered (SendsEach first (arguments_told arguments)) (FindsRunning apps word arguments team place) r s t
+      (λ xs ys enters sent. record {
+        entry = xs;
+        launches = launches_at word (outcome.AlreadyRunning team) s place xs is.1 enters.launches;
+        running = enters.running;
+        runs = enters.runs;
+        told = ys;
+        sends = subst (λ (looper : ℕ). SendsEach looper (arguments_told arguments) ys) (sym enters.first_is) sent;
+        is = refl;
+      }) at_roster sends)
+  runs_so answer.NoMemory is sends =
       let P : List Step → Type 0 = λ steps. Unit {0} in
-      does_so_then P AreAtPorts P r s t (λ xs ys one two. tt) (does_with (EntersLaunch word (launch.Running team first) s) P r s (λ steps last. tt) entered) sends
-  runs_so (answer.Started number place) is = absurd is
-  runs_so (answer.NotFound place) is = absurd is
-  runs_so (answer.Limit place) is = absurd is
-  runs_so answer.ThreadFault is = absurd is
+      does_so_then P P P r s t (λ xs ys one two. tt) (does_with (EntersLaunch apps word arguments (launch.Running team first) s) P r s (λ steps last. tt) entered) sends
+  runs_so (answer.Started number place) is sends = absurd is
+  runs_so (answer.NotFound place) is sends = absurd is
+  runs_so (answer.Limit place) is sends = absurd is
+  runs_so answer.ThreadFault is sends = absurd is
+
+-- acts of which one thing holds are acts of which another does
+pub acts_as : (looper : ℕ) (P Q : List Step → Type 0) (book book' : List ReplyEntry) (port port' : List PortEntry) → ((steps : List Step) → P steps → Q steps) → ActsAtBoth looper P book book' port port' → ActsAtBoth looper Q book book' port port'
+acts_as looper P Q book book' port port' tells acts = record { steps = acts.steps; so = tells acts.steps acts.so; acts = acts.acts; goes = acts.goes }
+
+-- a call at one looper's port, by what its entry there tells
+pub does_as : (r r' : Run) (place : ℕ) (m : Member) (door : Door) (within : place < length r.members.items) (there : get_or r.members.items place m ≡ m) (is : r'.members.items ≡ set r.members.items place (record m { door = door })) (roster : r'.roster_seat ≡ r.roster_seat) (Q : List Step → Type 0)
+    (e : Option PortEvent) (k l : Clock) → StartsWith door.desk_seat.front m.door.desk_seat.front → m.door.port_seat.thread ≡ main_thread → IfSome e MayEnterPort → at_ports.HasAnswered e k l m.door.port_seat door.port_seat → r'.hands.book_seat ≡ r.hands.book_seat
+    → ((steps : List Step) → EnteredSo place r' steps e → Q steps) → DoesSo Q r r'
+does_as r r' place m door within there is roster Q e k l desk_on main may answered book tells =
+    one_does r r' place m door within there is roster Q desk_on
+    (acts_as place (λ (steps : List Step). EnteredSo place r' steps e) Q r.hands.book_seat.front r'.hands.book_seat.front m.door.port_seat.front door.port_seat.front tells (post_acts r r' place m door within there is roster e k l main may answered book))

@@ -1,28 +1,32 @@
 -- Behind main's turn at the roster, in which it launched.
 use Rattle.std.proofs.Common.{◌≡◌, ℕ, ◌+◌, ◌<◌, ◌≤◌, false, List, [], ◌∷◌, ◌++◌, length, length-append, map, Option, None, Some, refl, sym, ap, ◌∙◌, subst, append-nil, inl, inr, arith, All}
-use Rattle.std.proofs.lemmas.List.Elements.{All-head}
+use Rattle.std.proofs.lemmas.List.Elements.{All-cons, All-head, All-nil}
 use Rattle.std.proofs.lemmas.List.{length-map}
-use Rattle.std.proofs.lemmas.List.Concat.{flat_map-append}
-use Rattle.std.specs.List.{Any}
+use Rattle.std.specs.Prelude.{slice_get}
+use Rattle.std.specs.List.{Any, find}
 use Rattle.ak_base.specs.declared.app_word.AppWord.{AppWord}
+use Rattle.ak_turn.specs.Entries.{StartsWith}
+use Rattle.ak_message.specs.Message.{MessageData}
 use Rattle.ak_turn.specs.Noted.{note}
 use Rattle.ak_base.specs.Limits.{app_looper_limit}
 use Rattle.ak_base.specs.Thread.{main_thread}
 use Rattle.ak_turn.specs.Seats.{IsGiven, IsNext, KnowsWhole, at_leisure, entered_by}
 use Rattle.ak_roster.specs.declared.answer.FindAnswer.{FindAnswer}
-use Rattle.ak_roster.specs.declared.answer.FindAnswer.TheVariants as find
+use Rattle.ak_roster.specs.declared.answer.FindAnswer.TheVariants as found_by
 use Rattle.ak_roster.specs.declared.entry.EntryWithObjects.{EntryWithObjects}
 use Rattle.ak_roster.specs.declared.head.AppHead.{AppHead}
 use Rattle.ak_roster.specs.declared.entry.LaunchOutcome.{LaunchOutcome}
 use Rattle.ak_roster.specs.declared.entry.LaunchOutcome.TheVariants as outcome
+use Rattle.ak_roster.specs.declared.entry.RosterEntry.{RosterEntry}
 use Rattle.ak_roster.specs.declared.entry.RosterEvent.{RosterEvent}
 use Rattle.ak_roster.specs.declared.entry.RosterEvent.TheVariants as event
 use Rattle.ak_roster.specs.declared.team.Running.{Running}
 use Rattle.ak_roster.specs.Heads.{team_for}
-use Rattle.ak_roster.specs.Machine.{outcome_found, state_of}
+use Rattle.ak_roster.specs.Machine.{outcome_found, runs_team, state_of}
 use Rattle.ak_roster.specs.Roster.{objects_of, plain_entries, state}
 use Rattle.ak_describe.specs.Whole.{heads_of}
-use Rattle.ak_diary.specs.Step.{Step, book_entries, book_entry, desk_entry, roster_entries, roster_entry}
+use Rattle.ak_diary.specs.Step.{Step, at_roster, desk_entry, port_sights, roster_sights, saw_roster}
+use Rattle.ak_headline.specs.Main.{finds_gone}
 use Rattle.ak_action.specs.declared.state.DeskState.{DeskState}
 use Rattle.ak_describe.specs.declared.described.AppText.{AppText}
 use Rattle.ak_port.specs.declared.port_entry.PortEntry.{PortEntry}
@@ -34,21 +38,25 @@ use Rattle.ak_run.specs.declared.launching.Launch.TheVariants as launch
 use Rattle.ak_run.specs.declared.launching.StartedTeam.{StartedTeam}
 use Rattle.ak_run.specs.declared.new_looper.Shared.{Shared}
 use Rattle.ak_run.specs.declared.run.Run.{Run}
+use Rattle.ak_run.specs.Closing.{ClosesSo, EntersGone, FindsGone, LeavesBook, LeavesSo}
 use Rattle.ak_run.specs.Counting.{started_by_main}
 use Rattle.ak_run.specs.Doing.{DoesSo, FindsAt, FoundSo, LaunchesAt}
-use Rattle.ak_run.specs.Entering.{AreAtPorts, DoesWith, EntersLaunch, LaunchesLast}
+use Rattle.ak_run.specs.Entering.{DoesWith, EntersLaunch, EntersRunning, LaunchesLast}
 use Rattle.ak_run.specs.Finding.{IsFoundAt, LooksUp}
+use Rattle.ak_run.specs.Greeting.{at_looper, capacities_in, made_from, start_entries, told_first, written_from}
 use Rattle.ak_run.specs.Jobs.{HasWays, IsStartedIn, facts_in}
-use Rattle.ak_run.specs.Launching.{Book, ByMain, ComesTo, HasEntered, HasStarted}
+use Rattle.ak_run.specs.Launching.{Book, ByMain, ComesTo, HasEntered, HasStarted, TellsTeam}
 use Rattle.ak_run.specs.NewTeam.{IsNewTeam, IsOneOf}
-use Rattle.ak_run.specs.Recording.{GoesBy, fronts, fronts_of, fronts_with, member_front, team_fronts}
+use Rattle.ak_run.specs.Recording.{GoesBy, fronts, fronts_of, fronts_with, list_at, member_front, new_front, team_fronts}
 use Rattle.ak_run.specs.Running.{IsRunning, KeepsRest, Stands}
 use Rattle.ak_run.specs.Starting.{HasEnteredLaunch, MayStartTeam, launched_fronts}
 use Rattle.ak_run.proofs.Acting.{turn_no_edits, turn_step}
-use Rattle.ak_run.proofs.Acts.{goes_then, nothing_after}
+use Rattle.ak_run.proofs.Acts.{goes_then, nothing_after, one_act}
 use Rattle.ak_run.proofs.Doing.{does_with}
 use Rattle.ak_run.proofs.GoingOn.{last_of, plain_on, same_desks, some_same}
-use Rattle.ak_run.proofs.Recorded.{MakesPorts, no_event, one_event, ports_made, record_by, team_made, turn_goes}
+use Rattle.ak_run.proofs.Opened.{launch_seen}
+use Rattle.ak_run.proofs.PortsAtStart.{MakesPorts, one_at_least, team_begins}
+use Rattle.ak_run.proofs.Recorded.{no_event, one_event, record_by, turn_goes}
 use Rattle.ak_run.proofs.RosterTurn.{RosterOn, goes_on, plain-append, sees_all, started_at_turn}
 use Rattle.ak_run.proofs.Standing.{BookOn, same_loopers, stands_on}
 use Rattle.ak_run.proofs.Ways.{all_paired, object, own_ways}
@@ -71,27 +79,16 @@ is_next what n seat book book' entered list thread = by_added entered.added ente
     by_added (x ∷ y ∷ zs) few mine is = absurd (omega (arith, few))
 
 -- that entry is the last that main has seen, at its place
-pub launches_at : (word : AppWord) (came : LaunchOutcome) (r : Run) (place : ℕ) (steps : List Step) → length r.roster_seat.front ≡ place + 1 → LaunchesLast word came r steps → LaunchesAt word came place steps
+abbrev pub launches_at : (word : AppWord) (came : LaunchOutcome) (r : Run) (place : ℕ) (steps : List Step) → length r.roster_seat.front ≡ place + 1 → LaunchesLast word came r steps → LaunchesAt word came place steps
 launches_at word came r place steps seen is = record {
   noted = is.noted;
   event_is = is.event_is;
   place_is = last_of (plain_of r.roster_seat) is.noted.before is.noted.entry place is.last (length-map r.roster_seat.front (λ (entry : EntryWithObjects Object). entry.plain) ∙ seen);
-  roster_is = is.roster_is;
-  book_is = is.book_is;
+  is = is.is;
 }
 
 pub has_last : (word : AppWord) (came : LaunchOutcome) (r : Run) (steps : List Step) → LaunchesLast word came r steps → 1 ≤ length r.roster_seat.front
 has_last word came r steps is = omega (arith, ap length is.last, length-append is.noted.before (is.noted.entry ∷ []), length-map r.roster_seat.front (λ (entry : EntryWithObjects Object). entry.plain))
-
--- nothing but sends follows
-pub launches_then : (word : AppWord) (came : LaunchOutcome) (place : ℕ) (xs ys : List Step) → LaunchesAt word came place xs → AreAtPorts ys → LaunchesAt word came place (xs ++ ys)
-launches_then word came place xs ys is at_ports = record {
-  noted = is.noted;
-  event_is = is.event_is;
-  place_is = is.place_is;
-  roster_is = flat_map-append roster_entry xs ys ∙ ap (λ l. l ++ roster_entries ys) is.roster_is ∙ ap (λ l. is.noted ∷ l) at_ports.no_roster;
-  book_is = nothing_after book_entry xs ys is.book_is at_ports.no_book;
-}
 
 -- before a turn of main's at the roster as many loopers were started as there are members
 pub loopers_counted : (r : Run) (is : IsRunning r) (given seat' : RosterSeat) (book book' : Book) (opening : r.roster_seat.opening ≡ Some book.heads) (seen : IsGiven by_number r.roster_seat given) (known : KnowsWhole by_number given) (list : book.entries ≡ given.front)
@@ -191,92 +188,163 @@ module _ (r r' : Run) (is : IsRunning r) (keeps : KeepsRest r r') (members : r'.
 
   -- whatever it comes to
   pub found_does : (word : AppWord) (a : FindAnswer) (result : Found) → LooksUp word a book book' → IsFoundAt a (length r'.roster_seat.front) result → DoesSo (FoundSo (heads_of r.apps.items) word result) r r'
-  found_does word (find.Team team first loopers) result looks at =
+  found_does word (found_by.Team team first loopers) result looks at =
       let does = finds word (Some (record { team = team; description = looks.0; first = first; loopers = loopers })) at.0 looks.2 looks.1 at.2 in
       subst (λ (f : Found). DoesSo (FoundSo (heads_of r.apps.items) word f) r r') (sym at.1) (record { steps = does.steps; so = (looks.0, does.so); does = does.does })
-  found_does word find.NoTeam result looks at = subst (λ (f : Found). DoesSo (FoundSo (heads_of r.apps.items) word f) r r') (sym at.1) (finds word None at.0 looks.1 looks.0 at.2)
-  found_does word find.NoMemory result looks at = subst (λ (f : Found). DoesSo (FoundSo (heads_of r.apps.items) word f) r r') (sym at) (finds_nothing looks)
+  found_does word found_by.NoTeam result looks at = subst (λ (f : Found). DoesSo (FoundSo (heads_of r.apps.items) word f) r r') (sym at.1) (finds word None at.0 looks.1 looks.0 at.2)
+  found_does word found_by.NoMemory result looks at = subst (λ (f : Found). DoesSo (FoundSo (heads_of r.apps.items) word f) r r') (sym at) (finds_nothing looks)
+
+  -- ---- a team is ended
+  ports_still : (looper : ℕ) → StartsWith (list_at (fronts_of r').ports looper) (list_at (fronts_of r).ports looper)
+  ports_still looper = ([], ap (λ v. list_at (map member_front v.items ++ []) looper) members ∙ sym (append-nil (list_at (fronts_of r).ports looper)))
+
+  -- by such steps, at the roster alone
+  closes : (P : List Step → Type 0) (what : Option RosterEvent) (entered : HasEntered what 0 book book') (steps : List Step) → P steps → GoesBy steps (fronts_of r) (fronts_of r') → All (StartsWith (plain_of r'.roster_seat)) (roster_sights steps)
+      → ((looper : ℕ) → port_sights looper steps ≡ []) → ClosesSo P r r'
+  closes P what entered steps so goes seen none = record {
+    steps = steps;
+    so = so;
+    goes = goes;
+    roster_on = plain_on r.roster_seat r'.roster_seat (on what 0 entered).on;
+    ports_on = ports_still;
+    roster_seen = seen;
+    ports_seen = λ looper. subst (All (StartsWith (list_at (fronts_of r').ports looper))) (sym (none looper)) (All-nil (StartsWith (list_at (fronts_of r').ports looper)));
+  }
+
+  pub leaves : (team : ℕ) (o : Option Running) → LeavesBook team o book book' → ClosesSo (LeavesSo (heads_of r.apps.items) team o) r r'
+  leaves team (Some running) left =
+      let what = Some (event.Gone team) in
+      let entered = left.1 in
+      let x = one_event (event.Gone team) entered.added entered.events in
+      let before = plain_entries book.entries in
+      let heads : book.heads ≡ heads_of r.apps.items = heads_same ∙ is.stands.heads_are in
+      let n = note before x.0.plain in
+      let steps : List Step = at_roster n ∷ [] in
+      let goes : GoesBy steps (fronts_of r) (fronts_of r') = subst (λ (l : List (EntryWithObjects Object)). GoesBy (map (turn_step book.entries) l) (fronts_of r) (fronts_of r')) x.1 (turn_beside what 0 entered []) in
+      closes (EntersGone (heads_of r.apps.items) team running) what entered steps (record { noted = n; event_is = x.2; runs = ap (λ hs. find (runs_team team) (state_of hs before).running) (sym heads) ∙ left.0; is = refl }) goes
+      (All-nil (StartsWith (plain_of r'.roster_seat))) (λ looper. refl)
+  leaves team None left =
+      let entered = left.1 in
+      let seen = plain_of r'.roster_seat in
+      let steps : List Step = saw_roster seen ∷ [] in
+      let none = no_event entered.added entered.events in
+      let list : seen ≡ plain_entries book.entries = ap (λ (l : List (EntryWithObjects Object)). plain_entries l) (whole None 0 entered ∙ entered.entries ∙ ap (λ l. book.entries ++ l) none ∙ append-nil book.entries) in
+      let heads : book.heads ≡ heads_of r.apps.items = heads_same ∙ is.stands.heads_are in
+      let quiet : GoesBy [] (fronts_of r) (fronts_of r') = subst (λ (l : List (EntryWithObjects Object)). GoesBy (map (turn_step book.entries) l) (fronts_of r) (fronts_of r')) none (turn_beside None 0 entered []) in
+      let goes : GoesBy steps (fronts_of r) (fronts_of r') =
+      record { acts = one_act steps (finds_gone seen refl); roster = quiet.roster; book = quiet.book; book_on = quiet.book_on; book_seen = quiet.book_seen; ports = quiet.ports } in
+      closes (FindsGone (heads_of r.apps.items) team) None entered steps
+      (record { seen = seen; gone = ap (λ (l : List RosterEntry). find (runs_team team) (state_of (heads_of r.apps.items) l).running) list ∙ ap (λ hs. find (runs_team team) (state_of hs (plain_entries book.entries)).running) (sym heads) ∙ left.0; is = refl })
+      goes (All-cons (StartsWith seen) seen [] ([], sym (append-nil seen)) (All-nil (StartsWith seen))) (λ looper. refl)
 
   -- ---- a launch
   module _ (word : AppWord) where
-    last_there : (came : LaunchOutcome) (n : ℕ) (entered : HasEntered (Some (event.Launch word came)) n book book') (made : List Step) → AreAtPorts made → LaunchesLast word came r' (made ++ map (turn_step book.entries) entered.added)
-    last_there came n entered made at_ports =
+    abbrev last_there : (came : LaunchOutcome) (n : ℕ) (entered : HasEntered (Some (event.Launch word came)) n book book') → LaunchesLast word came r' (map (turn_step book.entries) entered.added)
+    last_there came n entered =
         let what = event.Launch word came in
         let x = one_event what entered.added entered.events in
-        let turn = map (turn_step book.entries) entered.added in
-        let n_is = note (plain_entries book.entries) x.0.plain in
         record {
-          noted = n_is;
+          noted = note (plain_entries book.entries) x.0.plain;
           event_is = x.2;
           last = ap (λ (l : List (EntryWithObjects Object)). plain_entries l) (whole (Some what) n entered ∙ entered.entries ∙ ap (λ l. book.entries ++ l) x.1) ∙ plain-append book.entries (x.0 ∷ []);
-          roster_is = flat_map-append roster_entry made turn ∙ ap (λ l. l ++ roster_entries turn) at_ports.no_roster ∙ ap (λ (l : List (EntryWithObjects Object)). roster_entries (map (turn_step book.entries) l)) x.1;
-          book_is = nothing_after book_entry made turn at_ports.no_book (ap (λ (l : List (EntryWithObjects Object)). book_entries (map (turn_step book.entries) l)) x.1);
+          is = ap (map (turn_step book.entries)) x.1;
         }
 
     launches_last : (came : LaunchOutcome) → HasEntered (Some (event.Launch word came)) 0 book book' → DoesWith (LaunchesLast word came r') [] r r'
-    launches_last came entered = does_turn (Some (event.Launch word came)) 0 entered (LaunchesLast word came r') (last_there came 0 entered [] (record { no_roster = refl; no_book = refl }))
+    launches_last came entered = does_turn (Some (event.Launch word came)) 0 entered (LaunchesLast word came r') (last_there came 0 entered)
 
-    -- the ports of a team were made, and its launch entered
-    team_enters : (t : StartedTeam) → HasStarted r.apps.items r.shared word book book' t → DoesWith (EntersLaunch word (launch.Started t) r') (team_fronts t.new) r r'
-    team_enters t h =
-        let came = outcome.Started h.description t.team.number t.team.first in
-        let ports = map member_front r.members.items in
-        let new = team_fronts t.new in
-        let made : MakesPorts (fronts_of r) (fronts_with r new) = subst (λ l. MakesPorts (fronts (plain_of r.roster_seat) r.hands.book_seat.front l) (fronts_with r new)) (sym (append-nil ports))
-        (ports_made (plain_of r.roster_seat) r.hands.book_seat.front ports new (team_made h.plans t.team.number t.team.first r.shared t.new h.kept h.new)) in
-        let turn = map (turn_step book.entries) h.entered.added in
-        record {
-          steps = made.records.steps ++ turn;
-          so = (h.description, last_there came t.team.loopers h.entered made.records.steps made.at_ports);
-          goes = goes_then made.records.steps turn (fronts_of r) (fronts_with r new) (fronts_with r' new) made.records.goes (turn_beside (Some (event.Launch word came)) t.team.loopers h.entered new);
-          no_edits = λ looper. nothing_after (desk_entry looper) made.records.steps turn (made.records.no_edits looper) (turn_no_edits book.entries h.entered.added looper);
-          roster_on = plain_on r.roster_seat r'.roster_seat (on (Some (event.Launch word came)) t.team.loopers h.entered).on;
-          desks_on = same_desks r r' members;
-        }
+    module _ (arguments : Option MessageData) where
+      -- a team runs
+      running_last : (team first : ℕ) → HasEntered (Some (event.Launch word (outcome.AlreadyRunning team))) 0 book book' → TellsTeam r.apps.items arguments word book (launch.Running team first) → DoesWith (EntersRunning r.apps.items word team first r') [] r r'
+      running_last team first entered told =
+          let came = outcome.AlreadyRunning team in
+          let heads : book.heads ≡ heads_of r.apps.items = heads_same ∙ is.stands.heads_are in
+          let runs : find (runs_team team) (state_of (heads_of r.apps.items) (plain_entries book.entries)).running ≡ Some told.0 = ap (λ hs. find (runs_team team) (state_of hs (plain_entries book.entries)).running) (sym heads) ∙ told.1 in
+          does_turn (Some (event.Launch word came)) 0 entered (EntersRunning r.apps.items word team first r') (record { launches = last_there came 0 entered; running = told.0; runs = runs; first_is = told.2 })
 
-    -- so what main did, whatever it comes to
-    pub enters : (l : Launch) → ComesTo r.apps.items r.shared word book book' l → DoesWith (EntersLaunch word l r') (launched_fronts l) r r'
-    enters (launch.Started t) comes = team_enters t comes
-    enters (launch.Running team first) comes = launches_last (outcome.AlreadyRunning team) comes.0
-    enters launch.NotFound comes = launches_last outcome.NotFound comes
-    enters launch.Limit comes = launches_last outcome.Limit comes
-    enters launch.NoMemory comes = does_turn None 0 comes (λ steps. Unit {0}) tt
-
-    -- a team was started
-    team_starts : (t : StartedTeam) → HasStarted r.apps.items r.shared word book book' t → HasEnteredLaunch r r' (launch.Started t)
-    team_starts t h =
-        let n = t.team.loopers in
-        let what = Some (event.Launch word (outcome.Started h.description t.team.number t.team.first)) in
-        let entered = h.entered in
-        let next : t.team.first ≡ length r'.members.items = h.first ∙ count what n entered ∙ sym (count' what n entered) in
-        let all : n ≡ length t.new.others.items + 1 = h.count ∙ h.all in
-        let objects : objects_of r'.roster_seat.front ≡ objects_of book.entries ++ map object h.kept = ap objects_of (whole what n entered) ∙ h.objects in
-        let does = team_enters t h in (
-          is.heads,
-          h.plans,
-          h.kept,
+      -- the ports of a team were made, its first looper was greeted, and its launch entered
+      team_enters : (t : StartedTeam) → HasStarted r.apps.items r.shared word book book' t → TellsTeam r.apps.items arguments word book (launch.Started t) → DoesWith (EntersLaunch r.apps.items word arguments (launch.Started t) r') (team_fronts t.new) r r'
+      team_enters t h told =
+          let came = outcome.Started h.description t.team.number t.team.first in
+          let what = Some (event.Launch word came) in
+          let ports = map member_front r.members.items in
+          let new = team_fronts t.new in
+          let greeted = told.2 in
+          let same : outcome.Started told.0 t.team.number t.team.first ≡ came = sym told.1 ∙ h.starts in
+          let place : told.0 ≡ h.description = cc same in
+          let first : length ports ≡ t.team.first = length-map r.members.items member_front ∙ sym (h.first ∙ count what t.team.loopers h.entered) in
+          let capacities = capacities_in greeted.app.loopers in
+          let written = written_from 0 (told_first arguments) in
+          let made : MakesPorts (start_entries t.team.first capacities arguments) (fronts_of r) (fronts_with r new) =
+          subst (λ (l : List (List PortEntry)). MakesPorts (start_entries t.team.first capacities arguments) (fronts (plain_of r.roster_seat) r.hands.book_seat.front l) (fronts_with r new)) (sym (append-nil ports))
+          (subst (λ (n : ℕ). MakesPorts (made_from n capacities ++ at_looper n written) (fronts (plain_of r.roster_seat) r.hands.book_seat.front ports) (fronts_with r new)) first
+          (team_begins (plain_of r.roster_seat) r.hands.book_seat.front ports capacities written new (one_at_least (new_front t.new.own) (map new_front t.new.others.items)) greeted.ports)) in
+          let turn = map (turn_step book.entries) h.entered.added in
           record {
-            stands = now what n entered;
-            team = subst (λ s. IsNewTeam h.plans t.team.number t.team.first s t.new h.kept) (sym keeps.shared) h.new;
-            next = next;
-            described = subst (λ v. IsOneOf v.items h.plans) (sym keeps.apps) h.described;
-            loopers = h.count;
-            all = h.all;
-            within = h.within;
-            launched = λ desk. subst (Any (StartsTeam (facts_in is.heads t.team t.team.first desk))) (sym (whole what n entered)) (subst (λ hs. Any (StartsTeam (facts_in hs t.team t.team.first desk)) book'.entries) heads_same (h.launched desk));
-            ways_are = λ desk. own_ways h.plans t.team.number t.team.first r.shared t.new h.kept n (objects_of book.entries) r'.roster_seat is.heads desk h.new all h.before objects;
-            paired = all_paired h.plans t.team.number t.team.first r.shared t.new h.kept (objects_of book.entries) r'.roster_seat h.new h.before objects;
-          },
-          omega (arith, h.count, h.few),
-          started what n entered,
-          record_by does.steps (fronts_of r) (fronts_with r' (team_fronts t.new)) does.goes is.recorded,
-        )
+            steps = made.steps ++ turn;
+            so = record {
+              description = h.description;
+              app = greeted.app;
+              described = subst (λ (n : ℕ). slice_get r.apps.items n ≡ Some greeted.app) place greeted.described;
+              ports = made.steps;
+              enters = made.enters;
+              entry = turn;
+              launches = last_there came t.team.loopers h.entered;
+              is = refl;
+            };
+            goes = goes_then made.steps turn (fronts_of r) (fronts_with r new) (fronts_with r' new) made.goes (turn_beside what t.team.loopers h.entered new);
+            no_edits = λ looper. nothing_after (desk_entry looper) made.steps turn (made.no_edits looper) (turn_no_edits book.entries h.entered.added looper);
+            roster_on = plain_on r.roster_seat r'.roster_seat (on what t.team.loopers h.entered).on;
+            desks_on = same_desks r r' members;
+          }
 
-    pub has_entered : (l : Launch) → ComesTo r.apps.items r.shared word book book' l → HasEnteredLaunch r r' l
-    has_entered (launch.Started t) comes = team_starts t comes
-    has_entered (launch.Running team first) comes =
-        let what = Some (event.Launch word (outcome.AlreadyRunning team)) in
-        (runs_on what comes.0, subst (λ m. first < m) (count_before what comes.0) comes.1)
-    has_entered launch.NotFound comes = runs_on (Some (event.Launch word outcome.NotFound)) comes
-    has_entered launch.Limit comes = runs_on (Some (event.Launch word outcome.Limit)) comes
-    has_entered launch.NoMemory comes = runs_on None comes
+      -- so what main did, whatever it comes to
+      pub enters : (l : Launch) → ComesTo r.apps.items r.shared word book book' l → TellsTeam r.apps.items arguments word book l → DoesWith (EntersLaunch r.apps.items word arguments l r') (launched_fronts l) r r'
+      enters (launch.Started t) comes told = team_enters t comes told
+      enters (launch.Running team first) comes told = running_last team first comes.0 told
+      enters launch.NotFound comes told = launches_last outcome.NotFound comes
+      enters launch.Limit comes told = launches_last outcome.Limit comes
+      enters launch.NoMemory comes told = does_turn None 0 comes (λ steps. Unit {0}) tt
+
+      -- a team was started
+      team_starts : (t : StartedTeam) → HasStarted r.apps.items r.shared word book book' t → TellsTeam r.apps.items arguments word book (launch.Started t) → HasEnteredLaunch r r' (launch.Started t)
+      team_starts t h told =
+          let n = t.team.loopers in
+          let what = Some (event.Launch word (outcome.Started h.description t.team.number t.team.first)) in
+          let entered = h.entered in
+          let next : t.team.first ≡ length r'.members.items = h.first ∙ count what n entered ∙ sym (count' what n entered) in
+          let all : n ≡ length t.new.others.items + 1 = h.count ∙ h.all in
+          let objects : objects_of r'.roster_seat.front ≡ objects_of book.entries ++ map object h.kept = ap objects_of (whole what n entered) ∙ h.objects in
+          let does = team_enters t h told in (
+            is.heads,
+            h.plans,
+            h.kept,
+            record {
+              stands = now what n entered;
+              team = subst (λ s. IsNewTeam h.plans t.team.number t.team.first s t.new h.kept) (sym keeps.shared) h.new;
+              next = next;
+              described = record {
+                description = h.description;
+                described = subst (λ v. IsOneOf v.items h.description h.plans) (sym keeps.apps) h.described;
+                launched = launch_seen word h.description t.team.number t.team.first n book book' r'.roster_seat entered (whole what n entered);
+              };
+              loopers = h.count;
+              all = h.all;
+              within = h.within;
+              launched = λ desk. subst (Any (StartsTeam (facts_in is.heads t.team t.team.first desk))) (sym (whole what n entered)) (subst (λ hs. Any (StartsTeam (facts_in hs t.team t.team.first desk)) book'.entries) heads_same (h.launched desk));
+              ways_are = λ desk. own_ways h.plans t.team.number t.team.first r.shared t.new h.kept n (objects_of book.entries) r'.roster_seat is.heads desk h.new all h.before objects;
+              paired = all_paired h.plans t.team.number t.team.first r.shared t.new h.kept (objects_of book.entries) r'.roster_seat h.new h.before objects;
+            },
+            omega (arith, h.count, h.few),
+            started what n entered,
+            record_by does.steps (fronts_of r) (fronts_with r' (team_fronts t.new)) does.goes is.recorded,
+          )
+
+      pub has_entered : (l : Launch) → ComesTo r.apps.items r.shared word book book' l → TellsTeam r.apps.items arguments word book l → HasEnteredLaunch r r' l
+      has_entered (launch.Started t) comes told = team_starts t comes told
+      has_entered (launch.Running team first) comes told =
+          let what = Some (event.Launch word (outcome.AlreadyRunning team)) in
+          (runs_on what comes.0, subst (λ m. first < m) (count_before what comes.0) comes.1)
+      has_entered launch.NotFound comes told = runs_on (Some (event.Launch word outcome.NotFound)) comes
+      has_entered launch.Limit comes told = runs_on (Some (event.Launch word outcome.Limit)) comes
+      has_entered launch.NoMemory comes told = runs_on None comes

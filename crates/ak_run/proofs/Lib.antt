@@ -24,9 +24,11 @@ pub mod Makings
 pub mod NewDoors
 pub mod NewLoopers
 pub mod NewRun
+pub mod Opened
 pub mod Paired
 pub mod Placed
 pub mod Places
+pub mod PortsAtStart
 pub mod Recorded
 pub mod RosterTurn
 pub mod Splits
@@ -34,6 +36,7 @@ pub mod Standing
 pub mod Started
 pub mod Surface
 pub mod Taking
+pub mod TeamEnds
 pub mod TeamStarts
 pub mod Teams
 pub mod Telling

@@ -7,7 +7,7 @@ use Rattle.ak_base.specs.Thread.{main_thread}
 use Rattle.ak_turn.specs.Entries.{AreByOthers, StartsWith}
 use Rattle.ak_turn.specs.Noted.{Noted, noted}
 use Rattle.ak_turn.specs.Seats.{IsGiven, SeatData}
-use Rattle.ak_turn.proofs.Surface.{noted-others}
+use Rattle.ak_turn.proofs.Surface.{noted-others, seen_still, starts_then_starts}
 use Rattle.ak_roster.specs.declared.entry.EntryWithObjects.{EntryWithObjects}
 use Rattle.ak_roster.specs.declared.entry.RosterEntry.{RosterEntry}
 use Rattle.ak_roster.specs.declared.head.AppHead.{AppHead}
@@ -21,7 +21,7 @@ use Rattle.ak_port.specs.ReplySeats.{ReplySeat}
 use Rattle.ak_desk.specs.Desk.{DeskData}
 use Rattle.ak_desk.specs.Entry.{EntryData}
 use Rattle.ak_diary.specs.declared.histories.Histories.{Histories}
-use Rattle.ak_diary.specs.Step.{Step, book_sights, desk_entries, port_entries}
+use Rattle.ak_diary.specs.Step.{Step, book_sights, desk_entries, port_entries, port_sights, roster_sights}
 use Rattle.ak_headline.specs.Run.{HasDone, desk_list, port_list}
 use Rattle.ak_looper.specs.declared.kept_door.KeptDoor.{KeptDoor}
 use Rattle.ak_looper.specs.Rosters.{Object, RosterSeat, by_number, maker_of, plain_of}
@@ -29,15 +29,15 @@ use Rattle.ak_run.specs.declared.gathering.Joined.{Joined}
 use Rattle.ak_run.specs.declared.member.Member.{Member}
 use Rattle.ak_run.specs.declared.run.Run.{Run}
 use Rattle.ak_run.specs.AtEnd.{DoneAtEnd}
+use Rattle.ak_run.specs.Closing.{ClosesSo, EndsAllTeams}
 use Rattle.ak_run.specs.Doing.{HasDoneSoFar, desk_front}
 use Rattle.ak_run.specs.Ending.{EndsAs}
 use Rattle.ak_run.specs.Gathering.{AreBooksOf, AreGaining, GoesOnKnowing, IsGaining, IsJoined, IsRosterOf, joined_desk_front, joined_front}
 use Rattle.ak_run.specs.Recording.{EndsByOthers, Fronts, IsRecorded, PortsEndByOthers, fronts_of, list_at, member_desk_front, member_front}
 use Rattle.ak_run.specs.Starting.{GoesOn}
-use Rattle.ak_run.proofs.Acts.{recorded_on, seen_still}
+use Rattle.ak_run.proofs.Acts.{recorded_on}
 use Rattle.ak_run.proofs.Doing.{edits_still}
 use Rattle.ak_run.proofs.GoingOn.{plain_on}
-use Rattle.ak_run.proofs.Standing.{starts_then_starts}
 
 -- what main did is in what its seat has seen
 module _ {L : Type 0} (by : L → ℕ) where
@@ -60,6 +60,16 @@ ports_at_end (front ∷ fronts) (port ∷ ports) ends zero = noted_at_end at_por
 ports_at_end (front ∷ fronts) (port ∷ ports) ends (suc looper) = ports_at_end fronts ports ends.1 looper
 ports_at_end [] (port ∷ ports) ends looper = absurd ends
 ports_at_end (front ∷ fronts) [] ends looper = absurd ends
+
+-- each port's list goes on
+ports_go_on : (fronts : List (List PortEntry)) (ports : List PortData) → PortsEndByOthers fronts ports → (looper : ℕ)
+    → StartsWith (unwrap_or (option_map (λ (port : PortData). port.entries) (slice_get ports looper)) []) (list_at fronts looper)
+ports_go_on [] [] ends zero = ([], refl)
+ports_go_on [] [] ends (suc looper) = ([], refl)
+ports_go_on (front ∷ fronts) (port ∷ ports) ends zero = (ends.0.between, ends.0.goes_on)
+ports_go_on (front ∷ fronts) (port ∷ ports) ends (suc looper) = ports_go_on fronts ports ends.1 looper
+ports_go_on [] (port ∷ ports) ends looper = absurd ends
+ports_go_on (front ∷ fronts) [] ends looper = absurd ends
 
 pub main_done : (steps : List Step) (f : Fronts) (h : Histories) → IsRecorded steps f → EndsByOthers maker_of f.roster h.roster.items → EndsByOthers at_books.maker_of f.book h.book → PortsEndByOthers f.ports h.ports.items → HasDone h main_thread steps
 main_done steps f h is roster book ports = record {
@@ -176,12 +186,13 @@ ends_as r h ends =
       roster = (ends.roster.between, ends.roster.goes_on);
       book = (ends.book.between, ends.book.goes_on);
       ports = λ looper. ([], ports_at_end (fronts ++ []) h.ports.items ends.ports looper ∙ sym (append-nil (noted at_ports.by_number main_thread (list_at (fronts ++ []) looper))));
+      port_lists = ports_go_on (fronts ++ []) h.ports.items ends.ports;
       desks = desk_at_end r.members.items h.desks.items ends.desks;
     }
 
 -- so they were the run's before, while it went on to its end
-pub ends_further : (r r' : Run) (h : Histories) → GoesOn r r' → EndsAs r' h → EndsAs r h
-ends_further r r' h goes is =
+pub ends_further : (r r' : Run) (h : Histories) → GoesOn r r' → ((looper : ℕ) → StartsWith (list_at (fronts_of r').ports looper) (list_at (fronts_of r).ports looper)) → EndsAs r' h → EndsAs r h
+ends_further r r' h goes ports_on is =
     let by_main : (looper : ℕ) (s : Run) → List (Noted PortEntry) = λ looper s. noted at_ports.by_number main_thread (list_at (fronts_of s).ports looper) in
     let more = goes.recorded [] in
     record {
@@ -189,17 +200,24 @@ ends_further r r' h goes is =
       roster = starts_then_starts (plain_of r.roster_seat) (plain_of r'.roster_seat) h.roster.items (plain_on r.roster_seat r'.roster_seat goes.on) is.roster;
       book = starts_then_starts r.hands.book_seat.front r'.hands.book_seat.front h.book more.goes.book_on is.book;
       ports = λ looper. starts_then_starts (by_main looper r) (by_main looper r') (noted at_ports.by_number main_thread (port_list h looper)) (port_entries looper more.steps, more.goes.ports looper) (is.ports looper);
+      port_lists = λ looper. starts_then_starts (list_at (fronts_of r).ports looper) (list_at (fronts_of r').ports looper) (port_list h looper) (ports_on looper) (is.port_lists looper);
       desks = λ looper. starts_then_starts (desk_front r looper) (desk_front r' looper) (desk_list h looper) (goes.desks_on looper) (is.desks looper);
     }
 
 -- what main did goes on to the end, and its edits stand
-pub at_end : (r r' : Run) (h : Histories) (steps : List Step) → GoesOn r r' → HasDoneSoFar steps r → ((all : List Step) → IsRecorded all (fronts_of r') → HasDone h main_thread all) → EndsAs r h → DoneAtEnd steps h
-at_end r r' h steps goes done all ends =
-    let more = goes.recorded [] in
-    let recorded = recorded_on steps more.steps (fronts_of r) (fronts_of r') more.goes done.recorded in
+pub at_end : (heads : List AppHead) (r r' : Run) (h : Histories) (steps : List Step) → ClosesSo (EndsAllTeams heads) r r' → HasDoneSoFar steps r → ((all : List Step) → IsRecorded all (fronts_of r') → HasDone h main_thread all) → EndsAs r' h → EndsAs r h → DoneAtEnd heads steps h
+at_end heads r r' h steps closed done all left ends =
+    let recorded = recorded_on steps closed.steps (fronts_of r) (fronts_of r') closed.goes done.recorded in
     record {
-      closing = more.steps;
+      closing = closed.steps;
+      closes = record {
+        ends = closed.so;
+        roster_seen = All-weaker (StartsWith (plain_of r'.roster_seat)) (StartsWith h.roster.items) (λ (seen : List RosterEntry) starts. starts_then_starts seen (plain_of r'.roster_seat) h.roster.items starts left.roster) (roster_sights closed.steps) closed.roster_seen;
+        ports_seen = λ looper.
+            let list = list_at (fronts_of r').ports looper in
+            All-weaker (StartsWith list) (StartsWith (port_list h looper)) (λ (seen : List PortEntry) starts. starts_then_starts seen list (port_list h looper) starts (left.port_lists looper)) (port_sights looper closed.steps) (closed.ports_seen looper);
+      };
       diary = recorded.diary;
-      done = all (steps ++ more.steps) recorded;
+      done = all (steps ++ closed.steps) recorded;
       edits = λ looper. edits_still (desk_front r looper) (desk_list h looper) (desk_entries looper steps) (ends.desks looper) (done.edits looper);
     }

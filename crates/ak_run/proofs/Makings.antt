@@ -1,7 +1,10 @@
 -- A team that is made, looper by looper.
-use Rattle.std.proofs.Common.{◌≡◌, ℕ, suc, ◌+◌, ◌≤◌, List, [], ◌∷◌, ◌++◌, length, sym, ap, ◌∙◌, subst, arith}
+use Rattle.std.proofs.Common.{◌≡◌, ℕ, suc, ◌+◌, ◌≤◌, List, [], ◌∷◌, ◌++◌, length, map, refl, sym, ap, ◌∙◌, subst, append_assoc, arith}
 use Rattle.std.specs.Prelude.{slice_index_or}
 use Rattle.std.specs.List.{remove}
+use Rattle.std.proofs.lemmas.List.{map-append}
+use Rattle.ak_port.specs.declared.port_entry.PortEntry.{PortEntry}
+use Rattle.ak_port.specs.declared.port_entry.PortEvent.{PortEvent}
 use Rattle.ak_action.specs.declared.plan.PlanParts.{PlanParts}
 use Rattle.ak_looper.specs.declared.door.Door.{Door}
 use Rattle.ak_looper.specs.declared.kept_door.KeptDoor.{KeptDoor}
@@ -13,7 +16,9 @@ use Rattle.ak_run.specs.declared.new_team.NewTeam.{NewTeam}
 use Rattle.ak_run.specs.declared.opening.Opened.{Opened}
 use Rattle.ak_run.specs.NewLooper.{IsKept, IsNewLooper, IsNewOther, IsNewOwn, own_threads}
 use Rattle.ak_run.specs.NewTeam.{AreOthers, IsNewTeam, IsOther}
-use Rattle.ak_run.specs.Opening.{AreOpened, IsOpenedAt}
+use Rattle.ak_run.specs.Greeting.{AreMains, EachMains, FirstHoldsTwo, capacities_in, made_event, made_events, port_events}
+use Rattle.ak_run.specs.Opening.{AreOpened, IsOpenedAt, opened_front}
+use Rattle.ak_run.specs.Recording.{new_front, team_fronts}
 use Rattle.ak_run.proofs.Teams.{others_push}
 
 module _ (plans : List PlanParts) (team first : ℕ) where
@@ -60,3 +65,49 @@ module _ (plans : List PlanParts) (team first : ℕ) where
           others = subst (λ (ns : List NewLooper). AreOthers plans team first shared 1 ns t'.ways.items (made.rest ++ o.kept ∷ [])) (sym others)
               (subst (λ (ws : List (ℕ × Door)). AreOthers plans team first shared 1 (t.others.items ++ o.looper ∷ []) ws (made.rest ++ o.kept ∷ [])) (sym ways) grown);
         }
+
+-- ---- the ports
+-- the first one's, and those that follow it
+pub record FirstMade (plans : List PlanParts) (o : Opened) (rest : List Opened) : Type 0 where
+  pub capacity : ℕ
+  pub capacities : List ℕ
+  pub are : capacities_in plans ≡ capacity ∷ capacities
+  pub first : AreMains (made_event capacity ∷ []) (opened_front o)
+  pub others : EachMains (made_events capacities) (map opened_front rest)
+  pub room : FirstHoldsTwo plans → 2 ≤ capacity
+
+pub first_made : (plans : List PlanParts) (os : List Opened) (o : Opened) (rest : List Opened) → 1 ≤ length os → EachMains (made_events (capacities_in plans)) (map opened_front os) → o ≡ slice_index_or os 0 o → rest ≡ remove os 0 → FirstMade plans o rest
+first_made (p ∷ plans) (x ∷ os) o rest some each is left = record {
+  capacity = p.capacity;
+  capacities = capacities_in plans;
+  are = refl;
+  first = subst (λ (y : Opened). AreMains (made_event p.capacity ∷ []) (opened_front y)) (sym is) each.0;
+  others = subst (λ (ys : List Opened). EachMains (made_events (capacities_in plans)) (map opened_front ys)) (sym left) each.1;
+  room = λ holds. holds;
+}
+first_made plans [] o rest some each is left = absurd (omega (arith, some))
+first_made [] (x ∷ os) o rest some each is left = absurd each
+
+-- once the first one is greeted
+pub greeted_ports : (plans : List PlanParts) (o : Opened) (rest : List Opened) (made : FirstMade plans o rest) (written : List PortEvent) (front : List PortEntry) (fronts : List (List PortEntry)) → AreMains (made_event made.capacity ∷ written) front → fronts ≡ front ∷ [] → EachMains (port_events (capacities_in plans) written) (fronts ++ map opened_front rest)
+greeted_ports plans o rest made written front fronts mains is =
+    subst (λ (fs : List (List PortEntry)). EachMains (port_events (capacities_in plans) written) (fs ++ map opened_front rest)) (sym is)
+    (subst (λ (cs : List ℕ). EachMains (port_events cs written) (front ∷ map opened_front rest)) (sym made.are) (mains, made.others))
+
+-- one looper more
+pub grows_ports : (events : List (List PortEvent)) (fronts fronts' : List (List PortEntry)) (x : Opened) (all rest : List Opened) → all ≡ x ∷ rest → fronts' ≡ fronts ++ opened_front x ∷ [] → EachMains events (fronts ++ map opened_front all) → EachMains events (fronts' ++ map opened_front rest)
+grows_ports events fronts fronts' x all rest is grown each =
+    subst (EachMains events) (sym (ap (λ (fs : List (List PortEntry)). fs ++ map opened_front rest) grown ∙ append_assoc fronts (opened_front x ∷ []) (map opened_front rest)))
+    (subst (λ (os : List Opened). EachMains events (fronts ++ map opened_front os)) is each)
+
+-- its own looper's port and the others', with one more
+pub fronts_push : (t t' : NewTeam) (n : NewLooper) (front : List PortEntry) → t'.own ≡ t.own → t'.others.items ≡ t.others.items ++ n ∷ [] → new_front n ≡ front → team_fronts t' ≡ team_fronts t ++ front ∷ []
+fronts_push t t' n front own others is =
+    ap (λ (x : NewLooper). new_front x ∷ map new_front t'.others.items) own
+    ∙ ap (λ (ns : List NewLooper). new_front t.own ∷ map new_front ns) others
+    ∙ ap (λ (fs : List (List PortEntry)). new_front t.own ∷ fs) (map-append new_front t.others.items (n ∷ []) ∙ ap (λ (f : List PortEntry). map new_front t.others.items ++ f ∷ []) is)
+
+-- its own looper's alone
+pub first_front : (n : NewLooper) (t : NewTeam) (front : List PortEntry) → t.own ≡ n → t.others.items ≡ [] → new_front n ≡ front → team_fronts t ≡ front ∷ []
+first_front n t front own none is =
+    ap (λ (x : NewLooper). new_front x ∷ map new_front t.others.items) own ∙ ap (λ (ns : List NewLooper). new_front n ∷ map new_front ns) none ∙ ap (λ (f : List PortEntry). f ∷ []) is

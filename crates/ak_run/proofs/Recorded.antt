@@ -1,5 +1,5 @@
 -- A run's calls as acts of main's.
-use Rattle.std.proofs.Common.{◌≡◌, ℕ, zero, suc, ◌<◌, false, List, [], ◌∷◌, ◌++◌, length, map, All, refl, sym, ap, ◌∙◌, subst, append_assoc, append-nil, arith, Option}
+use Rattle.std.proofs.Common.{◌≡◌, ◌≢◌, ℕ, zero, suc, ◌<◌, false, List, [], ◌∷◌, ◌++◌, length, map, All, refl, sym, ap, ◌∙◌, subst, append_assoc, append-nil, arith, Option}
 use Rattle.std.specs.Prelude.{get_or, set}
 use Rattle.std.proofs.lemmas.List.{get_or-set_other, get_or-set_same, length-append, length-map, map-append, map-set}
 use Rattle.std.proofs.lemmas.List.Elements.{All-cons, All-head, All-nil, All-tail}
@@ -111,6 +111,13 @@ module _ (r r' : Run) (place : ℕ) (m : Member) (door : Door) (within : place <
   pub sees_front : list_at (fronts_of r').ports place ≡ front
   sees_front = ap (λ (l : List (List PortEntry)). list_at l place) (ports_are []) ∙ get_or-set_same (before []) place front [] (within_all [])
 
+  -- and before it its list was that; each other one is as it was
+  pub saw_front : list_at (fronts_of r).ports place ≡ m.door.port_seat.front
+  saw_front = there r.members.items [] place m within here
+
+  pub others_still : (other : ℕ) → other ≢ place → list_at (fronts_of r').ports other ≡ list_at (fronts_of r).ports other
+  others_still other differ = ap (λ (l : List (List PortEntry)). list_at l other) (ports_are []) ∙ get_or-set_other (before []) place other front [] differ
+
 -- ---- a new port
 -- main made entries there, while it is the first one of the new ones
 pub new_port_acts : (roster : List RosterEntry) (book : List ReplyEntry) (xs ys : List (List PortEntry)) (x y : List PortEntry) → AddsAtPort x y → Records (fronts roster book (xs ++ x ∷ ys)) (fronts roster book (xs ++ y ∷ ys))
@@ -118,50 +125,6 @@ new_port_acts roster book xs ys x y adds =
     port_records (length xs) roster book (xs ++ x ∷ ys) (xs ++ y ∷ ys)
     (subst (λ (p : List PortEntry). AddsAtPort p (list_at (xs ++ y ∷ ys) (length xs))) (sym (get_or-append_seam xs x ys [])) (subst (λ (p : List PortEntry). AddsAtPort x p) (sym (get_or-append_seam xs y ys [])) adds))
     (λ other differ. seam_other xs ys x y other differ)
-
--- new ports are made, one after another, and nothing else
-pub record MakesPorts (a b : Fronts) : Type 0 where
-  pub records : Records a b
-  pub at_ports : AreAtPorts records.steps
-
-pub ports_made : (roster : List RosterEntry) (book : List ReplyEntry) (xs new : List (List PortEntry)) → All (AddsAtPort []) new → MakesPorts (fronts roster book xs) (fronts roster book (xs ++ new))
-ports_made roster book xs [] all = record {
-  records = record { steps = []; goes = same_goes (fronts roster book xs) (fronts roster book (xs ++ [])) (ap (fronts roster book) (append-nil xs)); no_edits = λ looper. refl };
-  at_ports = record { no_roster = refl; no_book = refl };
-}
-ports_made roster book xs (x ∷ new) all =
-    let adds : AddsAtPort [] x = All-head (AddsAtPort []) x new all in
-    let there : GoesAtBoth (length xs) (steps_there (length xs) adds.added) book book [] x = adds_there (length xs) adds.added book [] x adds.noted_is in
-    let first : GoesBy (steps_there (length xs) adds.added) (fronts roster book xs) (fronts roster book (xs ++ x ∷ [])) =
-    both_goes (length xs) (steps_there (length xs) adds.added) roster book book xs (xs ++ x ∷ []) (there_diary (length xs) adds.added adds.may)
-    (subst (λ (p : List PortEntry). GoesAtBoth (length xs) (steps_there (length xs) adds.added) book book p (list_at (xs ++ x ∷ []) (length xs))) (sym (none_behind xs))
-    (subst (λ (p : List PortEntry). GoesAtBoth (length xs) (steps_there (length xs) adds.added) book book [] p) (sym (get_or-append_seam xs x [] [])) there))
-    (λ other differ. push_other xs x other differ) in
-    let rest : MakesPorts (fronts roster book (xs ++ x ∷ [])) (fronts roster book (xs ++ x ∷ new)) =
-    subst (λ (l : List (List PortEntry)). MakesPorts (fronts roster book (xs ++ x ∷ [])) (fronts roster book l)) (append_assoc xs (x ∷ []) new) (ports_made roster book (xs ++ x ∷ []) new (All-tail (AddsAtPort []) x new all)) in
-    let steps = steps_there (length xs) adds.added in
-    let more = rest.records.steps in
-    record {
-      records = record {
-        steps = steps ++ more;
-        goes = goes_then steps more (fronts roster book xs) (fronts roster book (xs ++ x ∷ [])) (fronts roster book (xs ++ x ∷ new)) first rest.records.goes;
-        no_edits = λ looper. nothing_after (desk_entry looper) steps more (there.no_edits looper) (rest.records.no_edits looper);
-      };
-      at_ports = record {
-        no_roster = nothing_after roster_entry steps more (no_roster (length xs) adds.added) rest.at_ports.no_roster;
-        no_book = nothing_after book_entry steps more (no_book (length xs) adds.added) rest.at_ports.no_book;
-      };
-    }
-
--- those of a team
-others_made : (plans : List PlanParts) (team first : ℕ) (shared : Shared) (k : ℕ) (ns : List NewLooper) (ways : List (ℕ × Door)) (keeps : List KeptDoor) → AreOthers plans team first shared k ns ways keeps → All (AddsAtPort []) (map new_front ns)
-others_made plans team first shared k [] ways keeps others = All-nil (AddsAtPort [])
-others_made plans team first shared k (n ∷ ns) (w ∷ ws) (d ∷ ds) others = All-cons (AddsAtPort []) (new_front n) (map new_front ns) others.0.looper.made (others_made plans team first shared (suc k) ns ws ds others.1)
-others_made plans team first shared k (n ∷ ns) [] keeps others = absurd others
-others_made plans team first shared k (n ∷ ns) (w ∷ ws) [] others = absurd others
-
-pub team_made : (plans : List PlanParts) (team first : ℕ) (shared : Shared) (t : NewTeam) (kept : List KeptDoor) → IsNewTeam plans team first shared t kept → All (AddsAtPort []) (team_fronts t)
-team_made plans team first shared t kept new = All-cons (AddsAtPort []) (new_front t.own) (map new_front t.others.items) new.own.made (others_made plans team first shared 1 t.others.items t.ways.items new.rest new.others)
 
 -- ---- a looper that starts
 -- the run goes on, main shuts its port or does nothing there, and the looper is put behind the others

@@ -6,8 +6,8 @@ use Rattle.ak_base.specs.Thread.{main_thread}
 use Rattle.ak_turn.specs.Called.{KeepsSeat}
 use Rattle.ak_turn.specs.Entries.{AreByOthers, StartsWith, made_by}
 use Rattle.ak_turn.specs.Noted.{entry_of}
-use Rattle.ak_turn.specs.Seats.{IsGiven, KnowsWhole, at_leisure, at_turn, entered_by, later}
-use Rattle.ak_turn.proofs.Surface.{noted-others, noted_is_made}
+use Rattle.ak_turn.specs.Seats.{IsGiven, KnowsWhole, at_leisure, entered_by}
+use Rattle.ak_turn.proofs.Surface.{keeps_same, noted-others, noted_is_made, passing_keeps, turn_keeps}
 use Rattle.ak_roster.specs.declared.head.AppHead.{AppHead}
 use Rattle.ak_roster.specs.declared.entry.EntryWithObjects.{EntryWithObjects}
 use Rattle.ak_roster.specs.declared.entry.RosterEntry.{RosterEntry}
@@ -66,23 +66,13 @@ pub record RosterOn (heads : List AppHead) (more : ℕ) (seat seat' : RosterSeat
 module _ (seat given seat' : RosterSeat) (book book' : Book) (more : ℕ) (idle : seat.turn ≡ false) (thread : seat.thread ≡ main_thread) (seen : IsGiven by_number seat given) (known : KnowsWhole by_number given)
     (list : book.entries ≡ given.front) (what : Option RosterEvent) (entered : HasEntered what more book book') (same : book'.entries ≡ given.front → seat' ≡ at_leisure given)
     (one : (x : EntryWithObjects Object) → book'.entries ≡ given.front ++ x ∷ [] → seat' ≡ at_leisure (entered_by given x)) (knows : KnowsWhole by_number given → KnowsWhole by_number seat') where
-  keeps_as : (s : RosterSeat) → seat' ≡ at_leisure s → s.lock ≡ given.lock → s.opening ≡ given.opening → s.thread ≡ given.thread → s.joined ≡ given.joined → s.names ≡ given.names → KeepsSeat seat seat'
-  keeps_as s is lock opening thread_is joined names = record {
-    lock = ap (λ (t : RosterSeat). t.lock) is ∙ lock ∙ ap (λ (t : RosterSeat). t.lock) seen.after;
-    opening = ap (λ (t : RosterSeat). t.opening) is ∙ opening ∙ ap (λ (t : RosterSeat). t.opening) seen.after;
-    thread = ap (λ (t : RosterSeat). t.thread) is ∙ thread_is ∙ ap (λ (t : RosterSeat). t.thread) seen.after;
-    joined = ap (λ (t : RosterSeat). t.joined) is ∙ joined ∙ ap (λ (t : RosterSeat). t.joined) seen.after;
-    turn = ap (λ (t : RosterSeat). t.turn) is ∙ sym idle;
-    names = ap (λ (t : RosterSeat). t.names) is ∙ names ∙ ap (λ (t : RosterSeat). t.names) seen.after;
-  }
-
   after : (added : Entries) → length added ≤ 1 → book'.entries ≡ given.front ++ added → (seat'.front ≡ given.front ++ added) × KeepsSeat seat seat'
   after [] few is =
       let left = same (is ∙ append-nil given.front) in
-      (ap (λ (t : RosterSeat). t.front) left ∙ sym (append-nil given.front), keeps_as given left refl refl refl refl refl)
+      (ap (λ (t : RosterSeat). t.front) left ∙ sym (append-nil given.front), turn_keeps by_number seat given seat' idle seen (keeps_same (at_leisure given) seat' left))
   after (x ∷ []) few is =
       let left = one x is in
-      (ap (λ (t : RosterSeat). t.front) left, keeps_as (entered_by given x) left refl refl refl refl refl)
+      (ap (λ (t : RosterSeat). t.front) left, turn_keeps by_number seat given seat' idle seen (passing_keeps x given seat' left))
   after (x ∷ y ∷ zs) few is = absurd (omega (arith, few))
 
   grown : book'.entries ≡ given.front ++ entered.added

@@ -1,5 +1,5 @@
 -- A looper starts: its thread's seats are split from main's.
-use Rattle.std.proofs.Common.{◌≡◌, ◌≢◌, ℕ, zero, suc, ◌+◌, ◌≤◌, ◌<◌, List, [], ◌∷◌, ◌++◌, length, map, Option, None, Some, refl, sym, ap, ◌∙◌, subst, append-nil, arith, inl, inr, ⊎_elim, All, Contains, vec_capacity}
+use Rattle.std.proofs.Common.{◌≡◌, ◌≢◌, ℕ, zero, suc, ◌+◌, ◌≤◌, ◌<◌, List, [], ◌∷◌, ◌++◌, length, map, Option, None, Some, refl, sym, ap, ◌∙◌, subst, append-nil, arith, inl, inr, ⊎_elim, All, Any, vec_capacity}
 use Rattle.std.specs.Prelude.{slice_get}
 use Rattle.std.specs.Arc.{arc_value}
 use Rattle.std.specs.List.{range_with_len}
@@ -11,7 +11,7 @@ use Rattle.ak_turn.specs.Entries.{AreByOthers, StartsWith}
 use Rattle.ak_turn.specs.Noted.{noted}
 use Rattle.ak_turn.specs.Seats.{KnowsWhole, SeatData, new_seat, titled_seat}
 use Rattle.ak_turn.specs.Steps.{IsNewName, names_with}
-use Rattle.ak_turn.proofs.Surface.{noted-others}
+use Rattle.ak_turn.proofs.Surface.{noted-others, starts_then_starts}
 use Rattle.ak_roster.specs.declared.head.AppHead.{AppHead}
 use Rattle.ak_roster.specs.declared.entry.EntryWithObjects.{EntryWithObjects}
 use Rattle.ak_roster.specs.declared.entry.RosterEntry.{RosterEntry}
@@ -26,7 +26,7 @@ use Rattle.ak_looper.specs.declared.door.Door.{Door}
 use Rattle.ak_looper.specs.declared.job.LooperJob.{LooperJob}
 use Rattle.ak_looper.specs.Job.{IsReady}
 use Rattle.ak_looper.specs.Rosters as rosters
-use Rattle.ak_looper.specs.Rosters.{LeadsTo, Object, RosterSeat, maker_of}
+use Rattle.ak_looper.specs.Rosters.{LeadsTo, Object, RosterSeat, maker_of, plain_of}
 use Rattle.ak_run.specs.declared.launching.Team.{Team}
 use Rattle.ak_run.specs.declared.member.Member.{Member}
 use Rattle.ak_run.specs.declared.new_looper.NewLooper.{NewLooper}
@@ -37,12 +37,13 @@ use Rattle.ak_run.specs.Gathering.{HasRoomFor, HoldsNothing}
 use Rattle.ak_run.specs.Jobs.{CanStart, HasWays, IsJobOf, facts_in}
 use Rattle.ak_run.specs.Members.{IsLifeOf, StillLeads}
 use Rattle.ak_run.specs.NewLooper.{IsNewLooper}
+use Rattle.ak_run.specs.Opened.{IsLaunchOf}
 use Rattle.ak_run.specs.Opening.{names_in}
 use Rattle.ak_run.specs.Running.{AreBelow, IsBelow, IsMember, IsOpenedAs, KeepsRest, Stands}
 use Rattle.ak_run.specs.Starting.{GoesOn, GoesOnWith, HasSplit, MayStart}
 use Rattle.ak_run.proofs.GoingOn.{desks_then, push_desks, same_desks, some_same}
 use Rattle.ak_run.proofs.Heads.{by_others, nothing_by_new}
-use Rattle.ak_run.proofs.Standing.{leads_still, member_sees, starts_then_starts}
+use Rattle.ak_run.proofs.Standing.{leads_still, member_sees}
 
 -- ---- names
 pub new_name : (number : ℕ) (names : Option (List ℕ)) → AreBelow number names → IsNewName names (looper_thread number)
@@ -234,21 +235,26 @@ module _ (heads : List AppHead) (plans : List PlanParts) (k : ℕ) (t : Team) (n
       unfolding new_member
       new_opened =
           let d = m.described in
+          let app = d.described.app in
           let apps_same = goes.apps ∙ split.rest.apps in
           record {
             desk = m.new.desk;
             desk_is = new_member.job_desk;
             opens = record {
-              app = d.app;
-              there = subst (λ w. Contains w.items d.app) (sym apps_same) d.there;
+              description = d.description;
+              launched = subst (λ team. Any (IsLaunchOf d.description team x.job.value.first) (plain_of x.job.value.roster_seat)) (sym team_is)
+                  (subst (λ f. Any (IsLaunchOf d.description t.number f) (plain_of x.job.value.roster_seat)) (sym first_is)
+                  (subst (Any (IsLaunchOf d.description t.number t.first)) (sym entries_are) d.launched));
+              app = app;
+              there = subst (λ w. slice_get w.items d.description ≡ Some app) (sym apps_same) d.described.there;
               place = k;
               number_is = x_number ∙ m.new.number ∙ ap (λ f. f + k) (sym first_is);
               plan = m.new.plan;
-              plan_is = subst (λ ps. slice_get ps k ≡ Some m.new.plan) d.plans_are m.new.described;
-              opens = subst (λ number. Opens m.new.plan number x.job.value.team x.job.value.first (looper_names d.app) m.new.desk) (sym m.new.number ∙ sym x_number)
-                  (subst (λ team. Opens m.new.plan (t.first + k) team x.job.value.first (looper_names d.app) m.new.desk) (sym team_is)
-                  (subst (λ f. Opens m.new.plan (t.first + k) t.number f (looper_names d.app) m.new.desk) (sym first_is)
-                  (subst (λ ps. Opens m.new.plan (t.first + k) t.number t.first (names_in ps) m.new.desk) d.plans_are m.new.opens)));
+              plan_is = subst (λ ps. slice_get ps k ≡ Some m.new.plan) d.described.plans_are m.new.described;
+              opens = subst (λ number. Opens m.new.plan number x.job.value.team x.job.value.first (looper_names app) m.new.desk) (sym m.new.number ∙ sym x_number)
+                  (subst (λ team. Opens m.new.plan (t.first + k) team x.job.value.first (looper_names app) m.new.desk) (sym team_is)
+                  (subst (λ f. Opens m.new.plan (t.first + k) t.number f (looper_names app) m.new.desk) (sym first_is)
+                  (subst (λ ps. Opens m.new.plan (t.first + k) t.number t.first (names_in ps) m.new.desk) d.described.plans_are m.new.opens)));
             };
           }
         where
@@ -257,6 +263,9 @@ module _ (heads : List AppHead) (plans : List PlanParts) (k : ℕ) (t : Team) (n
 
           team_is : x.job.value.team ≡ t.number
           team_is = ap (λ (j : LooperJob). j.team) x_job ∙ job_is.team
+
+          entries_are : plain_of x.job.value.roster_seat ≡ plain_of r.roster_seat
+          entries_are = ap (λ (j : LooperJob). plain_of j.roster_seat) x_job ∙ ap (λ (s : RosterSeat). plain_of s) (job_is.roster_seat ∙ roster_so)
 
       count_u : length u.members.items ≡ count
       count_u = goes.count ∙ ap (λ w. length w.items) split.members

@@ -1,5 +1,5 @@
 -- A run stands on, whatever main's call changes.
-use Rattle.std.proofs.Common.{◌≡◌, ℕ, ◌+◌, ◌<◌, ◌≤◌, zero, suc, List, [], ◌∷◌, ◌++◌, length, map, refl, sym, ap, ◌∙◌, subst, append_assoc, append-nil, arith, All, vec_len, vec_capacity, Option, None, Some}
+use Rattle.std.proofs.Common.{◌≡◌, ℕ, ◌+◌, ◌<◌, ◌≤◌, zero, suc, List, [], ◌∷◌, length, map, refl, sym, ap, ◌∙◌, subst, append-nil, arith, All, vec_len, vec_capacity, Option, None, Some}
 use Rattle.std.specs.Prelude.{get_or, set, slice_get}
 use Rattle.std.proofs.lemmas.List.Elements.{All-get_or, All-set, All-weaker}
 use Rattle.std.proofs.lemmas.List.{length-set}
@@ -9,7 +9,8 @@ use Rattle.ak_base.specs.Limits.{looper_limit}
 use Rattle.ak_base.specs.Thread.{looper_thread, main_thread}
 use Rattle.ak_turn.specs.Called.{KeepsSeat}
 use Rattle.ak_turn.specs.Entries.{StartsWith}
-use Rattle.ak_turn.specs.Seats.{KnowsWhole, LockId, SeatData}
+use Rattle.ak_turn.specs.Seats.{KnowsWhole, LockId}
+use Rattle.ak_turn.proofs.Surface.{keeps_same, starts_then_starts}
 use Rattle.ak_roster.specs.declared.entry.EntryWithObjects.{EntryWithObjects}
 use Rattle.ak_roster.specs.Roster.{objects_of}
 use Rattle.ak_roster.specs.declared.head.AppHead.{AppHead}
@@ -30,9 +31,6 @@ use Rattle.ak_run.specs.Running.{AreBelow, HasRoomToEnd, IsMember, IsOpenedAs, K
 use Rattle.ak_run.proofs.RosterTurn.{RosterOn}
 
 -- ---- one looper
-pub starts_then_starts : {L : Type 0} (xs ys zs : List L) → StartsWith ys xs → StartsWith zs ys → StartsWith zs xs
-starts_then_starts xs ys zs one two = (one.0 ++ two.0, two.1 ∙ ap (λ l. l ++ two.0) one.1 ∙ append_assoc xs one.0 two.0)
-
 -- what the roster pairs with a looper it goes on pairing with it
 pub leads_still : (looper : ℕ) (port desk : LockId) (seat seat' : RosterSeat) → StartsWith seat'.front seat.front → LeadsTo seat looper port desk → LeadsTo seat' looper port desk
 leads_still looper port desk seat seat' on leads =
@@ -90,9 +88,6 @@ member_calls heads shared seat m door keeps is = record {
   job_desk = is.job_desk;
   life = is.life;
 }
-
-keeps_same : {O L : Type 0} (seat seat' : SeatData O L) → seat' ≡ seat → KeepsSeat seat seat'
-keeps_same seat seat' same = record { lock = ap (λ s. s.lock) same; opening = ap (λ s. s.opening) same; thread = ap (λ s. s.thread) same; joined = ap (λ s. s.joined) same; turn = ap (λ s. s.turn) same; names = ap (λ s. s.names) same }
 
 -- ---- the run
 room_still : (r r' : Run) → KeepsRest r r' → HasRoomToEnd r → HasRoomToEnd r'

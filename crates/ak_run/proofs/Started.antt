@@ -40,9 +40,9 @@ use Rattle.ak_run.proofs.Counting.{threads}
 use Rattle.ak_run.proofs.Entering.{one_entered}
 use Rattle.ak_run.proofs.Ways.{doors_kept_so, kept_count, object}
 
-module _ (book book' : Book) (clock clock' : Clock) (main : clock.thread.0 ≡ main_thread) (word : AppWord) (m : Making) (team first : ℕ) (decided : IsDecided book word m team first) where
+module _ (book book' : Book) (clock clock' : Clock) (main : clock.thread.0 ≡ main_thread) (word : AppWord) (m : Making) (description team first : ℕ) (decided : IsDecided book word m description team first) where
   abbrev outcome_is : LaunchOutcome
-  outcome_is = launch.Started decided.place team first
+  outcome_is = launch.Started description team first
 
   -- the book's answer is the one that was decided on
   pub starts : IsStarted (launch_of book.heads (state book) word)
@@ -51,7 +51,7 @@ module _ (book book' : Book) (clock clock' : Clock) (main : clock.thread.0 ≡ m
   -- the doors are those of the loopers that it starts
   pub doors : AreKept threads (length (state book).loopers) m.kept.items (loopers_of book.heads clock.thread.0 (launch_of book.heads (state book) word))
   doors =
-      let facts = started_facts book.heads (state book) word decided.place team first decided.starts in
+      let facts = started_facts book.heads (state book) word description team first decided.starts in
       let made = decided.made in
       let kept = doors_kept_so made.plans team first decided.shared m.team m.kept.items made.new in
       let new : ℕ → LooperData = λ by. record { own = first; starter = by; given = [] } in
@@ -60,12 +60,12 @@ module _ (book book' : Book) (clock clock' : Clock) (main : clock.thread.0 ≡ m
       subst (AreKept threads (length (state book).loopers) m.kept.items) (sym all) (subst (λ n. AreKept threads n m.kept.items (replicate (length m.kept.items) (new main_thread))) facts.first_is kept)
 
   module _ (roster : IsRoster object threads book) (rest : IsAtRest book) (enters : Enters (event.Launch word (launch_of book.heads (state book) word)) (map object m.kept.items) (book.doors ++ m.kept.items) book book' clock clock')
-      (apps : List AppText) (shared : Shared) (made : IsMade apps shared m team first) (t : StartedTeam) (number_is : t.team.number ≡ team) (first_is : t.team.first ≡ first) (loopers_is : t.team.loopers ≡ length m.kept.items) (new_is : t.new ≡ m.team) where
+      (apps : List AppText) (shared : Shared) (made : IsMade apps shared m description team first) (t : StartedTeam) (number_is : t.team.number ≡ team) (first_is : t.team.first ≡ first) (loopers_is : t.team.loopers ≡ length m.kept.items) (new_is : t.new ≡ m.team) where
     first_next : first ≡ length (state book).loopers
-    first_next = (started_facts book.heads (state book) word decided.place team first decided.starts).first_is
+    first_next = (started_facts book.heads (state book) word description team first decided.starts).first_is
 
-    few_loopers : first + loopers_at book.heads decided.place ≤ looper_limit
-    few_loopers = (started_facts book.heads (state book) word decided.place team first decided.starts).few_loopers
+    few_loopers : first + loopers_at book.heads description ≤ looper_limit
+    few_loopers = (started_facts book.heads (state book) word description team first decided.starts).few_loopers
 
     abbrev entry : EntryWithObjects Object
     entry = new_entry clock book.entries (event.Launch word (launch_of book.heads (state book) word)) (map object m.kept.items)
@@ -76,13 +76,13 @@ module _ (book book' : Book) (clock clock' : Clock) (main : clock.thread.0 ≡ m
     count : t.team.loopers ≡ length made.plans
     count = loopers_is ∙ kept_count made.plans team first shared m.team m.kept.items made.new ∙ sym made.all
 
-    loopers_there : loopers_at book.heads decided.place ≡ t.team.loopers
+    loopers_there : loopers_at book.heads description ≡ t.team.loopers
     loopers_there = decided.many ∙ sym loopers_is
 
     launched_there : (desk : DeskState) → Any (StartsTeam (facts_in book.heads t.team t.team.first desk)) book'.entries
     launched_there desk =
         let starts_it : StartsTeam (facts_in book.heads t.team t.team.first desk) entry =
-        (word, decided.place, ap (event.Launch word) (decided.starts ∙ ap (λ n. launch.Started decided.place n first) (sym number_is) ∙ ap (launch.Started decided.place t.team.number) (sym first_is)), loopers_there) in
+        (word, description, ap (event.Launch word) (decided.starts ∙ ap (λ n. launch.Started description n first) (sym number_is) ∙ ap (launch.Started description t.team.number) (sym first_is)), loopers_there) in
         subst (Any (StartsTeam (facts_in book.heads t.team t.team.first desk))) (sym grown) (Any-push (StartsTeam (facts_in book.heads t.team t.team.first desk)) book.entries entry starts_it)
 
     new_team : IsNewTeam made.plans t.team.number t.team.first shared t.new m.kept.items
@@ -101,7 +101,7 @@ module _ (book book' : Book) (clock clock' : Clock) (main : clock.thread.0 ≡ m
 
     pub has_started : HasStarted apps shared word book book' t
     has_started = record {
-      description = decided.place;
+      description = description;
       plans = made.plans;
       described = made.described;
       some = omega (arith, made.all);
@@ -113,8 +113,9 @@ module _ (book book' : Book) (clock clock' : Clock) (main : clock.thread.0 ≡ m
       first = first_is ∙ first_next;
       within = omega (arith, first_is, loopers_there, few_loopers);
       launched = launched_there;
+      starts = decided.starts ∙ ap (λ n. launch.Started description n first) (sym number_is) ∙ ap (launch.Started description t.team.number) (sym first_is);
       entered = subst (λ (o : LaunchOutcome). HasEntered (Some (event.Launch word o)) t.team.loopers book book')
-          (decided.starts ∙ ap (λ n. launch.Started decided.place n first) (sym number_is) ∙ ap (launch.Started decided.place t.team.number) (sym first_is))
+          (decided.starts ∙ ap (λ n. launch.Started description n first) (sym number_is) ∙ ap (launch.Started description t.team.number) (sym first_is))
           (one_entered book book' clock clock' t.team.loopers (event.Launch word (launch_of book.heads (state book) word)) (map object m.kept.items) (book.doors ++ m.kept.items) tt main enters
           (ap (λ o. count_of book.heads (event.Launch word o)) decided.starts ∙ loopers_there));
       objects = objects_there;

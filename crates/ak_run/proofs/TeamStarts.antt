@@ -14,17 +14,18 @@ use Rattle.ak_diary.specs.Looper.{LooperFacts}
 use Rattle.ak_looper.specs.declared.door.Door.{Door}
 use Rattle.ak_looper.specs.declared.kept_door.KeptDoor.{KeptDoor}
 use Rattle.ak_looper.specs.Doors.{IsNewDoor}
-use Rattle.ak_looper.specs.Rosters.{LeadsTo, RosterSeat}
+use Rattle.ak_looper.specs.Rosters.{LeadsTo, RosterSeat, plain_of}
 use Rattle.ak_looper.specs.Stands.{StartsTeam, doors_kept}
 use Rattle.ak_run.specs.declared.launching.Team.{Team}
 use Rattle.ak_run.specs.declared.new_looper.NewLooper.{NewLooper}
 use Rattle.ak_run.specs.declared.new_looper.Shared.{Shared}
 use Rattle.ak_run.specs.declared.new_team.NewTeam.{NewTeam}
 use Rattle.ak_run.specs.declared.run.Run.{Run}
-use Rattle.ak_run.specs.Jobs.{HasWays, IsStartedIn, facts_in}
+use Rattle.ak_run.specs.Jobs.{HasWays, IsStartedFrom, IsStartedIn, facts_in}
 use Rattle.ak_run.specs.NewTeam.{AreOthers, IsOneOf}
+use Rattle.ak_run.specs.Opened.{IsLaunchOf}
 use Rattle.ak_run.specs.Starting.{GoesOnWith, IsPaired, IsStarting, MayStart, MayStartTeam}
-use Rattle.ak_run.proofs.GoingOn.{with_then_with}
+use Rattle.ak_run.proofs.GoingOn.{plain_on, with_then_with}
 use Rattle.ak_run.proofs.Standing.{leads_still}
 
 -- the own looper is the first
@@ -53,6 +54,18 @@ own_may_start heads plans kept t new r may =
 pub any_more : {X : Type 0} (P : X → Type 0) (xs ys : List X) → Any P xs → Any P (xs ++ ys)
 any_more P xs ys any = (any.0, any.1, omega (arith, any.2, length-append xs ys), get_or_append_left xs ys any.1 any.0 any.2 ∙ any.3, any.4)
 
+-- so is it among what a list went on to
+pub any_on : {X : Type 0} (P : X → Type 0) (xs ys : List X) → StartsWith ys xs → Any P xs → Any P ys
+any_on P xs ys on any = subst (Any P) (sym on.1) (any_more P xs on.0 any)
+
+-- so it is of the application that was launched
+started_still : (plans : List PlanParts) (t : Team) (r s : Run) → s.apps ≡ r.apps → StartsWith s.roster_seat.front r.roster_seat.front → IsStartedFrom r.apps.items plans t r.roster_seat → IsStartedFrom s.apps.items plans t s.roster_seat
+started_still plans t r s apps on is = record {
+  description = is.description;
+  described = subst (λ v. IsOneOf v.items is.description plans) (sym apps) is.described;
+  launched = any_on (IsLaunchOf is.description t.number t.first) (plain_of r.roster_seat) (plain_of s.roster_seat) (plain_on r.roster_seat s.roster_seat on) is.launched;
+}
+
 pub launched_still : (heads : List AppHead) (t : Team) (desk : DeskState) (seat seat' : RosterSeat) → StartsWith seat'.front seat.front → IsStartedIn heads t desk seat → IsStartedIn heads t desk seat'
 launched_still heads t desk seat seat' on launched = subst (Any (StartsTeam (facts_in heads t t.first desk))) (sym on.1) (any_more (StartsTeam (facts_in heads t t.first desk)) seat.front on.0 launched)
 
@@ -68,7 +81,7 @@ others_follow heads plans kept t new r s may goes = record {
   some = omega arith;
   stands = goes.stands heads may.stands;
   next = next_is t.first (length r.members.items) (length s.members.items) may.next goes.count;
-  described = subst (λ v. IsOneOf v.items plans) (sym goes.apps) may.described;
+  described = started_still plans t r s goes.apps goes.on may.described;
   ways = new.ways.items;
   kept = may.team.rest;
   others = subst (λ h. AreOthers plans t.number t.first h 1 new.others.items new.ways.items may.team.rest) (sym goes.shared) may.team.others;
@@ -135,7 +148,7 @@ next_started t r s u x xs is goes = by_lists is.ways is.kept is.others
       some = omega arith;
       stands = goes.stands is.heads is.stands;
       next = one_more t.first is.so_far (length s.members.items) (length u.members.items) is.next goes.count;
-      described = subst (λ v. IsOneOf v.items is.plans) (sym goes.apps) is.described;
+      described = started_still is.plans t s u goes.apps goes.on is.described;
       ways = ws;
       kept = ds;
       others = subst (λ h. AreOthers is.plans t.number t.first h (is.so_far + 1) xs ws ds) (sym goes.shared) (subst (λ k. AreOthers is.plans t.number t.first s.shared k xs ws ds) (one is.so_far) others.1);

@@ -10,7 +10,7 @@ use Rattle.ak_base.specs.declared.thread.ThreadId.{ThreadId}
 use Rattle.ak_turn.specs.Entries.{AreByOthers, StartsWith}
 use Rattle.ak_turn.specs.Noted.{noted}
 use Rattle.ak_turn.specs.Seats.{part_of}
-use Rattle.ak_turn.proofs.Surface.{known_is_made, noted-others}
+use Rattle.ak_turn.proofs.Surface.{known_is_made, noted-others, starts_then_starts}
 use Rattle.ak_roster.specs.declared.entry.EntryWithObjects.{EntryWithObjects}
 use Rattle.ak_roster.specs.declared.entry.RosterEntry.{RosterEntry}
 use Rattle.ak_roster.specs.declared.head.AppHead.{AppHead}
@@ -57,7 +57,6 @@ use Rattle.ak_run.proofs.Launched.{launched_whole}
 use Rattle.ak_run.proofs.Makers.{IsGathered, as_many, book_makers, history, made_by_holders, port_makers, port_of}
 use Rattle.ak_run.proofs.Paired.{AllAreJoined, all_started, ways_lead}
 use Rattle.ak_run.proofs.Placed.{BooksAt, books_at, number_at, short_at, way_to}
-use Rattle.ak_run.proofs.Standing.{starts_then_starts}
 use Rattle.ak_run.proofs.Taking.{all_at, and_there, at_place, some_and}
 
 -- ---- the launch that a looper's job has seen, as the journal shows it

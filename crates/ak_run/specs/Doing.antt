@@ -1,5 +1,6 @@
 -- What main does by one call, step by step, and what the call answers.
 use Rattle.std.specs.Prelude.{◌≡◌, ◌≤◌, ◌+◌, ℕ, List, [], ◌∷◌, ◌++◌, length, All, Option, None, Some, option_map, slice_get, unwrap_or, Result, Ok, Err}
+use Rattle.std.specs.List.{find}
 use Rattle.ak_base.specs.declared.app_word.AppWord.{AppWord}
 use Rattle.ak_message.specs.declared.address.Address.{Address}
 use Rattle.ak_message.specs.Message.{MessageData}
@@ -13,7 +14,9 @@ use Rattle.ak_roster.specs.declared.entry.RosterEvent.TheVariants as roster_even
 use Rattle.ak_roster.specs.declared.head.AppHead.{AppHead}
 use Rattle.ak_roster.specs.declared.team.Running.{Running}
 use Rattle.ak_roster.specs.Heads.{team_for}
-use Rattle.ak_roster.specs.Machine.{outcome_found, state_of}
+use Rattle.ak_roster.specs.Machine.{outcome_found, runs_team, state_of}
+use Rattle.ak_describe.specs.Whole.{heads_of}
+use Rattle.ak_describe.specs.declared.described.AppText.{AppText}
 use Rattle.ak_port.specs.declared.port_entry.PortEvent.{PortEvent}
 use Rattle.ak_port.specs.declared.port_entry.PortEvent.TheVariants as event
 use Rattle.ak_messenger.specs.declared.asking.Reply.{Reply}
@@ -25,10 +28,11 @@ use Rattle.ak_desk.specs.declared.entry.Edit.{Edit}
 use Rattle.ak_desk.specs.declared.entry.EditAnswer.{EditAnswer}
 use Rattle.ak_desk.specs.declared.entry.DeskEvent.TheVariants as desk_event
 use Rattle.ak_desk.specs.Entry.{EntryData}
-use Rattle.ak_diary.specs.Step.{Step, at_desk, at_roster, book_entries, desk_entries, roster_entries}
+use Rattle.ak_diary.specs.Step.{Step, at_desk, at_roster, desk_entries}
 use Rattle.ak_diary.specs.Wants.{Converses, EntersPort, Withdraws}
 use Rattle.ak_looper.specs.Rosters.{plain_of}
 use Rattle.ak_run.specs.declared.run.Run.{Run}
+use Rattle.ak_run.specs.Greeting.{EntersEach, SendsEach, arguments_told, capacities_in, start_entries}
 use Rattle.ak_run.specs.Recording.{GoesBy, IsRecorded, fronts_of, list_at, member_desk_front}
 use Rattle.ak_run.specs.declared.answers.Found.{Found}
 use Rattle.ak_run.specs.declared.answers.Found.TheVariants as found
@@ -83,21 +87,44 @@ IsStartedTeam loopers_started (found.NoTeam place) = Unit {0}
 IsStartedTeam loopers_started found.NoMemory = Unit {0}
 
 -- ---- launches
--- one entry at the roster, at that place, of that launch; nothing at the reply book
+-- one entry at the roster, at that place, of that launch
 pub record LaunchesAt (word : AppWord) (came : LaunchOutcome) (place : ℕ) (steps : List Step) : Type 0 where
   pub noted : Noted RosterEntry
   pub event_is : noted.entry.event ≡ roster_event.Launch word came
   pub place_is : place ≡ length noted.before
-  pub roster_is : roster_entries steps ≡ noted ∷ []
-  pub book_is : book_entries steps ≡ []
+  pub is : steps ≡ at_roster noted ∷ []
 
-abbrev pub LaunchedSo : AppWord → LaunchAnswer → List Step → Type 0
-LaunchedSo word (answer.Started team place) steps = (description : ℕ) × (first : ℕ) × LaunchesAt word (outcome.Started description team first) place steps
-LaunchedSo word (answer.Running team place) steps = LaunchesAt word (outcome.AlreadyRunning team) place steps
-LaunchedSo word (answer.NotFound place) steps = LaunchesAt word outcome.NotFound place steps
-LaunchedSo word (answer.Limit place) steps = LaunchesAt word outcome.Limit place steps
-LaunchedSo word answer.ThreadFault steps = Unit {0}
-LaunchedSo word answer.NoMemory steps = Unit {0}
+-- a team was started: before the entry its ports are made, each with the capacity of its looper, and its first looper is told the arguments
+-- and that it is ready to run
+pub record StartsTeam (apps : List AppText) (word : AppWord) (arguments : Option MessageData) (team place : ℕ) (steps : List Step) : Type 0 where
+  pub description : ℕ
+  pub first : ℕ
+  pub app : AppText
+  pub described : slice_get apps description ≡ Some app
+  pub ports : List Step
+  pub enters : EntersEach (start_entries first (capacities_in app.loopers) arguments) ports
+  pub entry : List Step
+  pub launches : LaunchesAt word (outcome.Started description team first) place entry
+  pub is : steps ≡ ports ++ entry
+
+-- the team runs, as the roster tells at the entry: behind it the arguments are sent to its first looper
+pub record FindsRunning (apps : List AppText) (word : AppWord) (arguments : Option MessageData) (team place : ℕ) (steps : List Step) : Type 0 where
+  pub entry : List Step
+  pub launches : LaunchesAt word (outcome.AlreadyRunning team) place entry
+  pub running : Running
+  pub runs : find (runs_team team) (state_of (heads_of apps) launches.noted.before).running ≡ Some running
+  pub told : List Step
+  pub sends : SendsEach running.first (arguments_told arguments) told
+  pub is : steps ≡ entry ++ told
+
+-- by its answer; nothing else is entered anywhere
+abbrev pub LaunchedSo : List AppText → AppWord → Option MessageData → LaunchAnswer → List Step → Type 0
+LaunchedSo apps word arguments (answer.Started team place) steps = StartsTeam apps word arguments team place steps
+LaunchedSo apps word arguments (answer.Running team place) steps = FindsRunning apps word arguments team place steps
+LaunchedSo apps word arguments (answer.NotFound place) steps = LaunchesAt word outcome.NotFound place steps
+LaunchedSo apps word arguments (answer.Limit place) steps = LaunchesAt word outcome.Limit place steps
+LaunchedSo apps word arguments answer.ThreadFault steps = Unit {0}
+LaunchedSo apps word arguments answer.NoMemory steps = Unit {0}
 
 -- ---- sends
 -- one entry at that port with that event, the last that main has seen there

@@ -35,5 +35,7 @@ pub record EndsAs (r : Run) (h : Histories) : Type 0 where
   pub book : StartsWith h.book r.hands.book_seat.front
   -- each entry that main had made at a port stands there, in order, with all that stood before it
   pub ports : (looper : ℕ) → StartsWith (noted at_ports.by_number main_thread (port_list h looper)) (noted at_ports.by_number main_thread (list_at (fronts_of r).ports looper))
+  -- each port's list goes on from what main had seen of it
+  pub port_lists : (looper : ℕ) → StartsWith (port_list h looper) (list_at (fronts_of r).ports looper)
   -- and each desk's list goes on from what main had seen of it
   pub desks : (looper : ℕ) → StartsWith (desk_list h looper) (desk_front r looper)

@@ -1,5 +1,6 @@
 -- What main did in a call that launches, before the loopers of the team start.
-use Rattle.std.specs.Prelude.{◌≡◌, ◌+◌, ℕ, List, [], ◌∷◌, ◌++◌}
+use Rattle.std.specs.Prelude.{◌≡◌, ◌+◌, ℕ, List, [], ◌∷◌, ◌++◌, Option, Some, slice_get}
+use Rattle.std.specs.List.{find}
 use Rattle.ak_base.specs.declared.app_word.AppWord.{AppWord}
 use Rattle.ak_turn.specs.Entries.{StartsWith}
 use Rattle.ak_turn.specs.Noted.{Noted}
@@ -7,8 +8,13 @@ use Rattle.ak_roster.specs.declared.entry.LaunchOutcome.{LaunchOutcome}
 use Rattle.ak_roster.specs.declared.entry.LaunchOutcome.TheVariants as outcome
 use Rattle.ak_roster.specs.declared.entry.RosterEntry.{RosterEntry}
 use Rattle.ak_roster.specs.declared.entry.RosterEvent.TheVariants as event
+use Rattle.ak_message.specs.Message.{MessageData}
+use Rattle.ak_roster.specs.Machine.{runs_team, state_of}
+use Rattle.ak_roster.specs.declared.team.Running.{Running}
+use Rattle.ak_describe.specs.Whole.{heads_of}
+use Rattle.ak_describe.specs.declared.described.AppText.{AppText}
 use Rattle.ak_port.specs.declared.port_entry.PortEntry.{PortEntry}
-use Rattle.ak_diary.specs.Step.{Step, book_entries, desk_entries, roster_entries}
+use Rattle.ak_diary.specs.Step.{Step, at_roster, book_entries, desk_entries, roster_entries}
 use Rattle.ak_looper.specs.Rosters.{plain_of}
 use Rattle.ak_run.specs.declared.answers.LaunchAnswer.{LaunchAnswer}
 use Rattle.ak_run.specs.declared.answers.LaunchAnswer.TheVariants as answer
@@ -16,6 +22,7 @@ use Rattle.ak_run.specs.declared.launching.Launch.{Launch}
 use Rattle.ak_run.specs.declared.launching.Launch.TheVariants as launch
 use Rattle.ak_run.specs.declared.run.Run.{Run}
 use Rattle.ak_run.specs.Doing.{desk_front}
+use Rattle.ak_run.specs.Greeting.{EntersEach, SendsEach, arguments_told, capacities_in, start_entries}
 use Rattle.ak_run.specs.Recording.{GoesBy, fronts_of, fronts_with}
 
 -- By some steps of which that holds, of which none is at a desk, main's own entries went on, with the new ports of a team that is about to
@@ -33,24 +40,46 @@ pub record AreAtPorts (steps : List Step) : Type 0 where
   pub no_roster : roster_entries steps ≡ []
   pub no_book : book_entries steps ≡ []
 
--- one entry at the roster, the last that main has seen there, of that launch; nothing at the reply book
+-- one entry at the roster, the last that main has seen there, of that launch
 pub record LaunchesLast (word : AppWord) (came : LaunchOutcome) (r' : Run) (steps : List Step) : Type 0 where
   pub noted : Noted RosterEntry
   pub event_is : noted.entry.event ≡ event.Launch word came
   pub last : plain_of r'.roster_seat ≡ noted.before ++ noted.entry ∷ []
-  pub roster_is : roster_entries steps ≡ noted ∷ []
-  pub book_is : book_entries steps ≡ []
+  pub is : steps ≡ at_roster noted ∷ []
+
+-- the ports of a team are made, its first looper is greeted, and then its launch is entered
+pub record EntersStart (apps : List AppText) (word : AppWord) (arguments : Option MessageData) (team first : ℕ) (r' : Run) (steps : List Step) : Type 0 where
+  pub description : ℕ
+  pub app : AppText
+  pub described : slice_get apps description ≡ Some app
+  pub ports : List Step
+  pub enters : EntersEach (start_entries first (capacities_in app.loopers) arguments) ports
+  pub entry : List Step
+  pub launches : LaunchesLast word (outcome.Started description team first) r' entry
+  pub is : steps ≡ ports ++ entry
+
+-- that team runs, and its first looper has that number
+pub record EntersRunning (apps : List AppText) (word : AppWord) (team first : ℕ) (r' : Run) (steps : List Step) : Type 0 where
+  pub launches : LaunchesLast word (outcome.AlreadyRunning team) r' steps
+  pub running : Running
+  pub runs : find (runs_team team) (state_of (heads_of apps) launches.noted.before).running ≡ Some running
+  pub first_is : running.first ≡ first
 
 -- whatever it comes to, but for want of memory
-abbrev pub EntersLaunch : AppWord → Launch → Run → List Step → Type 0
-EntersLaunch word (launch.Started s) r' steps = (description : ℕ) × LaunchesLast word (outcome.Started description s.team.number s.team.first) r' steps
-EntersLaunch word (launch.Running team first) r' steps = LaunchesLast word (outcome.AlreadyRunning team) r' steps
-EntersLaunch word launch.NotFound r' steps = LaunchesLast word outcome.NotFound r' steps
-EntersLaunch word launch.Limit r' steps = LaunchesLast word outcome.Limit r' steps
-EntersLaunch word launch.NoMemory r' steps = Unit {0}
+abbrev pub EntersLaunch : List AppText → AppWord → Option MessageData → Launch → Run → List Step → Type 0
+EntersLaunch apps word arguments (launch.Started s) r' steps = EntersStart apps word arguments s.team.number s.team.first r' steps
+EntersLaunch apps word arguments (launch.Running team first) r' steps = EntersRunning apps word team first r' steps
+EntersLaunch apps word arguments launch.NotFound r' steps = LaunchesLast word outcome.NotFound r' steps
+EntersLaunch apps word arguments launch.Limit r' steps = LaunchesLast word outcome.Limit r' steps
+EntersLaunch apps word arguments launch.NoMemory r' steps = Unit {0}
 
 -- the team runs, by the last of so many entries; or memory ran out
 abbrev pub GreetsAgain : ℕ → ℕ → LaunchAnswer → Type 0
 GreetsAgain team seen (answer.Running number place) = (number ≡ team) × (seen ≡ place + 1)
 GreetsAgain team seen answer.NoMemory = Unit {0}
 GreetsAgain team seen _ = ⊥
+
+-- what was sent to its first looper then
+abbrev pub GreetsSo : ℕ → Option MessageData → LaunchAnswer → List Step → Type 0
+GreetsSo first arguments (answer.Running number place) steps = SendsEach first (arguments_told arguments) steps
+GreetsSo first arguments _ steps = Unit {0}

@@ -9,6 +9,7 @@ use Rattle.ak_roster.specs.declared.head.AppHead.{AppHead}
 use Rattle.ak_port.specs.ReplySeats as books
 use Rattle.ak_action.specs.declared.plan.PlanParts.{PlanParts}
 use Rattle.ak_action.specs.declared.state.DeskState.{DeskState}
+use Rattle.ak_describe.specs.declared.described.AppText.{AppText}
 use Rattle.ak_diary.specs.Looper.{LooperFacts}
 use Rattle.ak_looper.specs.declared.door.Door.{Door}
 use Rattle.ak_looper.specs.declared.job.LooperJob.{LooperJob}
@@ -19,6 +20,8 @@ use Rattle.ak_run.specs.declared.launching.Team.{Team}
 use Rattle.ak_run.specs.declared.new_looper.NewLooper.{NewLooper}
 use Rattle.ak_run.specs.declared.new_looper.Shared.{Shared}
 use Rattle.ak_run.specs.NewLooper.{IsNewLooper}
+use Rattle.ak_run.specs.NewTeam.{IsOneOf}
+use Rattle.ak_run.specs.Opened.{IsLaunchOf}
 
 -- a looper of that team
 abbrev pub facts_in : List AppHead → Team → ℕ → DeskState → LooperFacts
@@ -27,6 +30,12 @@ facts_in heads t number desk = record { number = number; team = t.number; first 
 -- the launch that started the team is in that list
 abbrev pub IsStartedIn : List AppHead → Team → DeskState → RosterSeat → Type 0
 IsStartedIn heads t desk roster = Any (StartsTeam (facts_in heads t t.first desk)) roster.front
+
+-- that list has a launch of the application of these plans, by which the team was started
+pub record IsStartedFrom (apps : List AppText) (plans : List PlanParts) (t : Team) (roster : RosterSeat) : Type 0 where
+  pub description : ℕ
+  pub described : IsOneOf apps description plans
+  pub launched : Any (IsLaunchOf description t.number t.first) (plain_of roster)
 
 -- a thread's seat, without a turn, by which it made nothing
 pub record IsIdle {O L : Type 0} (thread : ℕ) (seat : SeatData O L) : Type 0 where

@@ -1,4 +1,5 @@
 pub mod AtEnd
+pub mod Closing
 pub mod Counting
 pub mod Doing
 pub mod Doors
@@ -6,11 +7,13 @@ pub mod Ending
 pub mod Entering
 pub mod Finding
 pub mod Gathering
+pub mod Greeting
 pub mod Jobs
 pub mod Launching
 pub mod Members
 pub mod NewLooper
 pub mod NewTeam
+pub mod Opened
 pub mod Opening
 pub mod Recording
 pub mod Running

@@ -1,7 +1,8 @@
 -- The loopers that were started, as main has them.
-use Rattle.std.specs.Prelude.{◌≡◌, ℕ, ◌+◌, List, Contains, Some, slice_get}
+use Rattle.std.specs.Prelude.{◌≡◌, ℕ, ◌+◌, List, Any, Some, slice_get}
 use Rattle.ak_base.specs.Thread.{main_thread}
 use Rattle.ak_turn.specs.Called.{KeepsSeat}
+use Rattle.ak_roster.specs.declared.entry.RosterEntry.{RosterEntry}
 use Rattle.ak_action.specs.declared.plan.PlanParts.{PlanParts}
 use Rattle.ak_action.specs.declared.state.DeskState.{DeskState}
 use Rattle.ak_action.specs.Opening.{Opens}
@@ -12,6 +13,7 @@ use Rattle.ak_looper.specs.declared.job.LooperJob.{LooperJob}
 use Rattle.ak_looper.specs.Job.{HasLived}
 use Rattle.ak_run.specs.declared.member.Life.{Life}
 use Rattle.ak_run.specs.declared.member.Life.TheVariants as life
+use Rattle.ak_run.specs.Opened.{IsLaunchOf}
 use Rattle.ak_run.specs.Recording.{AddsAtPort}
 
 -- its thread is to give back what comes of that job, or it has come of it
@@ -19,10 +21,13 @@ abbrev pub IsLifeOf : LooperJob → Life → Type 0
 IsLifeOf job (life.Running handle) = handle.promise.0.value ≡ job
 IsLifeOf job (life.Over end) = HasLived job end
 
--- the looper of that number is one of the loopers of one of these applications, and its desk was opened as that one's plan says
-pub record OpensAs (apps : List AppText) (number team first : ℕ) (desk : DeskState) : Type 0 where
+-- the looper of that number is one of the loopers of the application whose launch, which is one of these entries, started the team, and its
+-- desk was opened as that one's plan says
+pub record OpensAs (apps : List AppText) (entries : List RosterEntry) (number team first : ℕ) (desk : DeskState) : Type 0 where
+  pub description : ℕ
+  pub launched : Any (IsLaunchOf description team first) entries
   pub app : AppText
-  pub there : Contains apps app
+  pub there : slice_get apps description ≡ Some app
   pub place : ℕ
   pub number_is : number ≡ first + place
   pub plan : PlanParts

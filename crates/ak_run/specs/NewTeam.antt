@@ -1,5 +1,5 @@
 -- The loopers of a team that is about to start.
-use Rattle.std.specs.Prelude.{◌≡◌, ℕ, suc, ◌+◌, List, [], ◌∷◌, length, Contains}
+use Rattle.std.specs.Prelude.{◌≡◌, ℕ, suc, ◌+◌, List, [], ◌∷◌, length, Some, slice_get}
 use Rattle.ak_action.specs.declared.plan.PlanParts.{PlanParts}
 use Rattle.ak_describe.specs.declared.described.AppText.{AppText}
 use Rattle.ak_looper.specs.declared.door.Door.{Door}
@@ -9,10 +9,10 @@ use Rattle.ak_run.specs.declared.new_looper.Shared.{Shared}
 use Rattle.ak_run.specs.declared.new_team.NewTeam.{NewTeam}
 use Rattle.ak_run.specs.NewLooper.{IsKept, IsNewLooper, IsWay, other_threads, own_threads}
 
--- these plans are those of one of the applications
-pub record IsOneOf (apps : List AppText) (plans : List PlanParts) : Type 0 where
+-- these plans are those of the application at that place
+pub record IsOneOf (apps : List AppText) (description : ℕ) (plans : List PlanParts) : Type 0 where
   pub app : AppText
-  pub there : Contains apps app
+  pub there : slice_get apps description ≡ Some app
   pub plans_are : plans ≡ app.loopers
 
 module _ (plans : List PlanParts) (team first : ℕ) (shared : Shared) where

@@ -5,6 +5,7 @@ use Rattle.ak_base.specs.Limits.{looper_limit}
 use Rattle.ak_base.specs.Thread.{main_thread, looper_thread}
 use Rattle.ak_base.specs.declared.thread.ThreadId.{ThreadId}
 use Rattle.ak_port.specs.PortCalls.{CanTake}
+use Rattle.ak_port.specs.declared.port_entry.PortEntry.{PortEntry}
 use Rattle.ak_action.specs.declared.plan.PlanParts.{PlanParts}
 use Rattle.ak_action.specs.declared.state.DeskState.{DeskState}
 use Rattle.ak_action.specs.Opening.{FitsPlace, Opens}
@@ -15,6 +16,10 @@ use Rattle.ak_run.specs.Recording.{AddsAtPort}
 
 abbrev pub names_in : List PlanParts → List (List ℕ)
 names_in plans = map (λ (p : PlanParts). p.name) plans
+
+-- what main has seen of its port
+abbrev pub opened_front : Opened → List PortEntry
+opened_front o = o.door.port_seat.front
 
 -- each of an application's plans fits its place, where the first one has that number
 abbrev pub FitPlaces : ℕ → List PlanParts → Type 0

@@ -47,11 +47,11 @@ pub record IsMember (heads : List AppHead) (shared : Shared) (roster : rosters.R
   pub job_desk : m.job.value.own.desk_seat.opening ≡ Some desk
   pub life : IsLifeOf m.job.value m.life
 
--- its desk was opened as it is described
+-- its desk was opened as it is described in the application whose launch its thread had seen when it began
 pub record IsOpenedAs (apps : List AppText) (m : Member) : Type 0 where
   pub desk : DeskState
   pub desk_is : m.job.value.own.desk_seat.opening ≡ Some desk
-  pub opens : OpensAs apps m.number m.job.value.team m.job.value.first desk
+  pub opens : OpensAs apps (rosters.plain_of m.job.value.roster_seat) m.number m.job.value.team m.job.value.first desk
 
 -- ---- main's seats at what all share
 -- main, or a looper with a number below that one

@@ -23,9 +23,9 @@ use Rattle.ak_run.specs.declared.new_team.NewTeam.{NewTeam}
 use Rattle.ak_run.specs.declared.run.Run.{Run}
 use Rattle.ak_run.specs.Counting.{started_by_main}
 use Rattle.ak_run.specs.Doing.{desk_front}
-use Rattle.ak_run.specs.Jobs.{HasWays, IsStartedIn, facts_in}
+use Rattle.ak_run.specs.Jobs.{HasWays, IsStartedFrom, IsStartedIn, facts_in}
 use Rattle.ak_run.specs.NewLooper.{IsNewLooper}
-use Rattle.ak_run.specs.NewTeam.{AreOthers, IsNewTeam, IsOneOf}
+use Rattle.ak_run.specs.NewTeam.{AreOthers, IsNewTeam}
 use Rattle.ak_run.specs.Recording.{HasRecord, RecordsBeside, fronts_with, team_fronts}
 use Rattle.ak_run.specs.Running.{IsRunning, KeepsRest, Stands}
 
@@ -59,7 +59,7 @@ pub record MayStart (heads : List AppHead) (plans : List PlanParts) (k : ℕ) (t
   pub stands : Stands (length r.members.items) heads r
   pub new : IsNewLooper plans t.number t.first r.shared k n
   pub next : t.first + k ≡ length r.members.items
-  pub described : IsOneOf r.apps.items plans
+  pub described : IsStartedFrom r.apps.items plans t r.roster_seat
   pub loopers : t.loopers ≡ length plans
   pub within : t.first + t.loopers ≤ looper_limit
   pub launched : (desk : DeskState) → IsStartedIn heads t desk r.roster_seat
@@ -71,7 +71,7 @@ pub record MayStartTeam (heads : List AppHead) (plans : List PlanParts) (kept : 
   pub stands : Stands (length r.members.items) heads r
   pub team : IsNewTeam plans t.number t.first r.shared new kept
   pub next : t.first ≡ length r.members.items
-  pub described : IsOneOf r.apps.items plans
+  pub described : IsStartedFrom r.apps.items plans t r.roster_seat
   pub loopers : t.loopers ≡ length plans
   pub all : length plans ≡ length new.others.items + 1
   pub within : t.first + t.loopers ≤ looper_limit
@@ -116,7 +116,7 @@ pub record IsStarting (t : Team) (before now : Run) (rest : List NewLooper) : Ty
   pub some : 1 ≤ so_far
   pub stands : Stands (length now.members.items) heads now
   pub next : t.first + so_far ≡ length now.members.items
-  pub described : IsOneOf now.apps.items plans
+  pub described : IsStartedFrom now.apps.items plans t now.roster_seat
   pub ways : List (ℕ × Door)
   pub kept : List KeptDoor
   pub others : AreOthers plans t.number t.first now.shared so_far rest ways kept

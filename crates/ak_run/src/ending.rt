@@ -25,6 +25,7 @@ impl Run {
     ghost use Rattle.ak_run.specs.AtEnd.{DoneAtEnd};
     ghost use Rattle.ak_run.specs.Doing.{HasDoneSoFar};
     ghost use Rattle.ak_run.specs.Ending.{EndsAs, IsRunOfLoopers};
+    ghost use Rattle.ak_run.specs.Opened.{WereOpened};
     ghost use Rattle.ak_run.specs.Recording.{IsRecorded, fronts_of};
     ghost use Rattle.ak_run.specs.Running.{IsRunning};
 
@@ -33,7 +34,7 @@ impl Run {
     /// desk, and main's diary all that main did but its edits; at the ports and the reply book no other thread made an entry. The messages
     /// that a looper dispatched, followed by those that it left, are exactly those that its port accepted, in order and each once; each was
     /// dispatched as the rules say for the handlers at that moment; and each accepted waiting send got one reply, the one that the rules
-    /// make for it. Takes no memory.
+    /// make for it. Each looper's desk was opened as its plan says in the application that was launched. Takes no memory.
     pub fn end<R: Threads + Wait>(mut self, rt: &R) -> Ended
         requires running { IsRunning self }
         ensures apps { result.apps.items ≡ self.apps.items }
@@ -41,8 +42,9 @@ impl Run {
         ensures accepted { EachLooper result.histories IsAccounted }
         ensures dispatched { EachLooper result.histories IsByRule }
         ensures answered { EachGotOneReply result.short result.histories }
+        ensures opened { WereOpened self.apps.items result.histories }
         ensures same { EndsAs self result.histories }
-        ensures did { (steps : List Step) → HasDoneSoFar steps self → DoneAtEnd steps result.histories }
+        ensures did { (steps : List Step) → HasDoneSoFar steps self → DoneAtEnd (heads_of self.apps.items) steps result.histories }
     {
         runs_are_accounted();
         runs_go_by_rule();
@@ -57,6 +59,7 @@ impl Run {
         ensures run { IsRunOfLoopers (heads_of self.apps.items) result.short result.histories }
         ensures apps { result.apps ≡ self.apps }
         ensures done { (steps : List Step) → IsRecorded steps (fronts_of self) → HasDone result.histories main_thread steps }
+        ensures opened { WereOpened self.apps.items result.histories }
         ensures same { EndsAs self result.histories }
     {
         holders_are_told();

@@ -104,6 +104,7 @@ pub(crate) fn join_one<R: Threads>(
     ensures no_head { (heads : List AppHead) (shared : Shared) → IsMember heads shared roster_seat.old member → IsNoHead result.0 }
     ensures ways { result.1 ≡ result.0.end.value.doors }
     ensures number { result.0.number ≡ member.number }
+    ensures job { result.0.job.value ≡ member.job.value }
     ensures front { joined_front result.0 ≡ member_front member }
     ensures desk_front { joined_desk_front result.0 ≡ member_desk_front member }
     ensures roster { GoesOnKnowing roster_seat.old roster_seat.new }
@@ -172,6 +173,7 @@ pub(crate) fn join_all<R: Threads>(
     ensures ways { map (λ (j : Joined). j.end.value.doors) all.new.loopers.items ≡ all.new.ways.items }
     ensures short { all.new.short.items ≡ short_of all.new.loopers.items }
     ensures numbers { map (λ (j : Joined). j.number) all.new.loopers.items ≡ map (λ (m : Member). m.number) members.items }
+    ensures jobs { map (λ (j : Joined). j.job.value) all.new.loopers.items ≡ map (λ (m : Member). m.job.value) members.items }
     ensures fronts { map joined_front all.new.loopers.items ≡ map member_front members.items }
     ensures desk_fronts { map joined_desk_front all.new.loopers.items ≡ map member_desk_front members.items }
     ensures roster { GoesOnKnowing roster_seat.old roster_seat.new }

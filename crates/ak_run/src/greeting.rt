@@ -1,9 +1,10 @@
 //! What an application's own looper gets before it starts.
-ghost use Rattle.std.specs.Prelude.{◌≡◌, false};
+ghost use Rattle.std.specs.Prelude.{◌≡◌, ◌≤◌, ◌∷◌, [], ℕ, option_map, IsErrOf, OnOk, false};
 ghost use Rattle.ak_base.specs.declared.thread.ThreadId.{ThreadId};
 ghost use Rattle.ak_turn.specs.Called.{KeepsSeat};
 ghost use Rattle.ak_port.specs.PortCalls.{CanTake};
 ghost use Rattle.ak_run.specs.Doors.{KeepsDoor};
+ghost use Rattle.ak_run.specs.Greeting.{HasSent, IsAlone, arguments_told, made_event, told_first, written_from};
 
 use ak_base::{Code, NoMemory};
 use ak_looper::Door;
@@ -31,11 +32,12 @@ pub(crate) fn send<R: Wait>(
 ) -> Result<(), NoMemory>
     requires thread { door.old.port_seat.thread ≡ hands.old.clock.thread.0 }
     ensures door { KeepsDoor door.old door.new }
+    ensures sent { OnOk result (HasSent message.now hands.old.clock hands.new.clock door.old.port_seat door.new.port_seat) }
     ensures book { hands.new.book ≡ hands.old.book }
     ensures book_seat { hands.new.book_seat ≡ hands.old.book_seat }
     ensures clock { hands.new.clock.thread ≡ hands.old.clock.thread }
 {
-    match post(
+    unless_memory_ran_out(post(
         alloc,
         hands,
         rt,
@@ -43,9 +45,19 @@ pub(crate) fn send<R: Wait>(
         &mut door.port_seat,
         FROM_MAIN,
         message,
-    ) {
+    ))
+}
+
+// Want of memory alone is a fault: it is main's, and no answer of the port.
+fn unless_memory_ran_out(sent: Result<u64, SendFault>) -> Result<(), NoMemory>
+    ensures { OnOk result (IsErrOf sent SendFault.NoMemory → ⊥) }
+{
+    match sent {
         Err(SendFault::NoMemory) => Err(NoMemory),
-        Ok(_) | Err(_) => Ok(()),
+        Err(SendFault::TooLong | SendFault::BadPort | SendFault::Spent | SendFault::WouldBlock) => {
+            Ok(())
+        }
+        Ok(_) => Ok(()),
     }
 }
 
@@ -59,6 +71,7 @@ fn send_if<R: Wait>(
 ) -> Result<(), NoMemory>
     requires thread { door.old.port_seat.thread ≡ hands.old.clock.thread.0 }
     ensures door { KeepsDoor door.old door.new }
+    ensures told { (capacity : ℕ) → 2 ≤ capacity → IsAlone (made_event capacity ∷ []) door.old.port_seat → OnOk result (IsAlone (made_event capacity ∷ written_from 0 (arguments_told (option_map (λ m. m.now) message.entry))) door.new.port_seat) }
     ensures book { hands.new.book ≡ hands.old.book }
     ensures book_seat { hands.new.book_seat ≡ hands.old.book_seat }
     ensures clock { hands.new.clock.thread ≡ hands.old.clock.thread }
@@ -79,6 +92,7 @@ pub(crate) fn greet<R: Wait>(
 ) -> Result<(), NoMemory>
     requires thread { door.old.port_seat.thread ≡ hands.old.clock.thread.0 }
     ensures door { KeepsDoor door.old door.new }
+    ensures told { (capacity : ℕ) → 2 ≤ capacity → IsAlone (made_event capacity ∷ []) door.old.port_seat → OnOk result (IsAlone (made_event capacity ∷ written_from 0 (told_first (option_map (λ m. m.now) arguments.entry))) door.new.port_seat) }
     ensures book { hands.new.book ≡ hands.old.book }
     ensures book_seat { hands.new.book_seat ≡ hands.old.book_seat }
     ensures clock { hands.new.clock.thread ≡ hands.old.clock.thread }

@@ -1,9 +1,9 @@
 //! Launches.
-ghost use Rattle.std.specs.Prelude.{◌≡◌, ◌≢◌, ◌<◌, ◌≤◌, ℕ, List, length};
+ghost use Rattle.std.specs.Prelude.{◌≡◌, ◌≢◌, ◌<◌, ◌≤◌, ℕ, List, length, option_map};
 ghost use Rattle.ak_outside.specs.Faults.{Rose};
 ghost use Rattle.ak_roster.specs.Answers.{IsWord};
 ghost use Rattle.ak_run.specs.Doing.{DoesSo, LaunchedSo};
-ghost use Rattle.ak_run.specs.Entering.{AreAtPorts, DoesWith, EntersLaunch, GreetsAgain};
+ghost use Rattle.ak_run.specs.Entering.{DoesWith, EntersLaunch, GreetsAgain, GreetsSo};
 ghost use Rattle.ak_run.specs.Running.{IsRunning};
 ghost use Rattle.ak_run.specs.Sending.{looper_count};
 ghost use Rattle.ak_run.specs.Starting.{HasEnteredLaunch, launched_fronts};
@@ -22,7 +22,9 @@ use std::thread::Threads;
 
 impl Run {
     /// Launches the first application that the word fits, and starts a thread for each of its loopers, in order. What it came to is one
-    /// entry of the roster, and the answer tells where that stands; where a thread could not be started, the team is ended again.
+    /// entry of the roster, and the answer tells where that stands; where a thread could not be started, the team is ended again. Where a
+    /// team starts, its ports are made before that entry, and its first looper is told the arguments and that it is ready to run; where one
+    /// runs, its first looper is told the arguments behind it.
     pub fn launch<W: Spawner, G: Gate + 'static, R: Threads + Wait + Copy + Send + 'static>(
         &mut self,
         rt: &R,
@@ -33,7 +35,7 @@ impl Run {
     ) -> LaunchAnswer
         requires running { IsRunning self.old }
         requires word { IsWord word.now }
-        ensures did { DoesSo (LaunchedSo word.now result) self.old self.new }
+        ensures did { DoesSo (LaunchedSo self.old.apps.items word.now (option_map (λ m. m.now) arguments.entry) result) self.old self.new }
         ensures cause { result ≡ LaunchAnswer.ThreadFault → Rose (W.faults spawner.old) (W.faults spawner.new) }
         ensures kept { result ≢ LaunchAnswer.ThreadFault → W.faults spawner.new ≡ W.faults spawner.old }
         ensures never_falls { W.faults spawner.old ≤ W.faults spawner.new }
@@ -79,7 +81,7 @@ impl Run {
         ensures launch { HasEnteredLaunch self.old self.new result }
         ensures apps { self.new.apps ≡ self.old.apps }
         ensures count { looper_count self.new ≡ looper_count self.old }
-        ensures did { DoesWith (EntersLaunch word.now result self.new) (launched_fronts result) self.old self.new }
+        ensures did { DoesWith (EntersLaunch self.old.apps.items word.now (option_map (λ m. m.now) arguments.entry) result self.new) (launched_fronts result) self.old self.new }
     {
         let alloc = *self.members.allocator();
         let shared = &self.shared;
@@ -111,7 +113,7 @@ impl Run {
         requires there { first < length self.old.members.items }
         requires entered { 1 ≤ length self.old.roster_seat.front }
         ensures answer { GreetsAgain team (length self.old.roster_seat.front) result }
-        ensures did { DoesSo AreAtPorts self.old self.new }
+        ensures did { DoesSo (GreetsSo first (option_map (λ m. m.now) arguments.entry) result) self.old self.new }
         ensures running { IsRunning self.new }
         ensures apps { self.new.apps ≡ self.old.apps }
         ensures count { looper_count self.new ≡ looper_count self.old }
@@ -120,9 +122,9 @@ impl Run {
         let place = last_place(&self.roster_seat);
         if let Some(message) = arguments {
             let door = &mut self.members[first as usize].door;
-            if send(alloc, rt, &mut self.hands, door, message).is_err() {
+            let Ok(()) = send(alloc, rt, &mut self.hands, door, message) else {
                 return LaunchAnswer::NoMemory;
-            }
+            };
         }
         LaunchAnswer::Running { team, place }
     }

@@ -1,12 +1,12 @@
 //! A launch, in one turn at the roster.
-ghost use Rattle.std.specs.Prelude.{◌≡◌, ◌<◌, ◌^◌, List, length, All, Any, find, option_map};
+ghost use Rattle.std.specs.Prelude.{◌≡◌, ◌<◌, ◌^◌, ℕ, List, length, All, Any, find, option_map};
 ghost use Rattle.ak_base.specs.Thread.{main_thread};
 ghost use Rattle.ak_roster.specs.Answers.{IsWord};
 ghost use Rattle.ak_roster.specs.Machine.{runs_team};
 ghost use Rattle.ak_roster.specs.Roster.{IsAtRest, last_stamp, state};
 ghost use Rattle.ak_describe.specs.declared.described.AppText.{AppText};
 ghost use Rattle.ak_describe.specs.Whole.{IsWholeApp, heads_of};
-ghost use Rattle.ak_run.specs.Launching.{ByMain, ComesTo, IsDecided, IsMade, IsRunningTeam};
+ghost use Rattle.ak_run.specs.Launching.{ByMain, ComesTo, IsDecided, IsMade, IsRunningTeam, IsTeamOf, TellsTeam};
 ghost use Rattle.ak_run.specs.declared.new_looper.Shared.{Shared};
 
 use crate::new_looper::Shared;
@@ -67,6 +67,7 @@ pub(crate) fn launch_at_turn<R: Wait>(
     requires whole { All IsWholeApp apps.now }
     requires word { IsWord word.now }
     ensures launch { ComesTo apps.now shared.now word.now book.old book.new result }
+    ensures told { TellsTeam apps.now (option_map (λ m. m.now) arguments.entry) word.now book.old result }
     ensures by_main { ByMain book.old }
     ensures rest { IsAtRest book.new }
     ensures book { hands.new.book ≡ hands.old.book }
@@ -139,8 +140,9 @@ fn enter<R: Wait>(
     requires stamp { last_stamp book.old.entries < 2 ^ 63 }
     requires main { hands.old.clock.thread.0 ≡ main_thread }
     requires word { IsWord word.now }
-    requires decided { IsDecided book.old word.now making team first }
-    ensures launch { (apps : List AppText) (shared : Shared) → IsMade apps shared making team first → ComesTo apps shared word.now book.old book.new result }
+    requires decided { (description : ℕ) × IsDecided book.old word.now making description team first }
+    ensures launch { (apps : List AppText) (shared : Shared) (description : ℕ) → IsDecided book.old word.now making description team first → IsMade apps shared making description team first → ComesTo apps shared word.now book.old book.new result }
+    ensures team { IsTeamOf making.team team first result }
     ensures rest { IsAtRest book.new }
     ensures book { hands.new.book ≡ hands.old.book }
     ensures book_seat { hands.new.book_seat ≡ hands.old.book_seat }

@@ -2,7 +2,8 @@
 ghost use Rattle.std.specs.Prelude.{◌≡◌, ◌≤◌, ℕ, List, IfOk};
 ghost use Rattle.ak_action.specs.declared.plan.PlanParts.{PlanParts};
 ghost use Rattle.ak_run.specs.NewLooper.{IsNewOther, IsNewOwn};
-ghost use Rattle.ak_run.specs.Opening.{IsOpenedAt};
+ghost use Rattle.ak_run.specs.Opening.{IsOpenedAt, opened_front};
+ghost use Rattle.ak_run.specs.Recording.{new_front};
 
 use crate::doors::{keep_door, part_door};
 use crate::launching::Team;
@@ -68,6 +69,7 @@ pub(crate) struct Other {
 pub(crate) fn new_own(opened: Opened, shared: &Shared) -> Result<Own, NoMemory>
     requires opened { (plans : List PlanParts) × (team : ℕ) × (first : ℕ) × IsOpenedAt plans team first 0 opened }
     ensures own { (plans : List PlanParts) (team first : ℕ) → IsOpenedAt plans team first 0 opened → IfOk result (IsNewOwn plans team first shared.now) }
+    ensures front { IfOk result (λ o. new_front o.looper ≡ opened_front opened) }
 {
     let Opened {
         number,
@@ -90,6 +92,7 @@ pub(crate) fn new_own(opened: Opened, shared: &Shared) -> Result<Own, NoMemory>
 pub(crate) fn new_other(opened: Opened, first: u32, shared: &Shared) -> Result<Other, NoMemory>
     requires opened { (plans : List PlanParts) × (team : ℕ) × (k : ℕ) × (1 ≤ k) × IsOpenedAt plans team first k opened }
     ensures other { (plans : List PlanParts) (team k : ℕ) → IsOpenedAt plans team first k opened → IfOk result (IsNewOther plans team first shared.now k) }
+    ensures front { IfOk result (λ o. new_front o.looper ≡ opened_front opened) }
 {
     let Opened {
         number,

@@ -1,9 +1,11 @@
 //! The loopers of a team that is about to start.
-ghost use Rattle.std.specs.Prelude.{◌≡◌, ◌≤◌, ◌+◌, ℕ, List, [], length, IfOk, OnOk};
+ghost use Rattle.std.specs.Prelude.{◌≡◌, ◌≤◌, ◌+◌, ◌∷◌, ◌++◌, ℕ, List, [], length, option_map, IfOk, OnOk};
 ghost use Rattle.ak_base.specs.Thread.{main_thread};
 ghost use Rattle.ak_action.specs.declared.plan.PlanParts.{PlanParts};
+ghost use Rattle.ak_run.specs.Greeting.{EachMains, FirstHoldsTwo, capacities_in, port_events, told_first, written_from};
 ghost use Rattle.ak_run.specs.NewTeam.{IsNewTeam};
-ghost use Rattle.ak_run.specs.Opening.{FitPlaces, IsOpenedAt};
+ghost use Rattle.ak_run.specs.Opening.{FitPlaces, IsOpenedAt, opened_front};
+ghost use Rattle.ak_run.specs.Recording.{team_fronts};
 
 use crate::greeting::greet;
 use crate::new_looper::{NewLooper, Other, Own, Shared, new_other, new_own};
@@ -38,6 +40,7 @@ pub(crate) struct Making {
 fn begin_team(alloc: Global, opened: Opened, shared: &Shared) -> Result<Making, NoMemory>
     requires opened { (plans : List PlanParts) × (team : ℕ) × (first : ℕ) × IsOpenedAt plans team first 0 opened }
     ensures begun { (plans : List PlanParts) (team first : ℕ) → IsOpenedAt plans team first 0 opened → IfOk result (λ m. IsNewTeam plans team first shared.now m.team m.kept.items × (m.team.others.items ≡ [])) }
+    ensures fronts { IfOk result (λ m. team_fronts m.team ≡ opened_front opened ∷ []) }
 {
     let Own { looper, kept } = new_own(opened, shared)?;
     let mut all = Vec::new(alloc);
@@ -62,6 +65,7 @@ fn add_looper(
     requires opened { (plans : List PlanParts) × (team : ℕ) × IsNewTeam plans team first shared.now making.old.team making.old.kept.items × IsOpenedAt plans team first (length making.old.team.others.items + 1) opened }
     ensures grown { (plans : List PlanParts) (team : ℕ) → IsNewTeam plans team first shared.now making.old.team making.old.kept.items → IsOpenedAt plans team first (length making.old.team.others.items + 1) opened → OnOk result (IsNewTeam plans team first shared.now making.new.team making.new.kept.items) }
     ensures count { OnOk result (length making.new.team.others.items ≡ length making.old.team.others.items + 1) }
+    ensures fronts { OnOk result (team_fronts making.new.team ≡ team_fronts making.old.team ++ opened_front opened ∷ []) }
 {
     let number = opened.number;
     let Other { looper, way, kept } = new_other(opened, first, shared)?;
@@ -87,6 +91,7 @@ pub(crate) fn make_team<R: Wait>(
     requires main { hands.old.clock.thread.0 ≡ main_thread }
     ensures made { IfOk result (λ m. IsNewTeam plans.now team first shared.now m.team m.kept.items) }
     ensures count { IfOk result (λ m. length plans.now ≡ length m.team.others.items + 1) }
+    ensures ports { FirstHoldsTwo plans.now → IfOk result (λ m. EachMains (port_events (capacities_in plans.now) (written_from 0 (told_first (option_map (λ m. m.now) arguments.entry)))) (team_fronts m.team)) }
     ensures book { hands.new.book ≡ hands.old.book }
     ensures book_seat { hands.new.book_seat ≡ hands.old.book_seat }
     ensures clock { hands.new.clock.thread ≡ hands.old.clock.thread }

@@ -1,8 +1,9 @@
 //! The ports and desks of loopers that are about to start.
-ghost use Rattle.std.specs.Prelude.{◌≡◌, length, IfOk};
+ghost use Rattle.std.specs.Prelude.{◌≡◌, ◌∷◌, [], length, map, IfOk};
 ghost use Rattle.ak_base.specs.Thread.{main_thread};
 ghost use Rattle.ak_action.specs.Opening.{FitsPlace};
-ghost use Rattle.ak_run.specs.Opening.{AreOpened, FitPlaces, IsOpened, names_in};
+ghost use Rattle.ak_run.specs.Greeting.{AreMains, EachMains, capacities_in, made_event, made_events};
+ghost use Rattle.ak_run.specs.Opening.{AreOpened, FitPlaces, IsOpened, names_in, opened_front};
 
 use ak_action::{LooperPlan, plans_are_whole};
 use ak_base::{Items, NoMemory, Text, ThreadId};
@@ -54,6 +55,7 @@ fn open_looper<R: Wait>(
     requires fits { FitsPlace plan.now place.number place.first names }
     requires main { clock.old.thread.0 ≡ main_thread }
     ensures opened { IfOk result (λ o. IsOpened place plan.now names o) }
+    ensures port { IfOk result (λ o. AreMains (made_event plan.now.capacity ∷ []) (opened_front o)) }
     ensures clock { clock.new.thread ≡ clock.old.thread }
 {
     plans_are_whole();
@@ -90,6 +92,7 @@ pub(crate) fn open_loopers<R: Wait>(
     requires main { clock.old.thread.0 ≡ main_thread }
     ensures opened { IfOk result (λ all. AreOpened plans.now team first 0 all.items) }
     ensures count { IfOk result (λ all. length all.items ≡ length plans.now) }
+    ensures ports { IfOk result (λ all. EachMains (made_events (capacities_in plans.now)) (map opened_front all.items)) }
     ensures clock { clock.new.thread ≡ clock.old.thread }
 {
     let mut all = Vec::new(alloc);

@@ -15,7 +15,7 @@ use Rattle.ak_base.specs.declared.limited.Limited.{Limited}
 use Rattle.ak_base.specs.declared.limited.Limited.TheVariants.{Within, Over}
 use Rattle.ak_message.specs.Limits.{value_limit}
 use Rattle.ak_message.specs.Message.{MessageData}
-use Rattle.ak_describe.specs.Made.{quoted_from}
+use Rattle.ak_message.specs.Written.{quoted_text}
 use Rattle.ak_describe.specs.Pass.{or_bad, or_limit}
 use Rattle.ak_describe.specs.Words.{behind, ends, first_of}
 use Rattle.ak_script.specs.Forms.{launch_word, with_text, texts_behind, some_texts, arguments_at, is_short, launch_kept, launched, launch_of}
@@ -31,7 +31,7 @@ over_stays : (words texts : List (List ℕ)) → texts_behind Over words ≡ Som
 unfolding texts_behind
 over_stays [] texts e = absurd cc
 over_stays (word ∷ words) texts e =
-    let b = bind_is (quoted_from word) (λ (t : Limited (List ℕ)). texts_behind (with_text Over t) words) (Within texts) e in
+    let b = bind_is (quoted_text word) (λ (t : Limited (List ℕ)). texts_behind (with_text Over t) words) (Within texts) e in
     over_stays words texts b.then_is
 
 record Quoted (read words all : List (List ℕ)) : Type 0 where
@@ -46,12 +46,12 @@ texts_are [] read all few e =
     let same : read ≡ all = cc in
     record { texts = []; all_are = sym same ∙ sym (append-nil read); say = tt; few = subst (λ (ts : List (List ℕ)). length ts ≤ value_limit) same few }
 texts_are (word ∷ words) read all few e =
-    let b = bind_is (quoted_from word) (λ (t : Limited (List ℕ)). texts_behind (with_text (Within read) t) words) (Within all) e in
+    let b = bind_is (quoted_text word) (λ (t : Limited (List ℕ)). texts_behind (with_text (Within read) t) words) (Within all) e in
     by_text (λ (text : List ℕ). texts_are words (read ++ text ∷ []) all) b.value b.is b.then_is
   where
     by_room
         : ((text : List ℕ) → length (read ++ text ∷ []) ≤ value_limit → texts_behind (Within (read ++ text ∷ [])) words ≡ Some (Within all) → Quoted (read ++ text ∷ []) words all)
-        → (text : List ℕ) → quoted_from word ≡ Some (Within text) → (b : Bool) → nat_lt (length read) value_limit ≡ b
+        → (text : List ℕ) → quoted_text word ≡ Some (Within text) → (b : Bool) → nat_lt (length read) value_limit ≡ b
         → texts_behind (if b then Within (read ++ text ∷ []) else Over) words ≡ Some (Within all) → Quoted read (word ∷ words) all
     by_room further text is true room f =
         let more : length (read ++ text ∷ []) ≤ value_limit = grind (arith, common_steps) in
@@ -61,7 +61,7 @@ texts_are (word ∷ words) read all few e =
 
     by_text
         : ((text : List ℕ) → length (read ++ text ∷ []) ≤ value_limit → texts_behind (Within (read ++ text ∷ [])) words ≡ Some (Within all) → Quoted (read ++ text ∷ []) words all)
-        → (t : Limited (List ℕ)) → quoted_from word ≡ Some t → texts_behind (with_text (Within read) t) words ≡ Some (Within all) → Quoted read (word ∷ words) all
+        → (t : Limited (List ℕ)) → quoted_text word ≡ Some t → texts_behind (with_text (Within read) t) words ≡ Some (Within all) → Quoted read (word ∷ words) all
     by_text further Over is f = absurd (over_stays words all f)
     by_text further (Within text) is f = by_room further text is (nat_lt (length read) value_limit) refl f
 

@@ -6,10 +6,11 @@ use Rattle.std.proofs.lemmas.Slice.Eq.{bytes_eq-Decides}
 use Rattle.ak_base.specs.Option.{where_true, ◌>>=◌}
 use Rattle.ak_base.specs.Word.{is_word}
 use Rattle.ak_base.specs.declared.app_word.AppWord.{AppWord}
+use Rattle.ak_message.specs.Written.{app_word_of}
 use Rattle.ak_desk.specs.declared.entry.Edit.{Edit}
 use Rattle.ak_desk.specs.declared.entry.Edit.TheVariants as edit
 use Rattle.ak_describe.specs.Pass.{or_bad}
-use Rattle.ak_describe.specs.Words.{app_word_of, behind, first_of}
+use Rattle.ak_describe.specs.Words.{behind, first_of}
 use Rattle.ak_describe.proofs.Surface.{app_word_takes, app_word_again}
 use Rattle.ak_script.specs.Forms.{only, looper_at, most_token, token_of, token_or_none, next_form, name_of, add_form, remove_form, prefer_form, token_edit, edit_by, edit_of, locked, lock_of}
 use Rattle.ak_script.specs.Says.{SaysTokenOrNone, SaysEdit, SaysLock, SaysStatement}

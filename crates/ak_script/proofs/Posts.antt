@@ -11,8 +11,9 @@ use Rattle.ak_message.specs.Message.{MessageData}
 use Rattle.ak_message.specs.Reading.{code_from, message_of, read_message}
 use Rattle.ak_message.specs.declared.address.Target.{Target}
 use Rattle.ak_message.specs.declared.address.Target.TheVariants as target
+use Rattle.ak_message.specs.Written.{app_word_of}
 use Rattle.ak_describe.specs.Pass.{or_bad, or_limit}
-use Rattle.ak_describe.specs.Words.{app_word_of, behind, first_of}
+use Rattle.ak_describe.specs.Words.{behind, first_of}
 use Rattle.ak_describe.proofs.Surface.{app_word_takes, app_word_again}
 use Rattle.ak_script.specs.Forms.{Way, flag_behind, flag_from, flagged, is_short, looper_at, most_token, number_behind, post_kept, post_of, target_of, way_at}
 use Rattle.ak_script.specs.Says.{SayFlag, SayNumber, SayPlace, SayTarget, SaysPost, SaysStatement}

@@ -19,11 +19,11 @@ use Rattle.ak_message.specs.Limits.{value_limit}
 use Rattle.ak_message.specs.Payload.{uint_within}
 use Rattle.ak_message.specs.Reading.{read_message}
 use Rattle.ak_message.specs.Message.{MessageData}
+use Rattle.ak_message.specs.Written.{quoted_text, app_word_of}
 use Rattle.ak_flatten.specs.Limits.{flat_limit}
 use Rattle.ak_flatten.specs.Spelling.{spelling}
-use Rattle.ak_describe.specs.Made.{quoted_from}
 use Rattle.ak_describe.specs.Pass.{or_bad, or_limit}
-use Rattle.ak_describe.specs.Words.{app_word_of, behind, ends, first_of, texts}
+use Rattle.ak_describe.specs.Words.{behind, ends, first_of, texts}
 use Rattle.ak_hey.specs.Hey as lines
 use Rattle.ak_script.specs.declared.verb.Verb.{Verb}
 use Rattle.ak_script.specs.declared.verb.Verb.TheVariants as verb
@@ -91,7 +91,7 @@ FewTexts (Within texts) = length texts ≤ value_limit
 
 unfoldable pub texts_behind : Limited (List (List ℕ)) → List (List ℕ) → Option (Limited (List (List ℕ)))
 texts_behind read [] = Some read
-texts_behind read (word ∷ words) = quoted_from word >>= λ text. texts_behind (with_text read text) words
+texts_behind read (word ∷ words) = quoted_text word >>= λ text. texts_behind (with_text read text) words
 
 -- one or more texts in quotes
 abbrev pub some_texts : List (List ℕ) → Option (Limited (List (List ℕ)))

@@ -13,8 +13,7 @@ use Rattle.ak_message.specs.declared.address.Target.TheVariants as target
 use Rattle.ak_message.specs.Limits.{value_limit}
 use Rattle.ak_flatten.specs.Limits.{flat_limit}
 use Rattle.ak_flatten.specs.Spelling.{spelling}
-use Rattle.ak_describe.specs.Made.{quoted_from}
-use Rattle.ak_describe.specs.Grammar.{SaysAppWord, WritesNumber}
+use Rattle.ak_describe.specs.Grammar.{SaysAppWord}
 use Rattle.ak_describe.specs.Words.{texts}
 use Rattle.ak_hey.specs.Grammar.{IsHey}
 use Rattle.ak_hey.specs.Hey.{end_of}
@@ -22,6 +21,7 @@ use Rattle.ak_hey.specs.Laws.{IsFirstBad, EndsEarly}
 use Rattle.ak_desk.specs.declared.entry.Edit.{Edit}
 use Rattle.ak_desk.specs.declared.entry.Edit.TheVariants as edit
 use Rattle.ak_base.specs.Word.{is_word}
+use Rattle.ak_message.specs.Written.{quoted_text, WritesNumber}
 use Rattle.ak_script.specs.Forms.{most_looper, most_token, or_zero, statement_of}
 use Rattle.ak_script.specs.Messages.{arguments_of}
 use Rattle.ak_script.specs.Statement.{LaunchData, PostData, LockData, StatementData, launch_statement, hey_statement, post_statement, lock_statement}
@@ -36,7 +36,7 @@ SaysLaunched word (app.Team team) = ⊥
 -- each word is a text in quotes, of at most 1,024 bytes
 abbrev pub SayTexts : List (List ℕ) → List (List ℕ) → Type 0
 SayTexts [] [] = Unit {0}
-SayTexts (word ∷ words) (text ∷ texts) = (quoted_from word ≡ Some (Within text)) × SayTexts words texts
+SayTexts (word ∷ words) (text ∷ texts) = (quoted_text word ≡ Some (Within text)) × SayTexts words texts
 SayTexts [] (text ∷ texts) = ⊥
 SayTexts (word ∷ words) [] = ⊥
 

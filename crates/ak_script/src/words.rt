@@ -1,16 +1,13 @@
 //! Reads words of a line in their order. A reader answers what it read and the words behind it.
 
-ghost use Rattle.std.specs.Prelude.{◌≡◌, ◌≤◌, ◌&&◌, pos, int_le, unsigned_abs, codes, option_map, IfSome};
-ghost use Rattle.ak_base.specs.Option.{where_true};
-ghost use Rattle.ak_message.specs.Payload.{uint_within};
+ghost use Rattle.std.specs.Prelude.{◌≡◌, ◌≤◌, codes, option_map, IfSome};
 ghost use Rattle.ak_describe.specs.Seen.{word_and_rest, rest_seen};
 ghost use Rattle.ak_describe.specs.Words as reads;
 ghost use Rattle.ak_describe.specs.Words.{texts};
 ghost use Rattle.ak_script.specs.Forms as forms;
 ghost use Rattle.ak_script.specs.Seen.{bytes_seen, read_and_rest};
 
-use ak_base::read_int;
-use ak_message::Word;
+use ak_message::{Word, read_uint};
 
 /// The first of the words.
 pub(crate) fn first_of(words: &[Word]) -> Option<(&[u8], &[Word])>
@@ -48,34 +45,11 @@ pub(crate) fn only(words: &[Word]) -> Option<&[u8]>
 }
 
 // ---- numbers
-// The number that a word writes, up to that one.
-fn number_up_to(word: &[u8], most: u64) -> Option<u64>
-    ensures number { result ≡ uint_within most word.now }
-    ensures within { IfSome result (λ n. n ≤ most) }
-{
-    match read_int(word) {
-        Some(number) => whole_up_to(number, most),
-        None => None,
-    }
-}
-
-// The number, where it is not below zero and not above the other.
-fn whole_up_to(number: i128, most: u64) -> Option<u64>
-    ensures number { result ≡ option_map unsigned_abs (where_true (int_le (pos 0) number && int_le number (pos most)) number) }
-    ensures within { IfSome result (λ n. n ≤ most) }
-{
-    if 0 <= number && number <= i128::from(most) {
-        Some(number as u64)
-    } else {
-        None
-    }
-}
-
 /// The token that a word writes.
 pub(crate) fn token_of(word: &[u8]) -> Option<u64>
     ensures { result ≡ forms.token_of word.now }
 {
-    number_up_to(word, u64::MAX)
+    read_uint(word, u64::MAX)
 }
 
 /// A number behind its key, up to this one, or none where the key does not stand there.
@@ -95,7 +69,7 @@ fn number_at(words: &[Word], most: u64) -> Option<(Option<u64>, &[Word])>
     ensures within { IfSome result (λ x. IfSome x.0 (λ n. n ≤ most)) }
 {
     let (word, rest) = first_of(words)?;
-    let number = number_up_to(word, most)?;
+    let number = read_uint(word, most)?;
     Some((Some(number), rest))
 }
 

@@ -13,6 +13,8 @@ pub mod Finishing
 pub mod Knowing
 pub mod NewSeats
 pub mod Calls
+pub mod Keeping
 pub mod Making
 pub mod Noting
+pub mod Stamps
 pub mod Surface

@@ -7,6 +7,7 @@ use Rattle.ak_turn.specs.Called.{Makes}
 use Rattle.ak_turn.specs.Entries.{made_by, places, places_from}
 use Rattle.ak_turn.specs.Seats.{LockId, SeatData, HasSeen, HasCalled, HasMade}
 use Rattle.ak_turn.proofs.Calls.{made_by-others, made_by-called}
+use Rattle.ak_turn.proofs.Keeping.{called_keeps, called_starts, keeps_then_keeps, seen_keeps, seen_starts, starts_then_starts}
 use Rattle.ak_turn.proofs.NewSeats.{made_own, made_other}
 use Rattle.ak_turn.proofs.Placing.{own_first, other_first}
 
@@ -15,15 +16,8 @@ module _ {O L : Type 0} (by : L → ℕ) where
   seen_makes a b seen =
       let same : length b.own ≡ length a.own = ap (λ s. length s.own) seen.after in
       record {
-        keeps = record {
-          lock = ap (λ s. s.lock) seen.after;
-          opening = ap (λ s. s.opening) seen.after;
-          thread = ap (λ s. s.thread) seen.after;
-          joined = ap (λ s. s.joined) seen.after;
-          turn = ap (λ s. s.turn) seen.after;
-          names = ap (λ s. s.names) seen.after;
-        };
-        goes_on = (seen.between, ap (λ s. s.front) seen.after);
+        keeps = seen_keeps by a b seen;
+        goes_on = seen_starts by a b seen;
         made = ap (λ s. made_by by a.thread s.front) seen.after ∙ filter-append _ a.front seen.between
             ∙ ap (λ l. made_by by a.thread a.front ++ l) (made_by-others by a.thread seen.between seen.others);
         own = omega (arith, same);
@@ -31,30 +25,16 @@ module _ {O L : Type 0} (by : L → ℕ) where
 
   pub called_makes : (entry : L) (a b : SeatData O L) → HasCalled by entry a b → Makes by (entry ∷ []) a b
   called_makes entry a b call = record {
-    keeps = record {
-      lock = ap (λ s. s.lock) call.after;
-      opening = ap (λ s. s.opening) call.after;
-      thread = ap (λ s. s.thread) call.after;
-      joined = ap (λ s. s.joined) call.after;
-      turn = ap (λ s. s.turn) call.after;
-      names = ap (λ s. s.names) call.after;
-    };
-    goes_on = (call.between ++ entry ∷ [], ap (λ s. s.front) call.after ∙ append_assoc a.front call.between (entry ∷ []));
+    keeps = called_keeps by entry a b call;
+    goes_on = called_starts by entry a b call;
     made = ap (λ s. made_by by a.thread s.front) call.after ∙ made_by-called by a.thread a.front call.between entry call.others call.mine;
     own = ap (λ s. length s.own) call.after ∙ length-append a.own (length (a.front ++ call.between) ∷ []);
   }
 
   pub makes_then_makes : (these those : List L) (a b c : SeatData O L) → Makes by these a b → Makes by those b c → Makes by (these ++ those) a c
   makes_then_makes these those a b c one two = record {
-    keeps = record {
-      lock = two.keeps.lock ∙ one.keeps.lock;
-      opening = two.keeps.opening ∙ one.keeps.opening;
-      thread = two.keeps.thread ∙ one.keeps.thread;
-      joined = two.keeps.joined ∙ one.keeps.joined;
-      turn = two.keeps.turn ∙ one.keeps.turn;
-      names = two.keeps.names ∙ one.keeps.names;
-    };
-    goes_on = (one.goes_on.0 ++ two.goes_on.0, two.goes_on.1 ∙ ap (λ l. l ++ two.goes_on.0) one.goes_on.1 ∙ append_assoc a.front one.goes_on.0 two.goes_on.0);
+    keeps = keeps_then_keeps a b c one.keeps two.keeps;
+    goes_on = starts_then_starts a.front b.front c.front one.goes_on two.goes_on;
     made = ap (λ t. made_by by t c.front) (sym one.keeps.thread) ∙ two.made ∙ ap (λ t. made_by by t b.front ++ those) one.keeps.thread
         ∙ ap (λ l. l ++ those) one.made ∙ append_assoc (made_by by a.thread a.front) these those;
     own = omega (arith, one.own, two.own, length-append these those);

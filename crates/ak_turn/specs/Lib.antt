@@ -7,3 +7,4 @@ pub mod Seats
 pub mod Seen
 pub mod Steps
 pub mod Noted
+pub mod Stamps

@@ -3,7 +3,7 @@
 #![tactic(auto)]
 
 use ak_base::{Bytes, NoMemory};
-use ak_outside::{StdSink, StdSource};
+use ak_outside::{OpenGate, StdSink, StdSource, StdSpawner};
 use std::env::Env;
 use std::io::ErrorKind;
 use std::process::ExitCode;
@@ -33,6 +33,15 @@ fn main(rt: HostRuntime) -> ExitCode {
     };
     let mut source = StdSource::new(rt.reader());
     let mut sink = StdSink::new(io::writer(&rt));
-    let end = ak_kit::kit(rt.alloc(), &words, &mut source, &mut sink);
+    let mut spawner = StdSpawner::new();
+    let end = ak_kit::kit(
+        rt.alloc(),
+        &rt,
+        &words,
+        &mut source,
+        &mut sink,
+        &mut spawner,
+        &OpenGate,
+    );
     ExitCode::from(end.status)
 }

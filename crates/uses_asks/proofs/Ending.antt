@@ -8,7 +8,7 @@ use Rattle.ak_flatten.specs.declared.item.Taken.{Taken}
 use Rattle.ak_turn.specs.declared.clock.Clock.{Clock}
 use Rattle.ak_turn.specs.Entries.{made_by}
 use Rattle.ak_turn.specs.Seats.{HasCalled, HasMade, IsGiven, IsNext, LockId, at_leisure, entered_by}
-use Rattle.ak_turn.proofs.Surface.{makes_one, still_made}
+use Rattle.ak_turn.proofs.Surface.{called_keeps, makes_one, still_made}
 use Rattle.ak_port.specs.PortCalls.{CanTake, PortSeat}
 use Rattle.ak_port.specs.ReplySeats.{ReplySeat}
 use Rattle.ak_turn.specs.Called.{KeepsSeat}
@@ -84,16 +84,16 @@ pub serves_again : (port desk book : LockId) (thread : ThreadId) (taker taker' :
     → CanTake thread 1 taker'
     → CanServe port desk book thread taker' seat' filler'
 serves_again port desk book thread taker taker' seat seat' filler filler' taken made can took there kept kept' takes =
-    let after = there.there.called.after in
+    let served = called_keeps by_number _ seat seat' there.there.called in
     record {
       taker_of = kept.lock ∙ can.taker_of;
       taker_idle = kept.turn ∙ can.taker_idle;
       taker_thread = kept.thread ∙ can.taker_thread;
       taking = takes;
-      seat_of = ap (λ (s : DeskSeat). s.lock) after ∙ can.seat_of;
-      seat_idle = ap (λ (s : DeskSeat). s.turn) after ∙ can.seat_idle;
-      seat_thread = ap (λ (s : DeskSeat). s.thread) after ∙ can.seat_thread;
-      looper = subst (λ (o : Option DeskState). IsSomeAnd o (λ (x : DeskState). thread.0 ≡ looper_thread x.looper)) (sym (ap (λ (s : DeskSeat). s.opening) after)) can.looper;
+      seat_of = served.lock ∙ can.seat_of;
+      seat_idle = served.turn ∙ can.seat_idle;
+      seat_thread = served.thread ∙ can.seat_thread;
+      looper = subst (λ (o : Option DeskState). IsSomeAnd o (λ (x : DeskState). thread.0 ≡ looper_thread x.looper)) (sym served.opening) can.looper;
       filler_of = kept'.lock ∙ can.filler_of;
       filler_idle = kept'.turn ∙ can.filler_idle;
       filler_thread = kept'.thread ∙ can.filler_thread;

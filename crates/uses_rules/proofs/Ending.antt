@@ -11,7 +11,7 @@ use Rattle.ak_action.specs.declared.interp.Stage.{Stage}
 use Rattle.ak_action.specs.declared.interp.Stage.TheVariants as stage
 use Rattle.ak_action.specs.declared.state.DeskState.{DeskState}
 use Rattle.ak_action.specs.Interp.{InterpData, nexted, Given, Answers, AnswersSend, AnswersStage, HasEnded, MayGoOn, give_at, give_of, hear_of_send, next_of}
-use Rattle.ak_action.proofs.Surface.{IsAsked, IsAsking, NextStands, next_stands}
+use Rattle.ak_action.proofs.Surface.{IsAsked, IsAsking, NextStands, next_stands, sent_so}
 
 pub done_has_ended : (i : InterpData) (s : DeskState) (j : InterpData) (t : DeskState) → next_of None i s ≡ nexted want.Done j t → HasEnded j
 done_has_ended i s j t e = subst NextStands e (next_stands None i s)
@@ -22,11 +22,7 @@ takes_by (sending.Post back) h flat r spells = absurd h
 takes_by (sending.Ask into) h flat r spells = spells
 
 takes : (at : Stage) → IsAsked at → (flat : List ℕ) (r : MessageData) → Spells flat r → AnswersStage at (answer.Reply flat r)
-takes stage.Ready h flat r spells = absurd h
-takes (stage.Finding how m) h flat r spells = absurd h
-takes (stage.Found looper how m) h flat r spells = absurd h
-takes (stage.Sent how) h flat r spells = takes_by how h flat r spells
-takes stage.Ended h flat r spells = absurd h
+takes at h flat r spells = sent_so IsAsking (λ at. AnswersStage at (answer.Reply flat r)) (λ how so. takes_by how so flat r spells) at h
 
 pub asks_take_replies : (i : InterpData) (s : DeskState) (to : Address) (m : MessageData) (j : InterpData) (t : DeskState) → next_of None i s ≡ nexted (want.Ask to m) j t → (flat : List ℕ) (r : MessageData) → Spells flat r → Answers j (answer.Reply flat r)
 asks_take_replies i s to m j t e flat r spells = takes j.stage (subst NextStands e (next_stands None i s)) flat r spells

@@ -105,6 +105,63 @@ pub fn tell_left(out: &mut Bytes, port: &PortBook, known: u64) -> Told {
     out.push(b'\n')
 }
 
+// ---- who took and dispatched
+// Whether each item that was taken from the port, or left there, was taken by that thread.
+fn takes_alone(port: &PortBook, thread: u32) -> Result<bool, NoMemory> {
+    for place in 0..port.len() {
+        if let Some(entry) = port.entry(place)? {
+            if is_take(&entry.event) && entry.by.0 != thread {
+                return Ok(false);
+            }
+        }
+    }
+    Ok(true)
+}
+
+fn is_take(event: &PortEvent) -> bool {
+    match event {
+        PortEvent::Took(_) | PortEvent::Rest(_) => true,
+        PortEvent::Made { .. }
+        | PortEvent::Written { .. }
+        | PortEvent::Full
+        | PortEvent::Refused
+        | PortEvent::Spent
+        | PortEvent::Shut => false,
+    }
+}
+
+// Whether each dispatch at the desk was made by that thread.
+fn dispatches_alone(desk: &Desk, thread: u32) -> Result<bool, NoMemory> {
+    for place in 0..desk.len() {
+        if let Some(entry) = desk.entry(place)? {
+            if is_dispatch(&entry.event) && entry.by.0 != thread {
+                return Ok(false);
+            }
+        }
+    }
+    Ok(true)
+}
+
+fn is_dispatch(event: &DeskEvent) -> bool {
+    match event {
+        DeskEvent::Dispatched { .. } => true,
+        DeskEvent::Edited { .. } => false,
+    }
+}
+
+/// Tells whether nobody but that looper's thread took from its port and dispatched at its desk.
+pub fn tell_own_thread(out: &mut Bytes, looper: u32, port: &PortBook, desk: &Desk) -> Told {
+    let thread = looper.wrapping_add(10_000);
+    let takes = takes_alone(port, thread)?;
+    let dispatches = dispatches_alone(desk, thread)?;
+    tell(out, b"looper", u64::from(looper))?;
+    out.extend(match (takes, dispatches) {
+        (true, true) => b" is served by its thread\n".as_slice(),
+        (true, false) => b" is dispatched for by another thread\n",
+        (false, _) => b" is taken from by another thread\n",
+    })
+}
+
 // ---- who wrote
 fn is_try(entry: &PortEntry, thread: u32) -> bool {
     let tries = match &entry.event {

@@ -1,5 +1,6 @@
 //! Runs in threads, as a program above would have them: applications are launched, messages posted and asked, handlers
-//! edited, and then the list of each object is looked at. There is nothing here but tests.
+//! edited, and then the list of each object is looked at. A whole script is read and carried out too. There is nothing
+//! here but tests.
 #![tactic(auto)]
 
 #[cfg(test)]
@@ -30,6 +31,10 @@ mod quits;
 mod refused;
 #[cfg(test)]
 mod scene;
+#[cfg(test)]
+mod scripts;
+#[cfg(test)]
+mod slots;
 #[cfg(test)]
 mod stage;
 #[cfg(test)]

@@ -10,6 +10,7 @@ use Rattle.ak_base.specs.declared.ending.RefusalKind.{RefusalKind}
 use Rattle.ak_base.specs.Word.{is_word}
 use Rattle.ak_base.specs.Option.{where_true, ◌>>=◌}
 use Rattle.ak_message.specs.Payload.{int_value, int_within, uint_within}
+use Rattle.ak_message.specs.Written.{number_within}
 use Rattle.ak_describe.specs.declared.form.heads.AppForm.{AppForm}
 use Rattle.ak_describe.specs.declared.form.heads.LooperForm.{LooperForm}
 use Rattle.ak_describe.specs.declared.keyword.Keyword.{Keyword}
@@ -19,7 +20,7 @@ use Rattle.ak_describe.specs.declared.named.Need.TheVariants as needs
 use Rattle.ak_describe.specs.Forms.{app_form, capacity_at, capacity_behind, capacity_from, looper_form}
 use Rattle.ak_describe.specs.Parts.{LooperData, AppData, has_path, looper_named, opened}
 use Rattle.ak_describe.specs.Pass.{app_line, carry, carry_in_looper, in_last_looper, judged, last_item, least_capacity, looper_line, loopers_in, new_app, new_looper, on_last, open_looper_place, rows_in}
-use Rattle.ak_describe.specs.Words.{behind, ends, first_of, name_at, number_within}
+use Rattle.ak_describe.specs.Words.{behind, ends, first_of, name_at}
 use Rattle.ak_describe.proofs.ground.Ends.{get_set_other}
 use Rattle.ak_describe.proofs.built.Fits.{AppFits, IsNoNext, LooperFits, RowFits}
 use Rattle.ak_describe.proofs.chains.Following.{next_at, next_in}

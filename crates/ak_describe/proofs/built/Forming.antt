@@ -15,6 +15,7 @@ use Rattle.ak_message.specs.Kind.{code_of_kind, is_same_kind, same_kind-is}
 use Rattle.ak_message.specs.Message.{ValueData}
 use Rattle.ak_base.specs.Option.{where_true, ◌>>=◌}
 use Rattle.ak_message.specs.Reading.{field_split}
+use Rattle.ak_message.specs.Written.{value_from}
 use Rattle.ak_action.specs.declared.action.Action.{Action}
 use Rattle.ak_action.specs.declared.action.Action.TheVariants as action
 use Rattle.ak_action.specs.declared.action.Dest.{Dest}
@@ -35,7 +36,7 @@ use Rattle.ak_action.specs.Values.{ValuesData, one_value}
 use Rattle.ak_describe.specs.declared.parts.PropertyParts.{PropertyParts}
 use Rattle.ak_describe.specs.Actions.{Built, add_form, ask_action, ask_form, copied_from, copied_or, dest_at, field_added, field_behind, field_kept, fields_behind, given_from, given_values, into_at_end, into_behind, into_found, may_be_asked, named_too, nothing_built, post_action, post_form, property_name, reply_form, set_action, set_form, set_given, short_template, template_form, two_words, with_field, back_behind, has_name, written}
 use Rattle.ak_describe.specs.Described.{table_of}
-use Rattle.ak_describe.specs.Made.{is_short, limited_then, number_from, number_in, number_of_kind, one_from, one_kept, value_from, values_from}
+use Rattle.ak_describe.specs.Made.{is_short, limited_then, number_from, number_in, number_of_kind, one_from, one_kept, values_from}
 use Rattle.ak_describe.specs.Parts.{property_named}
 use Rattle.ak_describe.specs.declared.keyword.Keyword.{Keyword}
 use Rattle.ak_describe.specs.declared.keyword.Keyword.TheVariants as key

@@ -1,93 +1,36 @@
 -- The chains of a plan: each of them ends, or one of them comes back.
-use Rattle.std.proofs.Common.{◌≡◌, ◌≢◌, ◌⊎◌, ℕ, zero, suc, ◌+◌, ◌-◌, ◌<◌, ◌≤◌, ◌==◌, Bool, true, false, cond, List, [], ◌∷◌, length, get_or, All, AllPairs, Option, None, Some, is_none, option_and_then, slice_get, bytes_eq, refl, sym, ap, subst, ◌∙◌, ⊎_elim, inl, inr, arith}
+use Rattle.std.proofs.Common.{◌≡◌, ◌≢◌, ◌⊎◌, ℕ, zero, suc, ◌+◌, ◌<◌, ◌≤◌, ◌==◌, Bool, true, false, cond, List, length, Option, None, Some, IfSome, is_none, option_and_then, slice_get, bytes_eq, refl, sym, ap, subst, ◌∙◌, ⊎_elim, inl, inr, arith}
 use Rattle.std.proofs.lemmas.Bool.{cases_eq, cases_lt, and_parts, and_from}
-use Rattle.std.proofs.lemmas.List.Elements.{All-nil, All-cons}
-use Rattle.std.proofs.lemmas.List.Kept.{AllPairs-cons}
 use Rattle.std.proofs.lemmas.List.Quantifiers.{position-Some}
 use Rattle.std.proofs.lemmas.Option.{slice_get_past, slice_get_within}
 use Rattle.ak_action.specs.declared.plan.PlanRow.{PlanRow}
 use Rattle.ak_action.specs.Plan.{place_or_looper, next_place, place_after, chains_end_below, chains_end}
+use Rattle.ak_handler.proofs.Surface as walks
+use Rattle.ak_handler.proofs.Surface.{IsWalk, after_add, met, met_all, met_long, met_once}
 use Rattle.ak_base.proofs.Surface.{few_below, none_is}
 
 is_none_of : {X : Type 0} (o : Option X) → o ≡ None → is_none o ≡ true
 is_none_of o e = ap is_none e
 
 module _ (rows : List PlanRow) where
+  places_walk : IsWalk (next_place rows) (place_after rows)
+  places_walk = record { start = λ at. refl; step = λ n at. refl }
+
   -- after some number of steps there is no next handler
-  pub record Ends (at : Option ℕ) : Type 0 where
-    pub steps : ℕ
-    pub is : place_after rows steps at ≡ None
+  abbrev pub Ends : Option ℕ → Type 0
+  Ends at = walks.Ends (place_after rows) at
 
-  -- ---- more steps
   pub after_none : (n : ℕ) → place_after rows n None ≡ None
-  after_none zero = refl
-  after_none (suc n) = after_none n
-
-  after_more : (n m : ℕ) (at : Option ℕ) → place_after rows n at ≡ None → n ≤ m → place_after rows m at ≡ None
-  after_more zero m at e le = ap (place_after rows m) e ∙ after_none m
-  after_more (suc n) zero at e le = absurd (omega arith)
-  after_more (suc n) (suc m) at e le = after_more n m (option_and_then (next_place rows) at) e (omega arith)
-
-  after_add : (n m : ℕ) (at : Option ℕ) → place_after rows (n + m) at ≡ place_after rows m (place_after rows n at)
-  after_add zero m at = let e : zero + m ≡ m = omega arith in ap (λ k. place_after rows k at) e
-  after_add (suc n) m at = let e : suc n + m ≡ suc (n + m) = omega arith in ap (λ k. place_after rows k at) e ∙ after_add n m (option_and_then (next_place rows) at)
+  after_none n = walks.after_none (next_place rows) (place_after rows) places_walk n
 
   pub ended : Ends None
-  ended = record { steps = zero; is = refl }
+  ended = walks.ended (next_place rows) (place_after rows) places_walk
 
   pub ends_before : (place : ℕ) → Ends (next_place rows place) → Ends (Some place)
-  ends_before place e = record { steps = suc e.steps; is = e.is }
-
-  -- ---- a chain that comes back does not end
-  once_less : (n p place : ℕ) → place_after rows (suc p) (Some place) ≡ Some place → place_after rows n (Some place) ≡ None → suc p ≤ n → place_after rows (n - suc p) (Some place) ≡ None
-  once_less n p place back e le =
-      let whole : suc p + (n - suc p) ≡ n = omega arith in
-      sym (ap (place_after rows (n - suc p)) back) ∙ sym (after_add (suc p) (n - suc p) (Some place)) ∙ ap (λ k. place_after rows k (Some place)) whole ∙ e
-
-  too_short : (n p place : ℕ) → place_after rows (suc p) (Some place) ≡ Some place → place_after rows n (Some place) ≡ None → n ≤ suc p → ⊥
-  too_short n p place back e le =
-      let over = after_more n (suc p) (Some place) e le in
-      absurd (cc (over, back))
-
-  comes_back_in : (n fuel p place : ℕ) → n ≤ fuel → place_after rows (suc p) (Some place) ≡ Some place → place_after rows n (Some place) ≢ None
-  comes_back_in n zero p place le back e = too_short n p place back e (omega arith)
-  comes_back_in n (suc fuel) p place le back e =
-      ⊎_elim
-      (λ short. too_short n p place back e (omega arith))
-      (λ long. comes_back_in (n - suc p) fuel p place (omega arith) back (once_less n p place back e long))
-      (cases_lt n (suc p))
+  ends_before place e = walks.ends_before (next_place rows) (place_after rows) places_walk place e
 
   pub back_never_ends : (p place : ℕ) → place_after rows (suc p) (Some place) ≡ Some place → Ends (Some place) → ⊥
-  back_never_ends p place back e = comes_back_in e.steps e.steps p place (omega arith) back e.is
-
-  -- ---- the places that a chain meets
-  abbrev met : ℕ → Option ℕ → List ℕ
-  met zero at = []
-  met (suc n) None = []
-  met (suc n) (Some place) = place ∷ met n (next_place rows place)
-
-  met_at : (n k : ℕ) (at : Option ℕ) (d : ℕ) → k < length (met n at) → place_after rows k at ≡ Some (get_or (met n at) k d)
-  met_at zero k at d lt = absurd (omega arith)
-  met_at (suc n) k None d lt = absurd (omega arith)
-  met_at (suc n) zero (Some place) d lt = refl
-  met_at (suc n) (suc k) (Some place) d lt = met_at n k (next_place rows place) d (omega arith)
-
-  differs : (n k place d : ℕ) → place_after rows (suc n) (Some place) ≡ None → k < length (met n (next_place rows place)) → place ≢ get_or (met n (next_place rows place)) k d
-  differs n k place d e lt same =
-      comes_back_in (suc n) (suc n) k place (omega arith) (met_at n k (next_place rows place) d lt ∙ ap Some (sym same)) e
-
-  met_once : (n : ℕ) (at : Option ℕ) → place_after rows n at ≡ None → AllPairs (λ a b. a ≢ b) (met n at)
-  met_once zero at e = λ i j d lt within. absurd (omega arith)
-  met_once (suc n) None e = λ i j d lt within. absurd (omega arith)
-  met_once (suc n) (Some place) e =
-      AllPairs-cons (λ a b. a ≢ b) place (met n (next_place rows place)) (λ k d lt. differs n k place d e lt) (met_once n (next_place rows place) e)
-
-  -- a chain that ended has ended after as many steps as it met places
-  met_long : (n m : ℕ) (at : Option ℕ) → place_after rows n at ≡ None → length (met n at) ≤ m → place_after rows m at ≡ None
-  met_long zero m at e le = ap (place_after rows m) e ∙ after_none m
-  met_long (suc n) m None e le = after_none m
-  met_long (suc n) zero (Some place) e le = absurd (omega arith)
-  met_long (suc n) (suc m) (Some place) e le = met_long n m (next_place rows place) e (omega arith)
+  back_never_ends p place back e = walks.back_never_ends (next_place rows) (place_after rows) places_walk p place back e
 
   -- ---- next places are there
   or_looper_within : (d : PlanRow) (name : Option (List ℕ)) (q : ℕ) → 1 ≤ length rows → place_or_looper rows name ≡ Some q → q < length rows
@@ -102,25 +45,16 @@ module _ (rows : List PlanRow) where
   next_within : (place q : ℕ) → next_place rows place ≡ Some q → q < length rows
   next_within place q e = next_within_by (place == 0) (slice_get rows place) place q refl e
 
-  abbrev IsWithin : Option ℕ → Type 0
-  IsWithin None = Unit {0}
-  IsWithin (Some place) = place < length rows
-
-  next_is_within : (place : ℕ) (at : Option ℕ) → next_place rows place ≡ at → IsWithin at
+  next_is_within : (place : ℕ) (at : Option ℕ) → next_place rows place ≡ at → IfSome at (λ p. p < length rows)
   next_is_within place None e = tt
   next_is_within place (Some q) e = next_within place q e
-
-  met_within : (n : ℕ) (at : Option ℕ) → IsWithin at → All (λ p. p < length rows) (met n at)
-  met_within zero at within = All-nil (λ p. p < length rows)
-  met_within (suc n) None within = All-nil (λ p. p < length rows)
-  met_within (suc n) (Some place) within =
-      All-cons (λ p. p < length rows) place (met n (next_place rows place)) within (met_within n (next_place rows place) (next_is_within place (next_place rows place) refl))
 
   -- it is enough that a chain ends at all
   ends_in_time : (place : ℕ) → place < length rows → Ends (Some place) → place_after rows (length rows) (Some place) ≡ None
   ends_in_time place lt e =
-      let few = few_below (length rows) (met e.steps (Some place)) (met_once e.steps (Some place) e.is) (met_within e.steps (Some place) lt) in
-      met_long e.steps (length rows) (Some place) e.is few
+      let within = met_all (next_place rows) (λ p. p < length rows) (λ p. next_is_within p (next_place rows p) refl) e.steps (Some place) lt in
+      let few = few_below (length rows) (met (next_place rows) e.steps (Some place)) (met_once (next_place rows) (place_after rows) places_walk e.steps (Some place) e.is) within in
+      met_long (next_place rows) (place_after rows) places_walk e.steps (length rows) (Some place) e.is few
 
   -- ---- the test of all chains
   below_from : (m : ℕ) → m ≤ length rows → ((place : ℕ) → Ends (Some place)) → chains_end_below rows m ≡ true
@@ -191,7 +125,7 @@ module _ (old new : List PlanRow) where
     once_met e at found =
         record {
           steps = found.0 + e.steps;
-          is = after_add new found.0 e.steps at ∙ ap (place_after new e.steps) found.1 ∙ e.is;
+          is = after_add (next_place new) (place_after new) (places_walk new) found.0 e.steps at ∙ ap (place_after new e.steps) found.1 ∙ e.is;
         }
 
     all_then : ((p : ℕ) → Ends old (Some p)) → Ends new (Some row) → (place : ℕ) → Ends new (Some place)

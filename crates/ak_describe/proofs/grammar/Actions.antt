@@ -12,6 +12,7 @@ use Rattle.ak_base.specs.declared.limited.Limited.TheVariants.{Within, Over}
 use Rattle.ak_base.specs.Limited.{limited_map}
 use Rattle.ak_message.specs.Reading.{code_from, field_split}
 use Rattle.ak_base.proofs.Surface.{bind_some, cond_some}
+use Rattle.ak_message.specs.Written.{code_of}
 use Rattle.ak_action.specs.declared.action.Action.{Action}
 use Rattle.ak_action.specs.declared.action.Action.TheVariants as action
 use Rattle.ak_action.specs.declared.action.Dest.{Dest}
@@ -26,7 +27,7 @@ use Rattle.ak_describe.specs.Made.{number_from}
 use Rattle.ak_describe.specs.Parts.{property_named}
 use Rattle.ak_describe.specs.Pass.{bare, added_form}
 use Rattle.ak_describe.specs.Says.{replied, SaysReply, SaysBare}
-use Rattle.ak_describe.specs.Words.{code_of, behind_first, last_of, name_of}
+use Rattle.ak_describe.specs.Words.{behind_first, last_of, name_of}
 use Rattle.ak_describe.proofs.Lasts.{last_of-push}
 use Rattle.ak_describe.proofs.grammar.Dests.{dest_is_read}
 use Rattle.ak_describe.proofs.grammar.Fields.{property_again, property_takes, set_given_is_read}

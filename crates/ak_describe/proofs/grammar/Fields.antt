@@ -1,20 +1,19 @@
 -- The words of fields: what a word says of a field is what is read of it, and the fields that are built of words are those that the
 -- words say, where their names differ.
-use Rattle.std.proofs.Common.{◌≡◌, ◌↔◌, ◌⊎◌, inl, inr, ℕ, zero, suc, ◌+◌, ◌<◌, Bool, true, false, cond, eqb, ltb, List, [], ◌∷◌, ◌++◌, length, get_or, take, drop, Option, Some, None, refl, sym, ap, subst, ◌∙◌, append_assoc, arith}
+use Rattle.std.proofs.Common.{◌≡◌, ◌↔◌, ◌⊎◌, inl, inr, ℕ, zero, suc, ◌+◌, ◌<◌, Bool, true, false, cond, eqb, List, [], ◌∷◌, ◌++◌, length, get_or, Option, Some, None, refl, sym, ap, subst, ◌∙◌, arith}
 use Rattle.std.specs.Prelude.{option_map}
-use Rattle.std.specs.List.{list_all, position_or_len, AllZip}
+use Rattle.std.specs.List.{AllZip}
 use Rattle.std.specs.Str.{bytes_eq}
-use Rattle.std.proofs.lemmas.Bool.{eqb-true, eqb-false, ne_eqb, lt-ltb, and_parts, false_from_ne_true}
-use Rattle.std.proofs.lemmas.List.{length-append, drop_more, take-append-drop, take_at, drop_at}
-use Rattle.std.proofs.lemmas.List.Quantifiers.{position-Some}
+use Rattle.std.proofs.lemmas.Bool.{eqb-true, eqb-false, ne_eqb}
 use Rattle.std.proofs.lemmas.Option.{same_Some}
 use Rattle.std.proofs.lemmas.Slice.Eq.{bytes_eq-Decides}
-use Rattle.ak_base.specs.Word.{is_word_byte, is_word}
-use Rattle.ak_base.specs.Option.{where_true, ◌>>=◌}
+use Rattle.ak_base.specs.Word.{is_word}
+use Rattle.ak_base.specs.Option.{◌>>=◌}
 use Rattle.ak_base.specs.declared.limited.Limited.{Limited}
 use Rattle.ak_base.specs.declared.limited.Limited.TheVariants.{Within, Over}
-use Rattle.ak_message.specs.Reading.{equals_in, field_split}
-use Rattle.ak_base.proofs.Surface.{bind_some, cond_some, word_parts}
+use Rattle.ak_message.specs.Reading.{field_split}
+use Rattle.ak_message.proofs.Surface.{split_again, split_takes}
+use Rattle.ak_base.proofs.Surface.{bind_some, cond_some}
 use Rattle.ak_action.specs.declared.template.Given.{Given}
 use Rattle.ak_action.specs.declared.template.Given.TheVariants as gets
 use Rattle.ak_action.specs.Values.{ValuesData}
@@ -25,45 +24,6 @@ use Rattle.ak_describe.specs.Made.{values_from, one_from}
 use Rattle.ak_describe.specs.Parts.{property_named}
 use Rattle.ak_describe.specs.Words.{name_of}
 use Rattle.ak_describe.proofs.grammar.Values.{values_are_read, one_is_read}
-
--- ---- the first `=` of a word
-not_equals : (b : ℕ) → is_word_byte b ≡ true → eqb b 61 ≡ false
-not_equals b h = false_from_ne_true (eqb b 61) (λ t. absurd (let at : is_word_byte 61 ≡ true = subst (λ (x : ℕ). is_word_byte x ≡ true) (eqb-true b 61 t) h in cc))
-
-equals_place : (name text : List ℕ) → list_all is_word_byte name ≡ true → position_or_len (λ b. eqb b 61) (name ++ 61 ∷ text) ≡ length name
-equals_place [] text h = refl
-equals_place (b ∷ name) text h =
-    let parts = and_parts (is_word_byte b) (list_all is_word_byte name) h in
-    rw (not_equals b parts.0) (omega (arith, equals_place name text parts.1))
-
-equals_again : (name text : List ℕ) → list_all is_word_byte name ≡ true → equals_in (name ++ 61 ∷ text) ≡ Some (length name)
-equals_again name text h =
-    let within : ltb (length name) (length (name ++ 61 ∷ text)) ≡ true = lt-ltb (length name) (length (name ++ 61 ∷ text)) (omega (arith, length-append name (61 ∷ text))) in
-    rw (equals_place name text h, within) refl
-
-abbrev split_at : List ℕ → ℕ → Option (List ℕ × List ℕ)
-split_at word place = where_true (is_word (take place word)) (take place word, drop (place + 1) word)
-
-split-place : (word : List ℕ) (o : Option ℕ) → equals_in word ≡ o → field_split word ≡ (o >>= split_at word)
-unfolding field_split
-split-place word o e = ap (λ (p : Option ℕ). p >>= split_at word) e
-
-pub split_again : (name text : List ℕ) → is_word name ≡ true → field_split (name ++ 61 ∷ text) ≡ Some (name, text)
-split_again name text h =
-    let front : take (length name) (name ++ 61 ∷ text) ≡ name = take_at name (61 ∷ text) (length name) refl in
-    let long : length (name ++ 61 ∷ []) ≡ length name + 1 = omega (arith, length-append name (61 ∷ [])) in
-    let rest : drop (length name + 1) (name ++ 61 ∷ text) ≡ text =
-    ap (drop (length name + 1)) (sym (append_assoc name (61 ∷ []) text)) ∙ drop_at (name ++ 61 ∷ []) text (length name + 1) long in
-    split-place (name ++ 61 ∷ text) (Some (length name)) (equals_again name text (word_parts name h).1) ∙ (rw (front, rest, h) refl)
-
-pub split_takes : (word : List ℕ) (field : List ℕ × List ℕ) → field_split word ≡ Some field → (word ≡ field.0 ++ 61 ∷ field.1) × (is_word field.0 ≡ true)
-split_takes word field e =
-    let s = bind_some (equals_in word) (split_at word) field (sym (split-place word (equals_in word) refl) ∙ e) in
-    let t = cond_some (is_word (take s.0 word)) (take s.0 word, drop (s.0 + 1) word) field s.2 in
-    let p = position-Some (λ b. eqb b 61) word s.0 0 s.1 in
-    let rest : drop s.0 word ≡ 61 ∷ drop (s.0 + 1) word = drop_more word s.0 0 p.0 ∙ ap (λ (b : ℕ). b ∷ drop (s.0 + 1) word) (eqb-true (get_or word s.0 0) 61 p.1) in
-    let all : word ≡ take s.0 word ++ 61 ∷ drop (s.0 + 1) word = sym (take-append-drop s.0 word) ∙ ap (λ (r : List ℕ). take s.0 word ++ r) rest in
-    subst (λ (f : List ℕ × List ℕ). (word ≡ f.0 ++ 61 ∷ f.1) × (is_word f.0 ≡ true)) t.1 (all, t.0)
 
 -- ---- names of properties
 property_found : (properties : List PropertyParts) (name : List ℕ) (i : ℕ) (p : PropertyParts) → i < length properties → get_or properties i p ≡ p → p.row.name ≡ name

@@ -13,12 +13,13 @@ use Rattle.ak_roster.specs.declared.head.Mode.TheVariants as mode
 use Rattle.ak_describe.specs.declared.form.heads.AppForm.{AppForm}
 use Rattle.ak_describe.specs.declared.form.heads.LooperForm.{LooperForm}
 use Rattle.ak_describe.specs.Forms.{app_form, capacity_at, capacity_behind, capacity_from, looper_form}
-use Rattle.ak_describe.specs.Grammar.{WritesNumber, mode_word, SaysApp, IsCapacity, SaysLooper, SaysName, SaysCode}
+use Rattle.ak_describe.specs.Grammar.{mode_word, SaysApp, IsCapacity, SaysLooper, SaysName, SaysCode}
 use Rattle.ak_base.specs.AppName.{is_path, is_signature}
-use Rattle.ak_describe.specs.Words.{mode_of, name_of, code_of, behind, name_at, code_at, only_name, only_code}
+use Rattle.ak_message.specs.Written.{WritesNumber, code_of}
+use Rattle.ak_message.proofs.Surface.{number_takes, number_again}
+use Rattle.ak_describe.specs.Words.{mode_of, name_of, behind, name_at, code_at, only_name, only_code}
 use Rattle.ak_describe.proofs.grammar.Choices.{chosen}
 use Rattle.ak_describe.proofs.grammar.Codes.{code_again_is, code_takes_is}
-use Rattle.ak_describe.proofs.grammar.Numbers.{number_takes, number_again}
 use Rattle.ak_describe.proofs.grammar.Parts.{behind_takes, word_at, name_at-takes, name_at-again, only_takes, only_again}
 use Rattle.ak_describe.proofs.grammar.Words.{name_takes, name_again}
 

@@ -7,12 +7,13 @@ use Rattle.ak_message.specs.Reading.{field_split}
 use Rattle.ak_base.specs.Option.{◌>>=◌}
 use Rattle.ak_base.specs.declared.limited.Limited.{Limited}
 use Rattle.ak_base.proofs.Surface.{bind_some}
+use Rattle.ak_message.specs.Written.{code_of}
 use Rattle.ak_action.specs.declared.template.Template.{Template}
 use Rattle.ak_describe.specs.declared.parts.PropertyParts.{PropertyParts}
 use Rattle.ak_describe.specs.Actions.{Built, nothing_built, field_behind, fields_behind, short_template, template_form}
 use Rattle.ak_describe.specs.Grammar.{FieldText, SaysField, SaysMessage}
 use Rattle.ak_describe.specs.Made.{limited_then}
-use Rattle.ak_describe.specs.Words.{code_of, code_at}
+use Rattle.ak_describe.specs.Words.{code_at}
 use Rattle.ak_describe.proofs.grammar.Building.{AreNamed, built, added_again, added_takes, names_new, new_names, kept_template}
 use Rattle.ak_describe.proofs.grammar.Codes.{code_is_read}
 use Rattle.ak_describe.proofs.grammar.Fields.{texts_read, texts_again, texts_take, added_all, fields-behind_are}

@@ -12,12 +12,12 @@ use Rattle.ak_base.specs.Word.{is_word}
 use Rattle.ak_base.specs.declared.code.Code.{Code}
 use Rattle.ak_base.specs.Option.{where_true, ◌>>=◌}
 use Rattle.ak_base.proofs.Surface.{bind_some, cond_some, done, some_is}
+use Rattle.ak_message.specs.Written.{WritesNumber, quoted_text, code_of}
+use Rattle.ak_message.proofs.Surface.{number_takes, number_again}
 use Rattle.ak_describe.specs.Forms.{code_found, code_behind, name_found, name_behind, form_of, text_found, text_behind}
-use Rattle.ak_describe.specs.Grammar.{IsName, IsPart, AreParts, IsTextPart, WritesCode, WritesNumber, WritesText}
-use Rattle.ak_describe.specs.Made.{quoted_from}
-use Rattle.ak_describe.specs.Words.{first_of, behind, ends, code_at, code_of, name_at, name_of, many_from, many, filled, some_behind}
+use Rattle.ak_describe.specs.Grammar.{IsName, IsPart, AreParts, IsTextPart, WritesCode, WritesText}
+use Rattle.ak_describe.specs.Words.{first_of, behind, ends, code_at, name_at, name_of, many_from, many, filled, some_behind}
 use Rattle.ak_describe.proofs.grammar.Codes.{code_again_is, code_takes_is}
-use Rattle.ak_describe.proofs.grammar.Numbers.{number_takes, number_again}
 use Rattle.ak_describe.proofs.grammar.Words.{same_bytes, name_takes, name_again, text_takes, text_again}
 
 -- what is read, and the words behind it
@@ -232,7 +232,7 @@ text_part_takes key words text rest e = by_key (behind words key) refl e where
       let p = read_is {A = Limited (List ℕ)} (Within []) text words rest e in
       ([], p.1, inl (refl, sym p.0))
   by_key (Some after) is e =
-      let w = word_at-takes quoted_from after text rest e in
+      let w = word_at-takes quoted_text after text rest e in
       (key ∷ w.0 ∷ [], behind_takes words key after is ∙ ap (λ (ws : List (List ℕ)). key ∷ ws) w.1, inr (w.0, refl, text_takes w.0 text w.2))
 
 text_left_out : (key : List ℕ) (part : List (List ℕ)) (text : Limited (List ℕ)) (rest : List (List ℕ)) → NotFirst key rest → part ≡ [] → text ≡ Within [] → text_behind (part ++ rest) key ≡ read_as text rest
@@ -243,7 +243,7 @@ text_left_out key part text rest none is empty =
 text_written : (key : List ℕ) (part : List (List ℕ)) (text : Limited (List ℕ)) (rest : List (List ℕ)) (word : List ℕ) → part ≡ key ∷ word ∷ [] → WritesText word text → text_behind (part ++ rest) key ≡ read_as text rest
 text_written key part text rest word is written =
     subst (λ (ps : List (List ℕ)). text_found (ps ++ rest) (behind (ps ++ rest) key) ≡ read_as text rest) (sym is)
-    (ap (λ (o : Option (List (List ℕ))). text_found (key ∷ word ∷ rest) o) (behind_again key (word ∷ rest)) ∙ word_at-again quoted_from word rest text (text_again word text written))
+    (ap (λ (o : Option (List (List ℕ))). text_found (key ∷ word ∷ rest) o) (behind_again key (word ∷ rest)) ∙ word_at-again quoted_text word rest text (text_again word text written))
 
 pub text_part_again : (key : List ℕ) (part : List (List ℕ)) (text : Limited (List ℕ)) (rest : List (List ℕ)) → NotFirst key rest → IsTextPart key text part → text_behind (part ++ rest) key ≡ read_as text rest
 text_part_again key part text rest none is =

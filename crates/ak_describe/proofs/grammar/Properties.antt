@@ -16,11 +16,12 @@ use Rattle.ak_base.specs.declared.limited.Limited.{Limited}
 use Rattle.ak_base.specs.declared.limited.Limited.TheVariants.{Within, Over}
 use Rattle.ak_message.specs.Reading.{Got, code_from, read_value}
 use Rattle.ak_base.proofs.Surface.{bind_some, cond_some}
+use Rattle.ak_message.specs.Written.{WritesNumber, code_of}
 use Rattle.ak_describe.specs.declared.form.property.PropertyForm.{PropertyForm}
 use Rattle.ak_describe.specs.Forms.{kind_at, form_of, commands_at, forms_at, text_behind, property_form, both, element_form}
-use Rattle.ak_describe.specs.Grammar.{WritesCode, WritesNumber, AreParts, IsTextPart, SaysProperty, IsElement, SaysElement}
+use Rattle.ak_describe.specs.Grammar.{WritesCode, AreParts, IsTextPart, SaysProperty, IsElement, SaysElement}
 use Rattle.ak_describe.specs.Made.{value_of_kind}
-use Rattle.ak_describe.specs.Words.{kind_of, name_at, name_of, code_of, ends}
+use Rattle.ak_describe.specs.Words.{kind_of, name_at, name_of, ends}
 use Rattle.ak_describe.proofs.grammar.Choices.{chosen}
 use Rattle.ak_describe.proofs.grammar.Codes.{code_again_is, code_takes_is}
 use Rattle.ak_describe.proofs.grammar.Numbers.{number_none, no_number}

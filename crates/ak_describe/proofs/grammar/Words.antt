@@ -13,8 +13,8 @@ use Rattle.ak_base.specs.declared.limited.Limited.{Limited}
 use Rattle.ak_base.specs.declared.limited.Limited.TheVariants.{Within, Over}
 use Rattle.ak_message.specs.Payload.{unquoted}
 use Rattle.ak_message.specs.Reading.{Got, got, over, text_from, text_of}
+use Rattle.ak_message.specs.Written.{quoted_text, text_in}
 use Rattle.ak_describe.specs.Grammar.{IsName, WritesText}
-use Rattle.ak_describe.specs.Made.{quoted_from, text_in}
 use Rattle.ak_describe.specs.Words.{name_of}
 
 pub same_bytes : (word : List ℕ) → bytes_eq word word ≡ true
@@ -50,7 +50,7 @@ text_of_got g = text_in g.value
 abbrev quoted_of : Option Got → Option (Limited (List ℕ))
 quoted_of o = o >>= λ g. text_of_got g
 
-pub text_takes : (word : List ℕ) (text : Limited (List ℕ)) → quoted_from word ≡ Some text → WritesText word text
+pub text_takes : (word : List ℕ) (text : Limited (List ℕ)) → quoted_text word ≡ Some text → WritesText word text
 text_takes word text e =
     let m = bind_some (text_from word) text_of_got text e in
     ⊎_elim
@@ -58,6 +58,6 @@ text_takes word text e =
     (λ (f : m.0 ≡ over k.Text). subst (λ (t : Limited (List ℕ)). WritesText word t) (some_is Over text (sym (ap text_of_got f) ∙ m.2)) (m.1 ∙ ap (λ (g : Got). done g) f))
     (text_got_of word m.0 m.1)
 
-pub text_again : (word : List ℕ) (text : Limited (List ℕ)) → WritesText word text → quoted_from word ≡ Some text
+pub text_again : (word : List ℕ) (text : Limited (List ℕ)) → WritesText word text → quoted_text word ≡ Some text
 text_again word (Within text) is = ap quoted_of is
 text_again word Over is = ap quoted_of is

@@ -19,6 +19,7 @@ use Rattle.ak_action.specs.declared.action.Reaction.{Reaction}
 use Rattle.ak_value.specs.declared.fault.ElementFault.TheVariants as fault
 use Rattle.ak_value.specs.Elements.{has_room, with_last}
 use Rattle.ak_message.specs.Reading.{Got}
+use Rattle.ak_message.specs.Written.{coded}
 use Rattle.ak_describe.specs.declared.form.heads.AppForm.{AppForm}
 use Rattle.ak_describe.specs.declared.form.heads.LooperForm.{LooperForm}
 use Rattle.ak_describe.specs.declared.form.property.PropertyForm.{PropertyForm}
@@ -36,7 +37,7 @@ use Rattle.ak_describe.specs.Parts.{RowData, LooperData, AppData, opened, has_pa
 use Rattle.ak_describe.specs.Pass.{State, or_bad, or_limit, then_read, judged, last_item, loopers_in, open_looper, new_app, new_looper, least_capacity, new_property, new_reaction, property_added, element_added, element_in, element_kept, element_line, action_added, with_action, added_form, bare, looper_line, looper_in, in_last_app, in_last_row, carry_in_looper, carry_in_row, carry}
 use Rattle.ak_describe.specs.Says as says
 use Rattle.ak_describe.specs.Says.{Form, says_app, says_looper, says_hook, says_prefer, says_common, says_handler, says_next, says_suite, says_filter, says_property, says_element, says_on, says_action, open_row, properties_in, open_properties, least_of, MayStand, HasLooper, HasRow, HasReaction, IsInUse, RowHas, LooperHas, PropertyHas, ReactionHas, reactions_in, IsKept, IsWithin, with_changed, usage_of, with_form, names_in}
-use Rattle.ak_describe.specs.Words.{first_of, ends, only_name, only_code, coded}
+use Rattle.ak_describe.specs.Words.{first_of, ends, only_name, only_code}
 use Rattle.ak_describe.proofs.grammar.Properties.{value_is_read}
 use Rattle.ak_describe.proofs.grammar.Values.{IfWithin, Holds, IsFine, read_fine}
 use Rattle.ak_describe.proofs.ground.Ends.{some_there, last_there, changed_is}

@@ -5,7 +5,6 @@ use Rattle.std.proofs.lemmas.Bool.{cases_lt}
 use Rattle.std.proofs.lemmas.List.Elements.{All-map, All-weaker}
 use Rattle.std.proofs.lemmas.Option.{slice_get-map}
 use Rattle.ak_base.specs.declared.app_word.AppWord.{AppWord}
-use Rattle.ak_base.specs.declared.app_word.AppWord.TheVariants as app
 use Rattle.ak_base.specs.declared.ending.RefusalKind.TheVariants as refusal
 use Rattle.ak_action.specs.declared.action.Action.{Action}
 use Rattle.ak_action.specs.declared.action.Action.TheVariants as action
@@ -36,16 +35,9 @@ made_of : {A B : Type 0} (f : A → B) (xs : List A) (i : ℕ) (y : B) → slice
 made_of f xs i y at = mapped (slice_get xs i) f y (sym (slice_get-map f xs i) ∙ at)
 
 -- ---- a word fits a description as it fits what a roster knows of it
-head_as : (word : AppWord) (a : AppData) → head_fits word (head_of (app_text a)) ≡ fits word a
-head_as (app.Path path) a = refl
-head_as (app.Signature signature) a = refl
-head_as (app.Name name) a = refl
-head_as (app.Team team) a = refl
-
 heads_as : (word : AppWord) (apps : List AppData) → list_any (head_fits word) (heads_of (described apps)) ≡ list_any (fits word) apps
 heads_as word [] = refl
-heads_as word (a ∷ apps) =
-    ap (λ (b : Bool). b || list_any (head_fits word) (heads_of (described apps))) (head_as word a) ∙ ap (λ (b : Bool). fits word a || b) (heads_as word apps)
+heads_as word (a ∷ apps) = ap (λ (b : Bool). fits word a || b) (heads_as word apps)
 
 -- ---- a looper at its place
 module _ (apps : List AppData) (names : List Named) (good : All (IsGood apps) names) (i j : ℕ) (a : AppData) (l : LooperData) (at : slice_get apps i ≡ Some a) (is : slice_get a.loopers j ≡ Some l) where
@@ -88,7 +80,7 @@ module _ (apps : List AppData) (names : List Named) (good : All (IsGood apps) na
     by_place other head here e =
         let t = made_of head_of (described apps) other head here in
         let b = made_of app_text apps other t.value t.is in
-        let passes : fits word b.value ≡ true = sym (head_as word b.value) ∙ ap (head_fits word) (ap head_of b.then_is ∙ t.then_is) ∙ e in
+        let passes : fits word b.value ≡ true = ap (head_fits word) (ap head_of b.then_is ∙ t.then_is) ∙ e in
         ⊎_elim
         (λ (lt : i < other). lt)
         (λ (le : other ≤ i).

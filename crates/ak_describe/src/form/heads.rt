@@ -6,10 +6,10 @@ ghost use Rattle.ak_describe.specs.Forms as reads;
 ghost use Rattle.ak_describe.specs.Words.{texts};
 
 use crate::fault::FormFault;
-use crate::words::{behind, ends, first_of, mode_of, name_at, number_within};
+use crate::words::{behind, ends, first_of, mode_of, name_at};
 use ak_action::CAPACITY_LIMIT;
 use ak_base::{Text, is_path, is_signature};
-use ak_message::Word;
+use ak_message::{Word, read_number};
 use ak_roster::Mode;
 use std::alloc::Global;
 
@@ -88,7 +88,7 @@ fn capacity_at(least: u32, words: &[Word]) -> Result<u32, FormFault>
     if !ends(words) {
         return Err(FormFault::BadValue);
     }
-    match number_within(number, least, CAPACITY_LIMIT) {
+    match read_number(number, least, CAPACITY_LIMIT) {
         Some(capacity) => Ok(capacity),
         None => Err(FormFault::BadValue),
     }

@@ -3,16 +3,17 @@
 ghost use Rattle.std.specs.Prelude.{◌≡◌, Some};
 ghost use Rattle.ak_base.specs.Limited.{limited_map};
 ghost use Rattle.ak_message.specs.Seen.{value_of};
+ghost use Rattle.ak_message.specs.Written.{code_of};
 ghost use Rattle.ak_describe.specs.Answers.{Gives};
 ghost use Rattle.ak_describe.specs.Forms as reads;
 ghost use Rattle.ak_describe.specs.Seen.{read_and_rest, items_and_rest, element_pair};
-ghost use Rattle.ak_describe.specs.Words.{texts, code_of, many};
+ghost use Rattle.ak_describe.specs.Words.{texts, many};
 
 use crate::fault::FormFault;
 use crate::form::values::{quoted_from, value_of_kind};
-use crate::words::{behind, code_of, ends, first_of, kind_of, name_at, number_within};
+use crate::words::{behind, ends, first_of, kind_of, name_at};
 use ak_base::{Code, Items, Limited, Text};
-use ak_message::{Kind, Value, Word};
+use ak_message::{Kind, Value, Word, read_code, read_number};
 use std::alloc::Global;
 
 // The last of the forms of specifiers.
@@ -81,7 +82,7 @@ fn codes_at(alloc: Global, words: &[Word]) -> Result<(Vec<Code>, &[Word]), FormF
     let mut codes = Vec::new(alloc);
     let mut rest = words;
     while let Some((word, others)) = rest.split_first() {
-        let Some(code) = code_of(word.bytes.as_slice()) else {
+        let Some(code) = read_code(word.bytes.as_slice()) else {
             break;
         };
         codes.push(code)?;
@@ -124,7 +125,7 @@ fn numbers_at(alloc: Global, words: &[Word]) -> Result<(Vec<u32>, &[Word]), Form
 fn form_of(word: &[u8]) -> Option<u32>
     ensures { result ≡ reads.form_of word.now }
 {
-    number_within(word, 1, FORM_LIMIT)
+    read_number(word, 1, FORM_LIMIT)
 }
 
 // The text behind that word, where it passes no limit. It is empty where the word does not stand here.

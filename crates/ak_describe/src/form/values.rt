@@ -3,7 +3,10 @@
 ghost use Rattle.std.specs.Prelude.{◌≡◌, None, Some, option_map};
 ghost use Rattle.ak_base.specs.declared.limited.Limited.TheVariants.{Within};
 ghost use Rattle.ak_base.specs.Limited.{limited_map};
+ghost use Rattle.ak_message.specs.ReadSeen.{got_of};
+ghost use Rattle.ak_message.specs.Reading.{read_value};
 ghost use Rattle.ak_message.specs.Seen.{value_of};
+ghost use Rattle.ak_message.specs.Written as written;
 ghost use Rattle.ak_describe.specs.Answers.{Gives};
 ghost use Rattle.ak_describe.specs.Faults as faults;
 ghost use Rattle.ak_describe.specs.Made as reads;
@@ -13,7 +16,7 @@ use crate::fault::FormFault;
 use ak_action::{Number, Values, ValuesFault};
 use ak_base::{Limited, Text};
 use ak_flatten::{FLAT_LIMIT, flat_len};
-use ak_message::{Kind, ParseFault, Value, read_quoted, read_value, read_values};
+use ak_message::{Kind, ParseFault, ReadValue, Value, read_quoted, read_values, read_with_kind};
 use std::alloc::Global;
 
 /// What was read, where it passes no limit.
@@ -30,16 +33,26 @@ fn kept<T>(read: Result<T, ParseFault>) -> Result<Limited<T>, FormFault>
 
 /// A text in quotes.
 pub(crate) fn quoted_from(alloc: Global, word: &[u8]) -> Result<Limited<Text>, FormFault>
-    ensures { Gives (λ t. t) result (reads.quoted_from word.now) }
+    ensures { Gives (λ t. t) result (written.quoted_text word.now) }
 {
     kept(read_quoted(alloc, word))
 }
 
+// The value that a word writes, and its kind.
+fn read_from(alloc: Global, word: &[u8]) -> Result<ReadValue, FormFault>
+    ensures { Gives got_of result (read_value word.now) }
+{
+    match read_with_kind(alloc, word)? {
+        Some(read) => Ok(read),
+        None => Err(FormFault::BadValue),
+    }
+}
+
 // The value that a word writes.
 fn value_from(alloc: Global, word: &[u8]) -> Result<Limited<Value>, FormFault>
-    ensures { Gives (limited_map value_of) result (reads.value_from word.now) }
+    ensures { Gives (limited_map value_of) result (written.value_from word.now) }
 {
-    kept(read_value(alloc, word))
+    Ok(read_from(alloc, word)?.value)
 }
 
 /// A value of that kind, which is not the one of messages.
@@ -51,34 +64,11 @@ pub(crate) fn value_of_kind(
 ) -> Result<Limited<Value>, FormFault>
     ensures { Gives (limited_map value_of) result (reads.value_of_kind kind word.now) }
 {
-    let value = value_from(alloc, word)?;
-    if kind_read(&value, word) == kind {
-        Ok(value)
+    let read = read_from(alloc, word)?;
+    if read.kind == kind {
+        Ok(read.value)
     } else {
         Err(FormFault::BadValue)
-    }
-}
-
-// The kind of what a word writes.
-fn kind_read(value: &Limited<Value>, word: &[u8]) -> Kind
-    ensures { result ≡ reads.kind_read (limited_map value_of value.now) word.now }
-{
-    match value {
-        Limited::Within(value) => value.kind(),
-        Limited::Over => kind_over(word),
-    }
-}
-
-// The kind of a value that passes a limit, by the first letter: a text, a raw value or a message.
-fn kind_over(word: &[u8]) -> Kind
-    ensures { result ≡ reads.kind_over word.now }
-{
-    if word.starts_with(b"M") {
-        Kind::Message
-    } else if word.starts_with(b"R") {
-        Kind::Raw
-    } else {
-        Kind::Text
     }
 }
 

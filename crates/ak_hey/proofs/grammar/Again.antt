@@ -16,7 +16,7 @@ use Rattle.ak_hey.specs.Draft.{DraftData, new_draft, with_specifier, with_got, s
 use Rattle.ak_hey.specs.Grammar.{SpecText, IsSpec, AreFurther, AreSpecs, IsData, FieldText, IsField, AreFields, with_fields, with_data_field, made_of, IsHey}
 use Rattle.ak_hey.specs.Hey.{start, at_app, body, key_of, property, elements, with_data, with_field, step, ended}
 use Rattle.ak_hey.specs.Words.{is_property}
-use Rattle.ak_hey.proofs.Readings.{split_again}
+use Rattle.ak_message.proofs.Surface.{split_again}
 use Rattle.ak_hey.proofs.grammar.Keys.{IsKey, of_key, to_key, with_key, key_is, property_no_key, elements_no_key}
 use Rattle.ak_hey.proofs.grammar.Walks.{Said, said, placed, goes_with}
 

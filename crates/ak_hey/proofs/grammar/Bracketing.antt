@@ -11,10 +11,10 @@ use Rattle.ak_message.specs.declared.specifier.At.{At}
 use Rattle.ak_message.specs.declared.specifier.At.TheVariants as at
 use Rattle.ak_hey.specs.Bracketed.{FirstPart, AreParts, Mean, IsBracket, BracketsAreRead}
 use Rattle.ak_hey.specs.Brackets.{most, bracketed, part_at, number_from, behind_sign, index_or_id, reverse_or, one_at, count_between, range, reverse_range, range_behind, range_at, last_of, behind_to, one_or_range, bracket_at}
-use Rattle.ak_hey.specs.Words.{number_within}
-use Rattle.ak_hey.proofs.Readings.{mapped_some}
+use Rattle.ak_message.specs.Written.{number_within}
+use Rattle.ak_message.proofs.Surface.{mapped_some, number_again, number_takes}
 use Rattle.ak_hey.proofs.grammar.Keys.{eq_of}
-use Rattle.ak_hey.proofs.grammar.Numerals.{number_takes, number_again, no_sign}
+use Rattle.ak_hey.proofs.grammar.Numerals.{no_sign}
 use Rattle.ak_hey.proofs.grammar.Splitting.{part_takes, part_again, none_takes, none_again}
 
 -- ---- the brackets
@@ -62,7 +62,7 @@ from_takes least part z e =
     (m.0, w.0, w.1, w.2, sym m.2)
 
 from_again : (least n : ℕ) → least ≤ n → n ≤ most → number_from (decimal n) least ≡ Some (pos n)
-from_again least n low over = ap (option_map pos) (number_again least most n (omega arith) low over)
+from_again least n low over = ap (option_map pos) (number_again least most (decimal n) n (omega arith) (refl, low, over))
 
 -- ---- one number
 one_takes : (part : List ℕ) (a : At) → one_at part ≡ Some a → Mean (part ∷ []) a
@@ -145,12 +145,12 @@ range_takes first last a e = by_minus (behind_sign first 45) refl e where
 range_again : (first last : ℕ) → first ≤ last → last ≤ most → last - first < most → range_at (decimal first) (decimal last) ≡ Some (at.Range (pos first) (pos (last - first + 1)))
 unfolding range
 range_again first last low over within =
-    rw (no_sign first 45 (omega (arith, low, over)) (omega arith), number_again 0 most first (omega arith) (omega arith) (omega (arith, low, over)), number_again 0 most last (omega arith) (omega arith) over, count_again first last low within) refl
+    rw (no_sign first 45 (omega (arith, low, over)) (omega arith), number_again 0 most (decimal first) first (omega arith) (refl, omega arith, omega (arith, low, over)), number_again 0 most (decimal last) last (omega arith) (refl, omega arith, over), count_again first last low within) refl
 
 reverse_again : (first last : ℕ) → 1 ≤ last → last ≤ first → first ≤ most → range_at (45 ∷ decimal first) (45 ∷ decimal last) ≡ Some (at.ReverseRange (pos first) (pos (first - last + 1)))
 unfolding reverse_range
 reverse_again first last some low over =
-    rw (number_again 1 most first (omega arith) (omega (arith, some, low)) over, number_again 1 most last (omega arith) some (omega (arith, low, over)), count_again last first low (omega (arith, some, low, over))) refl
+    rw (number_again 1 most (decimal first) first (omega arith) (refl, omega (arith, some, low), over), number_again 1 most (decimal last) last (omega arith) (refl, some, omega (arith, low, over)), count_again last first low (omega (arith, some, low, over))) refl
 
 -- ---- all of it
 one_or_takes : (first rest : List ℕ) (o : Option (List ℕ × List ℕ)) (a : At) → part_at rest ≡ o → one_or_range first o ≡ Some a → (parts : List (List ℕ)) × AreParts parts rest × Mean (first ∷ parts) a

@@ -15,12 +15,12 @@ use Rattle.ak_message.specs.Message.{ValueData, bool_value, int8_value, int16_va
 use Rattle.ak_message.specs.Payload.{int_within, address_from, raw_from, quoted_from}
 use Rattle.ak_message.specs.Pieces.{pieces_from}
 use Rattle.ak_message.specs.Reading.{Got, got, fits, text_from, raw_value_from, small_from, short_from, code_from, with_value, words_of, fields_behind, message_of, message_from, read_value}
+use Rattle.ak_message.specs.Written.{app_word_of}
+use Rattle.ak_message.proofs.Surface.{split_again}
 use Rattle.ak_hey.specs.declared.reading.Place.{Place}
 use Rattle.ak_hey.specs.declared.reading.Place.TheVariants as place
 use Rattle.ak_hey.specs.Draft.{DraftData, kind_named, with_kind, with_specifier, with_got, short_message}
 use Rattle.ak_hey.specs.Hey.{State, start, hey, at_app, body, with_data, with_field}
-use Rattle.ak_hey.specs.Words.{app_word_of}
-use Rattle.ak_hey.proofs.Readings.{split_again}
 use Rattle.ak_hey.proofs.grammar.Walks.{Said, said, placed, goes_with}
 
 -- ---- a value of each kind

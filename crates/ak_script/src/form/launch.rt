@@ -4,8 +4,8 @@ ghost use Rattle.std.specs.Prelude.{◌≡◌, ◌≤◌, [], length, IfOk, IfSo
 ghost use Rattle.ak_base.specs.Limited.{limited_map};
 ghost use Rattle.ak_base.specs.declared.limited.Limited.TheVariants.{Within};
 ghost use Rattle.ak_message.specs.Limits.{value_limit};
+ghost use Rattle.ak_message.specs.Written.{quoted_text};
 ghost use Rattle.ak_roster.specs.Answers.{IsWord};
-ghost use Rattle.ak_describe.specs.Made as made;
 ghost use Rattle.ak_describe.specs.Words.{texts};
 ghost use Rattle.ak_script.specs.Answers.{Gives, Tells};
 ghost use Rattle.ak_script.specs.Faults as faults;
@@ -111,7 +111,7 @@ fn texts_in(alloc: Global, words: &[Word]) -> Result<Limited<Vec<Text>>, FormFau
 
 // A text in quotes, where it is not too long.
 fn quoted_from(alloc: Global, word: &[u8]) -> Result<Limited<Text>, FormFault>
-    ensures { Gives (λ t. t) result (made.quoted_from word.now) }
+    ensures { Gives (λ t. t) result (quoted_text word.now) }
 {
     kept(read_quoted(alloc, word))
 }

@@ -10,9 +10,8 @@ use crate::fault::{FormFault, StatementFault};
 use crate::statement::{Lock, Statement};
 use crate::words::{first_of, looper_at, only, token_of};
 use ak_base::{Text, is_word};
-use ak_describe::read_app_word;
 use ak_desk::Edit;
-use ak_message::Word;
+use ak_message::{Word, read_app_word};
 use std::alloc::Global;
 
 /// `APP [looper N] EDIT`

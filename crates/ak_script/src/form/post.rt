@@ -12,8 +12,7 @@ use crate::messages::is_short;
 use crate::statement::{Post, Statement};
 use crate::words::{first_of, flag_behind, looper_at, token_behind};
 use ak_base::AppWord;
-use ak_describe::read_app_word;
-use ak_message::{Message, ParseFault, Target, Word, read_message};
+use ak_message::{Message, ParseFault, Target, Word, read_app_word, read_message};
 use std::alloc::Global;
 
 // To which looper a message is posted, for whom, and how.

@@ -1,5 +1,6 @@
 use Rattle.std.proofs.Common.{ap, length, arith}
-use Rattle.ak_flatten.proofs.Lengths.{depth_in_values, depth_in_fields, no_field, fields_more, fields_end, values_more, values_end}
+use Rattle.ak_message.proofs.Surface.{depth_in_values, depth_in_fields, no_field}
+use Rattle.ak_flatten.proofs.Lengths.{fields_more, fields_end, values_more, values_end}
 use Rattle.ak_flatten.proofs.length.+lengths.Goals as goal
 use Rattle.ak_flatten.proofs.length.+lengths.Goals.{flat_len-in-Some, flat_len-in_default}
 

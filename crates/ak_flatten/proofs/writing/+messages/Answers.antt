@@ -3,7 +3,8 @@ use Rattle.std.proofs.lemmas.List.{length-map}
 use Rattle.ak_message.specs.Message.{nested_values, nested_fields}
 use Rattle.ak_message.specs.Seen.{value_of, field_ref_of}
 use Rattle.ak_flatten.specs.Spelling.{spelling, values_bytes, fields_bytes, field_bytes}
-use Rattle.ak_flatten.proofs.Lengths.{depth_in_values, depth_in_fields, no_field, field_short, value_short, fields_within, values_within, fields_split}
+use Rattle.ak_message.proofs.Surface.{depth_in_values, depth_in_fields, no_field}
+use Rattle.ak_flatten.proofs.Lengths.{field_short, value_short, fields_within, values_within, fields_split}
 use Rattle.ak_flatten.proofs.Writings.{field_begins, message_begins, goes_on, is_field_at, name_short}
 use Rattle.ak_flatten.proofs.writing.+messages.Goals as goal
 use Rattle.ak_flatten.proofs.writing.+messages.Goals.{put_message-in-Some+in_ok-put_field, put_message-in_default}

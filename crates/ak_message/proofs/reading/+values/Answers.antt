@@ -15,8 +15,8 @@ use Rattle.ak_message.proofs.reading.+values.Goals as goal
 pub message_of-returns-in_err-building : goal.message_of-returns-in_err-building
 message_of-returns-in_err-building t c =
     let p = err_from_is_err_and c.from_residual.result c.from_residual.ensures.1 in
-    rw (p.1, p.2) (fields_fail c.in_err-building.field-0.0 (message_from c.args.levels) c.args.words.now c.in-Some.first.now c.in-Some.fields.now c.in-Some-code_from.what.0 (map seen c.new.result.keys) (Within c.new-2.result)
-    c.in-Some.ensures.cases.0 (sym c.in-Some-code_from.ensures) (ap (λ (ns : List (Bor (List ℕ))). map seen ns) c.new.ensures.empty) (ap kept c.new-2.ensures)
+    rw (p.1, p.2) (fields_fail c.in_err-building.field-0.0 (message_from c.args.levels) c.args.words.now c.in-Some.first.now c.in-Some.fields.now c.in-Some-read_code.what.0 (map seen c.new.result.keys) (Within c.new-2.result)
+    c.in-Some.ensures.cases.0 (sym c.in-Some-read_code.ensures.number) (ap (λ (ns : List (Bor (List ℕ))). map seen ns) c.new.ensures.empty) (ap kept c.new-2.ensures)
     (field_read_fails c.in_err-building.field-0.0 (message_from c.args.levels) c.in-Some.fields.now c.loop-word.word-index (get_or c.in-Some.fields.now c.loop-word.word-index (record { ref_ptr = (0, 0); now = [] })) (record { ref_ptr = (0, 0); now = [] }) (built_of c.loop-word.building)
     (fields_behind (message_from c.args.levels) (map seen c.in-Some.fields.now) (record { names = map seen c.new.result.keys; message = Within c.new-2.result })) c.loop-word-test.true refl c.in_err-building.ensures c.loop-word.invariant)) where
       kept : MessageData → Limited MessageData
@@ -29,8 +29,8 @@ message_of-loop-word-preserved t c =
 
 pub message_of-returns : goal.message_of-returns
 message_of-returns t c =
-    message_is (message_from c.args.levels) c.args.words.now c.in-Some.first.now c.in-Some.fields.now c.in-Some-code_from.what.0 (map seen c.new.result.keys) (Within c.new-2.result) (built_of c.loop-word.building)
-    c.in-Some.ensures.cases.0 (sym c.in-Some-code_from.ensures) (ap (λ (ns : List (Bor (List ℕ))). map seen ns) c.new.ensures.empty) (ap kept c.new-2.ensures)
+    message_is (message_from c.args.levels) c.args.words.now c.in-Some.first.now c.in-Some.fields.now c.in-Some-read_code.what.0 (map seen c.new.result.keys) (Within c.new-2.result) (built_of c.loop-word.building)
+    c.in-Some.ensures.cases.0 (sym c.in-Some-read_code.ensures.number) (ap (λ (ns : List (Bor (List ℕ))). map seen ns) c.new.ensures.empty) (ap kept c.new-2.ensures)
     (fields_end (message_from c.args.levels) c.in-Some.fields.now c.loop-word.word-index (built_of c.loop-word.building)
     (fields_behind (message_from c.args.levels) (map seen c.in-Some.fields.now) (record { names = map seen c.new.result.keys; message = Within c.new-2.result })) c.loop-word-test.false c.loop-word.invariant) where
       kept : MessageData → Limited MessageData

@@ -19,8 +19,8 @@ pub returns-clause-play : goal.returns-clause-play
 returns-clause-play g c =
     let played = c.play_all-played in
     let end = c.finish-end in
-    let given = ap heads_of c.in-Ok-new.ensures.apps in
-    let later = ap heads_of (ap (λ (apps : Vec AppText Global). apps.items) played.ensures.apps) ∙ given in
-    is_play_as (heads_of c.args.script.apps.items) c.args.script.statements.items played.result played.new.run end.result.0 (g.K.Sink.written c.args.sink.now) (g.K.Sink.written played.new.sink)
-    (heads_of c.in-Ok-new.run'.apps.items) (heads_of played.new.run.apps.items) c.as_slice.result.now played.new.outcomes.items end.result.1 given later c.as_slice.ensures.value end.ensures.outcomes end.ensures.ending
+    let same = ap (λ (apps : Vec AppText Global). apps.items) played.ensures.apps ∙ c.in-Ok-new.ensures.apps in
+    let later = ap heads_of same in
+    is_play_as c.args.script.apps.items c.args.script.statements.items played.result played.new.run end.result.0 (g.K.Sink.written c.args.sink.now) (g.K.Sink.written played.new.sink)
+    c.in-Ok-new.run'.apps.items (heads_of played.new.run.apps.items) (heads_of played.new.run.apps.items) c.as_slice.result.now played.new.outcomes.items end.result.1 c.in-Ok-new.ensures.apps later later c.as_slice.ensures.value end.ensures.outcomes end.ensures.ending
     played.ensures.played played.ensures.whole end.ensures.short end.ensures.run end.ensures.answered end.ensures.did

@@ -1,14 +1,14 @@
 use Rattle.ak_port.proofs.PortTaking.{can_after, close_plain, shut_after}
 use Rattle.ak_port.proofs.PortTaken.{close_takes_nothing, kept_taken}
-use Rattle.ak_port.specs.PortCalls.{close_entry}
-use Rattle.ak_port.proofs.PortCalled.{answered_keeps}
+use Rattle.ak_port.specs.PortCalls.{by_number, close_entry, entry_of, stamp_number}
+use Rattle.ak_turn.proofs.Surface.{answered_keeps}
 use Rattle.ak_port.proofs.port.close.Goals as goal
 
 pub returns-clause-seat : goal.returns-clause-seat
-returns-clause-seat g c = (answered_keeps (close_entry c.try_close.result) _ _ _ _ c.try_close.ensures.answered).0
+returns-clause-seat g c = (answered_keeps by_number stamp_number entry_of (close_entry c.try_close.result) _ _ _ _ c.try_close.ensures.answered).0
 
 pub returns-clause-clock : goal.returns-clause-clock
-returns-clause-clock g c = (answered_keeps (close_entry c.try_close.result) _ _ _ _ c.try_close.ensures.answered).1
+returns-clause-clock g c = (answered_keeps by_number stamp_number entry_of (close_entry c.try_close.result) _ _ _ _ c.try_close.ensures.answered).1
 
 pub returns-clause-shut : goal.returns-clause-shut
 returns-clause-shut g c = shut_after c.try_close.result _ _ _ _ c.try_close.ensures.answered c.try_close.ensures.already

@@ -1,20 +1,21 @@
-use Rattle.std.proofs.Common.{◌-◌, ◌∙◌, Some, ap, subst, sym}
+use Rattle.std.proofs.Common.{◌-◌, ◌∙◌, Some, None, ap, subst, sym}
 use Rattle.std.specs.VecDeque.{deque_len, deque_capacity}
-use Rattle.ak_port.specs.PortCalls.{CanTake, take_event}
-use Rattle.ak_port.proofs.PortCalled.{answered_keeps, looked_then_entered, looked_then_looked, looked_stays}
+use Rattle.ak_base.specs.declared.thread.ThreadId.{ThreadId}
+use Rattle.ak_turn.proofs.Surface.{answered_keeps, looked_then_answered}
+use Rattle.ak_port.specs.PortCalls.{by_number, entry_of, stamp_number, CanTake, take_event}
 use Rattle.ak_port.proofs.PortTaken.{takes_all, takes_count, takes_more, takes_some}
 use Rattle.ak_port.proofs.PortTaking.{can_after_take, can_after_seen}
 use Rattle.ak_port.proofs.port.take.Goals as goal
 
 pub returns-in-Some-try_take-clause-answered : goal.returns-in-Some-try_take-clause-answered
 returns-in-Some-try_take-clause-answered g c =
-    looked_then_entered (take_event c.in-Some-try_take.answer) _ _ _ _ _ _ c.loop.invariant.looked c.in-Some-try_take.ensures.answered
+    looked_then_answered by_number stamp_number entry_of (Some (take_event c.in-Some-try_take.answer)) _ _ _ _ _ _ c.loop.invariant.looked c.in-Some-try_take.ensures.answered
 
 pub returns-in-Some-try_take-clause-seat : goal.returns-in-Some-try_take-clause-seat
-returns-in-Some-try_take-clause-seat g c = (answered_keeps (Some (take_event c.in-Some-try_take.answer)) _ _ _ _ (returns-in-Some-try_take-clause-answered g c)).0
+returns-in-Some-try_take-clause-seat g c = (answered_keeps by_number stamp_number entry_of (Some (take_event c.in-Some-try_take.answer)) _ _ _ _ (returns-in-Some-try_take-clause-answered g c)).0
 
 pub returns-in-Some-try_take-clause-clock : goal.returns-in-Some-try_take-clause-clock
-returns-in-Some-try_take-clause-clock g c = (answered_keeps (Some (take_event c.in-Some-try_take.answer)) _ _ _ _ (returns-in-Some-try_take-clause-answered g c)).1
+returns-in-Some-try_take-clause-clock g c = (answered_keeps by_number stamp_number entry_of (Some (take_event c.in-Some-try_take.answer)) _ _ _ _ (returns-in-Some-try_take-clause-answered g c)).1
 
 pub returns-in-Some-try_take-clause-taking : goal.returns-in-Some-try_take-clause-taking
 returns-in-Some-try_take-clause-taking g c =
@@ -40,15 +41,15 @@ pub loop-preserved : goal.loop-preserved
 loop-preserved g c =
     let looked = c.in_default.ensures.looked in
     let same = c.in_default.ensures.nothing in
-    let stays = looked_stays _ _ _ _ looked in
+    let stays = answered_keeps by_number stamp_number entry_of None _ _ _ _ looked in
     let room = deque_capacity c.loop.out - deque_len c.loop.out in
     record {
-      of = stays.0 ∙ c.loop.invariant.of;
-      idle = stays.1 ∙ c.loop.invariant.idle;
-      thread = stays.2 ∙ c.loop.invariant.thread ∙ sym stays.3;
-      looked = looked_then_looked _ _ _ _ _ _ c.loop.invariant.looked looked;
+      of = stays.0.lock ∙ c.loop.invariant.of;
+      idle = stays.0.turn ∙ c.loop.invariant.idle;
+      thread = stays.0.thread ∙ c.loop.invariant.thread ∙ sym (ap (λ (t : ThreadId). t.0) stays.1);
+      looked = looked_then_answered by_number stamp_number entry_of None _ _ _ _ _ _ c.loop.invariant.looked looked;
       out = same ∙ c.loop.invariant.out;
       taking =
           subst (λ q. CanTake c.try_take.new.clock.thread (deque_capacity q - deque_len q) c.try_take.new.seat) (sym same)
-          (subst (λ t. CanTake t room c.try_take.new.seat) (sym (ap (λ t. t.thread) looked.clocked)) (can_after_seen c.loop.clock.thread room _ _ c.loop.invariant.taking looked.seen c.in_default.ensures.port));
+          (subst (λ t. CanTake t room c.try_take.new.seat) (sym stays.1) (can_after_seen c.loop.clock.thread room _ _ c.loop.invariant.taking looked.seen c.in_default.ensures.port));
     }

@@ -1,9 +1,10 @@
 use Rattle.std.proofs.Common.{◌≡◌, ◌∙◌, List, Some, ap, subst, sym}
 use Rattle.std.specs.Prelude.{IfSome}
 use Rattle.ak_port.specs.declared.port_entry.PortEntry.{PortEntry}
-use Rattle.ak_port.specs.PortCalls.{PortData, write_entry}
+use Rattle.ak_port.specs.PortCalls.{PortData, by_number, entry_of, stamp_number, write_entry}
 use Rattle.ak_port.specs.PortMachine.{state_of, write_event}
-use Rattle.ak_port.proofs.PortCalled.{ends_turn, port_after_turn, turn_keeps}
+use Rattle.ak_turn.proofs.Surface.{answered_at_turn_keeps}
+use Rattle.ak_port.proofs.PortCalled.{ends_turn, port_after_turn}
 use Rattle.ak_port.proofs.PortTaken.{kept_at_turn, write_takes_nothing}
 use Rattle.ak_port.proofs.PortTaking.{can_after_turn, write_plain}
 use Rattle.ak_port.proofs.port.write_at_turn.Goals as goal
@@ -14,10 +15,10 @@ returns-clause-answered c =
     (ap (λ (p : PortData). p.entries) c.book.ensures.value ∙ c.requires.list) c.finish.ensures.same c.finish.ensures.entered
 
 pub returns-clause-seat : goal.returns-clause-seat
-returns-clause-seat c = (turn_keeps (write_entry c.write-answer.result c.args.item) _ _ _ _ (returns-clause-answered c)).0
+returns-clause-seat c = (answered_at_turn_keeps by_number stamp_number entry_of (write_entry c.write-answer.result c.args.item) _ _ _ _ (returns-clause-answered c)).0
 
 pub returns-clause-clock : goal.returns-clause-clock
-returns-clause-clock c = (turn_keeps (write_entry c.write-answer.result c.args.item) _ _ _ _ (returns-clause-answered c)).1
+returns-clause-clock c = (answered_at_turn_keeps by_number stamp_number entry_of (write_entry c.write-answer.result c.args.item) _ _ _ _ (returns-clause-answered c)).1
 
 pub returns-clause-machine : goal.returns-clause-machine
 returns-clause-machine c =

@@ -4,7 +4,7 @@ use Rattle.ak_message.specs.Message.{depth_of_nested_values, nested_values, nest
 use Rattle.ak_message.specs.MessageText.{message_text, nested_fields_text}
 use Rattle.ak_message.specs.Seen.{value_of, field_ref_of}
 use Rattle.ak_print.specs.Fields.{field_text}
-use Rattle.ak_print.proofs.Depths.{depth_in_values, depth_in_fields, no_field}
+use Rattle.ak_message.proofs.Surface.{depth_in_values, depth_in_fields, no_field}
 use Rattle.ak_print.proofs.Pieces.{goes_on, fields_split}
 use Rattle.ak_print.proofs.message.+messages.Goals as goal
 use Rattle.ak_print.proofs.message.+messages.Goals.{put_message-in-Some+in_ok-put_field, put_message-in_default}

@@ -62,6 +62,13 @@ loop-member-preserved g c =
           ∙ ap (λ (n : _). map (λ (j : Joined). j.number) js ++ n ∷ map (λ (m : Member). m.number) rest) one.number
           ∙ sym (ap (λ (l : List Member). map (λ (j : Joined). j.number) js ++ map (λ (m : Member). m.number) l) next)
           ∙ was.numbers;
+      jobs =
+          ap (λ (l : List Joined). map (λ (j : Joined). j.job.value) l ++ map (λ (m : Member). m.job.value) rest) pushed
+          ∙ ap (λ (l : List _). l ++ map (λ (m : Member). m.job.value) rest) (map-append (λ (j : Joined). j.job.value) js (j ∷ []))
+          ∙ append_assoc (map (λ (j : Joined). j.job.value) js) (j.job.value ∷ []) (map (λ (m : Member). m.job.value) rest)
+          ∙ ap (λ (job : _). map (λ (j : Joined). j.job.value) js ++ job ∷ map (λ (m : Member). m.job.value) rest) one.job
+          ∙ sym (ap (λ (l : List Member). map (λ (j : Joined). j.job.value) js ++ map (λ (m : Member). m.job.value) l) next)
+          ∙ was.jobs;
       fronts =
           ap (λ (l : List Joined). map joined_front l ++ map member_front rest) pushed
           ∙ ap (λ (l : List _). l ++ map member_front rest) (map-append joined_front js (j ∷ []))

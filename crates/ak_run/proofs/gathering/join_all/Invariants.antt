@@ -19,6 +19,7 @@ invariant-loop-member g l = record {
   ways : map (λ (j : Joined). j.end.value.doors) l.all.loopers.items ≡ l.all.ways.items;
   short : l.all.short.items ≡ short_of l.all.loopers.items;
   numbers : map (λ (j : Joined). j.number) l.all.loopers.items ++ map (λ (m : Member). m.number) l.member-iterator.rest.items ≡ map (λ (m : Member). m.number) l.fn.members.items;
+  jobs : map (λ (j : Joined). j.job.value) l.all.loopers.items ++ map (λ (m : Member). m.job.value) l.member-iterator.rest.items ≡ map (λ (m : Member). m.job.value) l.fn.members.items;
   fronts : map joined_front l.all.loopers.items ++ map member_front l.member-iterator.rest.items ≡ map member_front l.fn.members.items;
   desk_fronts : map joined_desk_front l.all.loopers.items ++ map member_desk_front l.member-iterator.rest.items ≡ map member_desk_front l.fn.members.items;
   room : HasRoomFor (length l.member-iterator.rest.items) l.all;

@@ -1,16 +1,15 @@
 -- One post leaves main's door as it was, and is an act of main's, whatever the port answers.
-use Rattle.std.proofs.Common.{false, None, refl}
-use Rattle.ak_message.specs.declared.address.Target.TheVariants as target
-use Rattle.ak_messenger.specs.declared.envelope.Envelope.{Envelope}
+use Rattle.std.proofs.Common.{refl}
+use Rattle.std.specs.Prelude.{IsErrOf}
 use Rattle.ak_messenger.specs.Sends.{post_event}
+use Rattle.ak_messenger.specs.declared.fault.SendFault.TheVariants as fault
+use Rattle.ak_run.specs.Greeting.{HasSent, from_main}
 use Rattle.ak_run.proofs.Acting.{adds_by, may_post}
+use Rattle.ak_run.proofs.PortsAtStart.{on_ok}
 use Rattle.ak_run.proofs.greeting.send.Goals as goal
 
-abbrev from_main : Envelope
-from_main = record { target = target.Preferred; team = 0; dropped = false; popped = 0; back = None }
-
-pub returns-in-Err-NoMemory-clause-door : goal.returns-in-Err-NoMemory-clause-door
-returns-in-Err-NoMemory-clause-door g c = record {
+pub returns-clause-door : goal.returns-clause-door
+returns-clause-door g c = record {
   port = refl;
   desk = refl;
   port_seat = c.post.ensures.seat;
@@ -20,29 +19,7 @@ returns-in-Err-NoMemory-clause-door g c = record {
   adds = λ main. adds_by (post_event from_main c.args.message.now c.post.result) c.args.hands.now.clock c.post.new.hands.clock c.args.door.now.port_seat c.post.new.seat main (may_post from_main c.args.message.now c.post.result) c.post.ensures.answered;
 }
 
-pub returns-in-Ok : goal.returns-in-Ok
-returns-in-Ok g c = record {
-  door = record {
-    port = refl;
-    desk = refl;
-    port_seat = c.post.ensures.seat;
-    desk_seat = refl;
-    known = c.post.ensures.knows_still;
-    taking = c.post.ensures.taking;
-    adds = λ main. adds_by (post_event from_main c.args.message.now c.post.result) c.args.hands.now.clock c.post.new.hands.clock c.args.door.now.port_seat c.post.new.seat main (may_post from_main c.args.message.now c.post.result) c.post.ensures.answered;
-  };
-  book = c.post.ensures.book;
-  book_seat = c.post.ensures.book_seat;
-  clock = c.post.ensures.clock;
-}
-
-pub returns-in-Ok-2-clause-door : goal.returns-in-Ok-2-clause-door
-returns-in-Ok-2-clause-door g c = record {
-  port = refl;
-  desk = refl;
-  port_seat = c.post.ensures.seat;
-  desk_seat = refl;
-  known = c.post.ensures.knows_still;
-  taking = c.post.ensures.taking;
-  adds = λ main. adds_by (post_event from_main c.args.message.now c.post.result) c.args.hands.now.clock c.post.new.hands.clock c.args.door.now.port_seat c.post.new.seat main (may_post from_main c.args.message.now c.post.result) c.post.ensures.answered;
-}
+pub returns-clause-sent : goal.returns-clause-sent
+returns-clause-sent g c =
+    on_ok (IsErrOf c.post.result fault.NoMemory → ⊥) (HasSent c.args.message.now c.args.hands.now.clock c.post.new.hands.clock c.args.door.now.port_seat c.post.new.seat) c.unless_memory_ran_out.result
+    (λ none. record { sent = c.post.result; answered = c.post.ensures.answered; too_long = c.post.ensures.too_long; not_blocked = c.post.ensures.not_blocked; not_wanting = none; at_port = c.post.ensures.at_port }) c.unless_memory_ran_out.ensures

@@ -1,5 +1,5 @@
 -- As of an own looper, with one part more: the way of the application's own looper.
-use Rattle.std.proofs.Common.{ℕ, [], ◌∷◌, refl, sym, ap, subst, arith}
+use Rattle.std.proofs.Common.{ℕ, [], ◌∷◌, refl, sym, ap, ◌∙◌, subst, arith}
 use Rattle.ak_base.specs.Thread.{keeper_thread, main_thread, looper_thread}
 use Rattle.ak_port.specs.PortCalls as ports
 use Rattle.ak_run.specs.Doors.{HasParted, IsNewAt, IsPartOf}
@@ -79,4 +79,7 @@ returns c = record {
             (names_more (main_thread ∷ looper_thread o.number ∷ []) (looper_thread first) door second names again)
             (ap (λ (number : ℕ). main_thread ∷ looper_thread number ∷ looper_thread first ∷ keeper_thread ∷ []) (number_is plans team first k o at));
       };
+  front =
+      ap (λ (s : ports.PortSeat). s.front) c.in_ok-kept.ensures.gave.port_seat ∙ ap (λ (s : ports.PortSeat). s.front) c.in_ok-way.ensures.parted.port_seat
+      ∙ ap (λ (s : ports.PortSeat). s.front) c.in_ok-own.ensures.parted.port_seat;
 }

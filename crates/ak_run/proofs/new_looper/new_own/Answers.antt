@@ -1,5 +1,5 @@
 -- Main's seats are the heads until the keeper has its own, and know who made nothing.
-use Rattle.std.proofs.Common.{◌≡◌, ℕ, [], ◌∷◌, refl, sym, ap, subst, arith}
+use Rattle.std.proofs.Common.{◌≡◌, ℕ, [], ◌∷◌, refl, sym, ap, ◌∙◌, subst, arith}
 use Rattle.ak_base.specs.Thread.{keeper_thread, main_thread, looper_thread}
 use Rattle.ak_port.specs.PortCalls as ports
 use Rattle.ak_run.specs.Doors.{HasParted, IsNewAt, IsPartOf}
@@ -50,4 +50,5 @@ returns c = record {
             (names_more (main_thread ∷ []) (looper_thread o.number) o.door door at.opened.names_are parted)
             (ap (λ (number : ℕ). main_thread ∷ looper_thread number ∷ keeper_thread ∷ []) first_is);
       };
+  front = ap (λ (s : ports.PortSeat). s.front) c.in_ok-kept.ensures.gave.port_seat ∙ ap (λ (s : ports.PortSeat). s.front) c.in_ok-own.ensures.parted.port_seat;
 }

@@ -1,10 +1,17 @@
 -- The first one is the own looper's, which is greeted; the others follow.
-use Rattle.std.proofs.Common.{◌≡◌, ℕ, suc, ◌+◌, List, ◌∷◌, length, refl, sym, ap, subst, arith}
+use Rattle.std.proofs.Common.{Bor, ◌≡◌, ℕ, suc, ◌+◌, List, Option, [], ◌∷◌, ◌++◌, length, map, refl, sym, ap, ◌∙◌, subst, append-nil, arith}
+use Rattle.std.specs.Prelude.{option_map}
 use Rattle.std.proofs.lemmas.Grind.{common_steps}
+use Rattle.ak_message.specs.Message.{MessageData}
+use Rattle.ak_message.specs.declared.message.Message.{Message}
+use Rattle.ak_port.specs.declared.port_entry.PortEntry.{PortEntry}
+use Rattle.ak_port.specs.declared.port_entry.PortEvent.{PortEvent}
 use Rattle.ak_run.specs.declared.new_looper.NewLooper.{NewLooper}
 use Rattle.ak_run.specs.declared.opening.Opened.{Opened}
-use Rattle.ak_run.specs.Opening.{AreOpened}
-use Rattle.ak_run.proofs.Makings.{first_opened}
+use Rattle.ak_run.specs.Opening.{AreOpened, opened_front}
+use Rattle.ak_run.specs.Greeting.{EachMains, IsAlone, capacities_in, made_event, port_events, told_first, written_from}
+use Rattle.ak_run.specs.Recording.{team_fronts}
+use Rattle.ak_run.proofs.Makings.{first_made, first_opened, greeted_ports, grows_ports}
 use Rattle.ak_run.proofs.NewLoopers.{still_opened}
 use Rattle.ak_run.proofs.new_team.make_team.Goals as goal
 
@@ -33,6 +40,11 @@ loop-other-init g c =
       team = begun.0;
       rest = subst (λ (k : ℕ). AreOpened plans team first k rest) none (subst (λ (os : List Opened). AreOpened plans team first 1 os) same parts.1);
       count = omega (arith, none, ap (λ (os : List Opened). length os) same, parts.2, c.in_ok-others.ensures.count);
+      ports = λ holds.
+          let ports = first_made plans c.in_ok-others.others.items own rest (omega (arith, c.in_ok-others.ensures.count, c.requires.some)) c.in_ok-others.ensures.ports c.remove-own.ensures.value (sym same ∙ c.remove-own.ensures.items) in
+          let opened = parts.0.opened in
+          let alone : IsAlone (made_event ports.capacity ∷ []) own.door.port_seat = record { by_main = opened.by_main; names_are = opened.names_are.at_port; known = opened.known.at_port; mains = ports.first } in
+          greeted_ports plans own rest ports _ _ (team_fronts c.in_ok-making.making.team) (c.in_ok-greet.ensures.told ports.capacity (ports.room holds) alone).mains c.in_ok-making.ensures.fronts;
     }
 
 -- one looper more
@@ -53,4 +65,15 @@ loop-other-preserved g c =
       team = c.in_ok-add_looper.ensures.grown plans team was.invariant.team opened.0;
       rest = subst (λ (k : ℕ). AreOpened plans team first k rest) one opened.1;
       count = omega (arith, was.invariant.count, count, ap (λ (os : List Opened). length os) next);
+      ports = λ holds. grows_ports _ (team_fronts was.making.team) (team_fronts c.add_looper.new.making.team) x was.other-iterator.rest.items rest next c.in_ok-add_looper.ensures.fronts (was.invariant.ports holds);
     }
+
+-- no one is to follow
+pub returns-clause-ports : goal.returns-clause-ports
+returns-clause-ports g c holds =
+    let was = c.loop-other in
+    let arguments : Option MessageData = option_map (λ (b : Bor Message). b.now) c.args.arguments in
+    let events : List (List PortEvent) = port_events (capacities_in c.args.plans.now) (written_from 0 (told_first arguments)) in
+    let fronts : List (List PortEntry) = team_fronts was.making.team in
+    let none : was.other-iterator.rest.items ≡ [] = grind (arith, common_steps) in
+    subst (EachMains events) (append-nil fronts) (subst (λ (os : List Opened). EachMains events (fronts ++ map opened_front os)) none (was.invariant.ports holds))

@@ -6,6 +6,7 @@ use Rattle.ak_action.specs.Opening.{FitsPlace}
 use Rattle.ak_run.specs.declared.opening.Opened.{Opened}
 use Rattle.ak_run.specs.Opening.{AreOpened, IsOpened, IsOpenedAt, place_at}
 use Rattle.ak_run.proofs.Places.{plans_fit}
+use Rattle.ak_run.proofs.PortsAtStart.{ports_push}
 use Rattle.ak_run.proofs.Teams.{opened_push}
 use Rattle.ak_run.proofs.opening.open_loopers.Goals as goal
 
@@ -45,6 +46,7 @@ loop-index-preserved g c =
     } in
     record {
       opened = subst (λ (os : List Opened). AreOpened plans team first 0 os) (sym pushed) (opened_push plans team first 0 index c.loop-index.all.items o c.loop-index.invariant.opened (omega arith) here);
+      ports = ports_push plans index plan c.loop-index.all.items o c.push.new.self.items there pushed c.loop-index.invariant.ports c.in_ok-open_looper.ensures.port;
       count = grind (arith, common_steps);
       clock = grind (arith, common_steps);
     }

@@ -2,7 +2,8 @@
 use Rattle.ak_messenger.specs.Sends.{post_event}
 use Rattle.ak_port.specs.PortCalls.{by_number}
 use Rattle.ak_port.proofs.Surface.{answered_at_turn}
-use Rattle.ak_run.proofs.Calls.{desk_same, keeps_itself, turn_keeps}
+use Rattle.ak_turn.proofs.Surface.{keeps_itself, turn_keeps}
+use Rattle.ak_run.proofs.Calls.{desk_same}
 use Rattle.ak_run.proofs.sending.post_in_turn.Goals as goal
 
 pub returns-clause-answered : goal.returns-clause-answered

@@ -6,7 +6,8 @@ use Rattle.ak_diary.specs.Step.{Step}
 use Rattle.ak_looper.specs.Living.{ComesTo, GoesOnWorking, HasInHand, HasRestedSo, Later}
 use Rattle.ak_looper.specs.declared.at_work.After.TheVariants as after
 use Rattle.ak_looper.specs.declared.job.EndKind.TheVariants as kind
-use Rattle.ak_looper.proofs.Working.{desk_as, desk_then, later_as, later_then, places_of, places_then, still_its_desk, works_on}
+use Rattle.ak_looper.proofs.Working.{desk_as, later_as, later_then, places_of, places_then, still_its_desk, works_on}
+use Rattle.ak_turn.proofs.Surface.{keeps_then_keeps}
 use Rattle.ak_looper.proofs.at_work.Life.work.Goals as goal
 
 pub returns-in_default-clause-rested : goal.returns-in_default-clause-rested
@@ -71,5 +72,5 @@ loop-preserved g c =
       later = λ l start work goes. later_then (λ so_far. GoesOnWorking l start so_far now.reach now.desk_seat) (λ so_far. GoesOnWorking l start so_far served.reach served.desk_seat) work (at.later l start work goes) (λ so_far. later l start so_far);
       keeps = places_then first.reach now.reach served.reach at.keeps keeps;
       lock = c.serve_one.ensures.desk.0 ∙ c.take_one.ensures.desk.0 ∙ at.lock;
-      seat = desk_then first.desk_seat now.desk_seat served.desk_seat at.seat seat;
+      seat = keeps_then_keeps first.desk_seat now.desk_seat served.desk_seat at.seat seat;
     }

@@ -2,7 +2,7 @@ use Rattle.std.proofs.Common.{◌≡◌, ◌<◌, None, sym, refl, ap, subst, ar
 use Rattle.ak_port.specs.declared.port_entry.PortEvent.TheVariants as event
 use Rattle.ak_port.specs.PortCalls.{PortData}
 use Rattle.ak_port.specs.PortMachine.{refusal_of, state_of}
-use Rattle.ak_port.proofs.Stamps.{next_is_past}
+use Rattle.ak_turn.proofs.Surface.{next_is_past}
 use Rattle.ak_port.proofs.PortSound.{room_left, written_sound}
 use Rattle.ak_port.proofs.port_book.PortBook.accept.Goals as goal
 

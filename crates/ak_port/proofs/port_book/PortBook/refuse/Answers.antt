@@ -1,7 +1,7 @@
 use Rattle.std.proofs.Common.{◌≡◌, Some, sym, refl, subst, arith}
 use Rattle.ak_port.specs.PortCalls.{PortData}
 use Rattle.ak_port.specs.PortMachine.{refusal_of, state_of}
-use Rattle.ak_port.proofs.Stamps.{next_is_past}
+use Rattle.ak_turn.proofs.Surface.{next_is_past}
 use Rattle.ak_port.proofs.PortSound.{refused_sound}
 use Rattle.ak_port.proofs.port_book.PortBook.refuse.Goals as goal
 

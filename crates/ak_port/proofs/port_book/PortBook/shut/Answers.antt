@@ -1,5 +1,5 @@
 use Rattle.std.proofs.Common.{refl}
-use Rattle.ak_port.proofs.Stamps.{next_is_past}
+use Rattle.ak_turn.proofs.Surface.{next_is_past}
 use Rattle.ak_port.proofs.PortSound.{shut_sound}
 use Rattle.ak_port.proofs.port_book.PortBook.shut.Goals as goal
 

@@ -1,7 +1,7 @@
 use Rattle.std.proofs.Common.{◌≡◌, ◌++◌, ◌<◌, min, false, sym, refl, ap, ◌∙◌, subst}
 use Rattle.ak_port.specs.PortCalls.{PortData}
 use Rattle.ak_port.specs.PortMachine.{state_of, pending_count}
-use Rattle.ak_port.proofs.Stamps.{next_is_past}
+use Rattle.ak_turn.proofs.Surface.{next_is_past}
 use Rattle.ak_port.proofs.PortSound.{took_sound, handed_took, some_taken, left_behind}
 use Rattle.ak_port.proofs.port_book.PortBook.take_oldest.Goals as goal
 

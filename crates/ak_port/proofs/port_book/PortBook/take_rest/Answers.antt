@@ -1,7 +1,7 @@
 use Rattle.std.proofs.Common.{◌≡◌, ◌++◌, false, true, sym, refl, ap, ◌∙◌, subst}
 use Rattle.ak_port.specs.PortCalls.{PortData}
 use Rattle.ak_port.specs.PortMachine.{state_of, pending_count}
-use Rattle.ak_port.proofs.Stamps.{next_is_past}
+use Rattle.ak_turn.proofs.Surface.{next_is_past}
 use Rattle.ak_port.proofs.PortSound.{rest_sound, handed_rest, few_pending}
 use Rattle.ak_port.proofs.port_book.PortBook.take_rest.Goals as goal
 

@@ -4,7 +4,8 @@ use Rattle.std.proofs.lemmas.List.{length-set}
 use Rattle.ak_flatten.specs.declared.item.Duty.TheVariants as duty
 use Rattle.ak_messenger.specs.Sends.{item_in}
 use Rattle.ak_run.specs.Doing.{AskedSo}
-use Rattle.ak_run.proofs.Calls.{ask_goes, asked_acts, desk_same, keeps_itself, main_has, one_does, port_after, port_before}
+use Rattle.ak_turn.proofs.Surface.{keeps_itself}
+use Rattle.ak_run.proofs.Calls.{ask_goes, asked_acts, desk_same, main_has, one_does, port_after, port_before}
 use Rattle.ak_run.proofs.GoingOn.{still_running}
 use Rattle.ak_run.proofs.run.Run.ask.Goals as goal
 

@@ -5,7 +5,8 @@ use Rattle.ak_turn.specs.Called.{KeepsSeat}
 use Rattle.ak_run.specs.Entering.{AreAtPorts}
 use Rattle.ak_run.specs.Sending.{edited_event}
 use Rattle.ak_run.proofs.Acting.{adds_nothing}
-use Rattle.ak_run.proofs.Calls.{desk_after, desk_before, desk_keeps, keeps_itself, main_has, one_goes, port_alone}
+use Rattle.ak_turn.proofs.Surface.{keeps_itself}
+use Rattle.ak_run.proofs.Calls.{desk_after, desk_before, desk_keeps, main_has, one_goes, port_alone}
 use Rattle.ak_run.proofs.Edits.{edited_does}
 use Rattle.ak_run.proofs.GoingOn.{still_running}
 use Rattle.ak_run.proofs.Standing.{same_book}

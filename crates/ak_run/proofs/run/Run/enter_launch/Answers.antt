@@ -1,8 +1,11 @@
 -- Main's turn, in which it launches.
-use Rattle.std.proofs.Common.{List, refl, ap, sym, subst, ◌∙◌, Some}
+use Rattle.std.proofs.Common.{Bor, List, Option, refl, ap, sym, subst, ◌∙◌, Some}
+use Rattle.std.specs.Prelude.{option_map}
 use Rattle.ak_base.specs.declared.thread.ThreadId.{ThreadId}
+use Rattle.ak_message.specs.Message.{MessageData}
+use Rattle.ak_message.specs.declared.message.Message.{Message}
 use Rattle.ak_describe.specs.declared.described.AppText.{AppText}
-use Rattle.ak_run.specs.Launching.{Book, ComesTo}
+use Rattle.ak_run.specs.Launching.{Book, ComesTo, TellsTeam}
 use Rattle.ak_run.proofs.Launches.{comes_entered, enters, has_entered, is_next}
 use Rattle.ak_run.proofs.RosterTurn.{RosterOn, goes_on}
 use Rattle.ak_run.proofs.Standing.{same_book}
@@ -39,14 +42,16 @@ returns g c =
     let r = c.args.self.now in
     let value = c.book.ensures.value in
     let l = c.launch_at_turn-launch in
+    let arguments : Option MessageData = option_map (λ (b : Bor Message). b.now) c.args.arguments in
     let comes = subst (λ (apps : List AppText). ComesTo apps r.shared c.args.word.now c.book.result.now l.new.book l.result) c.deref-2.ensures.value l.ensures.launch in
+    let told = subst (λ (apps : List AppText). TellsTeam apps arguments c.args.word.now c.book.result.now l.result) c.deref-2.ensures.value l.ensures.told in
     record {
       launch = has_entered r _ c.requires.running (record { apps = refl; shared = refl; joined = refl; ports = refl; desks = refl }) refl (same_book r _ l.ensures.book_seat) (ap (λ s. s.front) l.ensures.book_seat) c.lock-turn.new.seat c.book.result.now l.new.book
           (c.lock-turn.ensures.opening ∙ ap (λ (b : Book). Some b.heads) (sym value)) c.lock-turn.ensures.seen c.lock-turn.ensures.known (ap (λ (b : Book). b.entries) value ∙ c.lock-turn.ensures.list)
-          c.finish.ensures.same c.finish.ensures.entered c.finish.ensures.known l.ensures.by_main c.args.word.now l.result comes;
+          c.finish.ensures.same c.finish.ensures.entered c.finish.ensures.known l.ensures.by_main c.args.word.now arguments l.result comes told;
       apps = refl;
       count = refl;
       did = enters r _ c.requires.running (record { apps = refl; shared = refl; joined = refl; ports = refl; desks = refl }) refl (same_book r _ l.ensures.book_seat) (ap (λ s. s.front) l.ensures.book_seat) c.lock-turn.new.seat c.book.result.now l.new.book
           (c.lock-turn.ensures.opening ∙ ap (λ (b : Book). Some b.heads) (sym value)) c.lock-turn.ensures.seen c.lock-turn.ensures.known (ap (λ (b : Book). b.entries) value ∙ c.lock-turn.ensures.list)
-          c.finish.ensures.same c.finish.ensures.entered c.finish.ensures.known l.ensures.by_main c.args.word.now l.result comes;
+          c.finish.ensures.same c.finish.ensures.entered c.finish.ensures.known l.ensures.by_main c.args.word.now arguments l.result comes told;
     }

@@ -12,6 +12,7 @@ use Rattle.ak_run.proofs.Paired.{kept_leads, ways_lead}
 use Rattle.ak_run.proofs.Taking.{all_gain_further, heads_still, of_all, ways_of_all}
 use Rattle.ak_run.proofs.Telling.{is_run}
 use Rattle.ak_run.proofs.MainDone.{ends_as, ends_by_others, run_done}
+use Rattle.ak_run.proofs.Opened.{were_opened}
 use Rattle.ak_run.proofs.run.Run.gathered.Goals as goal
 
 -- there are no more loopers than there is room for
@@ -68,6 +69,7 @@ returns g c =
     ends_by_others r runs.heads all.new.roster_seat all.new.book_seat kept book js last h all.ensures.roster all.ensures.book (all.ensures.joined runs.heads r.shared runs.stands.each) all.ensures.fronts all.ensures.desk_fronts
     (all_gain_further js c.take_kept.new.loopers.items last c.take_kept.ensures.gaining c.take_all_ways.ensures.gaining) c.keep_all.ensures c.keep_roster-roster.ensures c.keep_book-book.ensures.ends
     (c.into_entries.ensures ∙ ap (λ (b : Book). plain_entries b.entries) c.take_doors.ensures.after) refl in
+    let same = ends_as r h ends in
     record {
       run =
           subst (λ (heads : List AppHead). IsRunOfLoopers heads c.from_vec.result h) runs.stands.heads_are
@@ -86,5 +88,7 @@ returns g c =
           c.from_vec.result (c.from_vec.ensures ∙ all.ensures.short));
       apps = refl;
       done = run_done r h ends;
-      same = ends_as r h ends;
+      same = same;
+      opened = were_opened r runs.heads runs.stands all.new.roster_seat all.new.book_seat js last h joined.joined all.ensures.jobs joined.numbers
+          (all_gain_further js c.take_kept.new.loopers.items last c.take_kept.ensures.gaining c.take_all_ways.ensures.gaining) c.keep_all.ensures same;
     }

@@ -1,9 +1,18 @@
 -- Main sends to that looper or does nothing, and the run goes on.
-use Rattle.std.proofs.Common.{refl, sym, ◌∙◌}
+use Rattle.std.proofs.Common.{Bor, Option, List, [], refl, sym, subst, ◌∙◌}
+use Rattle.std.specs.Prelude.{option_map}
 use Rattle.std.proofs.lemmas.List.{length-set}
-use Rattle.ak_run.specs.Entering.{AreAtPorts}
+use Rattle.ak_message.specs.declared.message.Message.{Message}
+use Rattle.ak_messenger.specs.Sends.{post_event}
+use Rattle.ak_diary.specs.Step.{Step}
+use Rattle.ak_run.specs.declared.answers.LaunchAnswer.TheVariants as answer
+use Rattle.ak_run.specs.Entering.{AreAtPorts, GreetsSo}
+use Rattle.ak_run.specs.Greeting.{from_main}
+use Rattle.ak_run.proofs.Acting.{may_post}
 use Rattle.ak_run.proofs.Calls.{does_same, goes_same, main_has, one_does, one_goes, port_alone, seats_of}
 use Rattle.ak_run.proofs.GoingOn.{still_running}
+use Rattle.ak_run.proofs.PortsAtStart.{sends_each}
+use Rattle.ak_run.proofs.LaunchAnswers.{acts_as, does_as}
 use Rattle.ak_run.proofs.Standing.{same_book}
 use Rattle.ak_run.proofs.run.Run.greet_again.Goals as goal
 
@@ -13,32 +22,36 @@ send-requires g c =
     let running = c.requires.running in
     record { thread = main_has _ running.heads r c.args.first c.index_mut.result.now c.requires.there (sym c.index_mut.ensures.value) running.stands ∙ sym r.main }
 
-pub returns-then-is_err : goal.returns-then-is_err
-returns-then-is_err g c =
+pub returns-in_default-send : goal.returns-in_default-send
+returns-in_default-send g c =
     let r = c.args.self.now in
     let m = c.index_mut.result.now in
     let door = c.send.new.door in
+    let alone = port_alone c.args.first r.hands.book_seat _ _ _ c.send.ensures.book_seat (c.send.ensures.door.adds (main_has _ c.requires.running.heads r c.args.first m c.requires.there (sym c.index_mut.ensures.value) c.requires.running.stands)) in
     record {
       answer = tt;
-      did = one_does r _ c.args.first m door c.requires.there (sym c.index_mut.ensures.value) refl refl AreAtPorts (seats_of m.door door c.send.ensures.door).desk_on
-          (port_alone c.args.first r.hands.book_seat _ _ _ c.send.ensures.book_seat (c.send.ensures.door.adds (main_has _ c.requires.running.heads r c.args.first m c.requires.there (sym c.index_mut.ensures.value) c.requires.running.stands)));
-      running = still_running r _ (one_goes r _ c.args.first m door c.requires.there (sym c.index_mut.ensures.value) refl refl AreAtPorts (seats_of m.door door c.send.ensures.door) refl (record { apps = refl; shared = refl; joined = refl; ports = refl; desks = refl }) (same_book r _ c.send.ensures.book_seat)
-          (port_alone c.args.first r.hands.book_seat _ _ _ c.send.ensures.book_seat (c.send.ensures.door.adds (main_has _ c.requires.running.heads r c.args.first m c.requires.there (sym c.index_mut.ensures.value) c.requires.running.stands)))) c.requires.running;
+      did = one_does r _ c.args.first m door c.requires.there (sym c.index_mut.ensures.value) refl refl (λ steps. Unit {0}) (seats_of m.door door c.send.ensures.door).desk_on (acts_as c.args.first AreAtPorts (λ steps. Unit {0}) _ _ _ _ (λ steps is. tt) alone);
+      running = still_running r _ (one_goes r _ c.args.first m door c.requires.there (sym c.index_mut.ensures.value) refl refl AreAtPorts (seats_of m.door door c.send.ensures.door) refl (record { apps = refl; shared = refl; joined = refl; ports = refl; desks = refl }) (same_book r _ c.send.ensures.book_seat) alone) c.requires.running;
       apps = refl;
       count = length-set r.members.items c.args.first _;
     }
 
-pub returns-else-is_err : goal.returns-else-is_err
-returns-else-is_err g c =
+pub returns-in-Ok : goal.returns-in-Ok
+returns-in-Ok g c =
     let r = c.args.self.now in
     let m = c.index_mut.result.now in
     let door = c.send.new.door in
+    let main = main_has _ c.requires.running.heads r c.args.first m c.requires.there (sym c.index_mut.ensures.value) c.requires.running.stands in
+    let message = c.in-Some.message.now in
+    let sent = c.in-Ok.ensures.sent in
+    let greets : Option (Bor Message) → List Step → Type 0 = λ (o : Option (Bor Message)) (steps : List Step). GreetsSo c.args.first (option_map (λ (b : Bor Message). b.now) o) (answer.Running c.args.team c.last_place-place.result) steps in
+    let e = post_event from_main message sent.sent in
     record {
       answer = (refl, c.last_place-place.ensures);
-      did = one_does r _ c.args.first m door c.requires.there (sym c.index_mut.ensures.value) refl refl AreAtPorts (seats_of m.door door c.send.ensures.door).desk_on
-          (port_alone c.args.first r.hands.book_seat _ _ _ c.send.ensures.book_seat (c.send.ensures.door.adds (main_has _ c.requires.running.heads r c.args.first m c.requires.there (sym c.index_mut.ensures.value) c.requires.running.stands)));
+      did = does_as r _ c.args.first m door c.requires.there (sym c.index_mut.ensures.value) refl refl (greets c.args.arguments) e r.hands.clock c.send.new.hands.clock (seats_of m.door door c.send.ensures.door).desk_on main (may_post from_main message sent.sent) sent.answered c.send.ensures.book_seat
+          (λ steps entered. subst (λ (o : Option (Bor Message)). greets o steps) (sym c.in-Some.is) (sends_each c.args.first message _ steps sent.sent entered sent.too_long sent.not_blocked sent.not_wanting));
       running = still_running r _ (one_goes r _ c.args.first m door c.requires.there (sym c.index_mut.ensures.value) refl refl AreAtPorts (seats_of m.door door c.send.ensures.door) refl (record { apps = refl; shared = refl; joined = refl; ports = refl; desks = refl }) (same_book r _ c.send.ensures.book_seat)
-          (port_alone c.args.first r.hands.book_seat _ _ _ c.send.ensures.book_seat (c.send.ensures.door.adds (main_has _ c.requires.running.heads r c.args.first m c.requires.there (sym c.index_mut.ensures.value) c.requires.running.stands)))) c.requires.running;
+          (port_alone c.args.first r.hands.book_seat _ _ _ c.send.ensures.book_seat (c.send.ensures.door.adds main))) c.requires.running;
       apps = refl;
       count = length-set r.members.items c.args.first _;
     }
@@ -46,9 +59,10 @@ returns-else-is_err g c =
 pub returns-in_default : goal.returns-in_default
 returns-in_default g c =
     let r = c.args.self.now in
+    let greets : Option (Bor Message) → List Step → Type 0 = λ (o : Option (Bor Message)) (steps : List Step). GreetsSo c.args.first (option_map (λ (b : Bor Message). b.now) o) (answer.Running c.args.team c.last_place-place.result) steps in
     record {
       answer = (refl, c.last_place-place.ensures);
-      did = does_same AreAtPorts r _ (record { no_roster = refl; no_book = refl }) refl refl refl;
+      did = does_same (greets c.args.arguments) r _ (subst (λ (o : Option (Bor Message)). greets o []) (sym c.in_default.is) refl) refl refl refl;
       running = still_running r _ (goes_same r _ (record { apps = refl; shared = refl; joined = refl; ports = refl; desks = refl }) refl refl refl) c.requires.running;
       apps = refl;
       count = refl;

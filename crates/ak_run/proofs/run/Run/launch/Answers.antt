@@ -1,10 +1,7 @@
 -- A team that was launched starts; then each looper that was launched has its thread. What main did is told by the answer.
 use Rattle.std.proofs.Common.{arith, refl, ◌∙◌}
 use Rattle.ak_roster.specs.declared.entry.LaunchOutcome.TheVariants as outcome
-use Rattle.ak_run.specs.declared.answers.LaunchAnswer.TheVariants as answer
-use Rattle.ak_run.specs.declared.launching.Launch.TheVariants as launch
-use Rattle.ak_run.specs.Doing.{LaunchedSo}
-use Rattle.ak_run.specs.Entering.{EntersLaunch}
+use Rattle.ak_run.specs.Entering.{LaunchesLast}
 use Rattle.ak_run.specs.Recording.{team_fronts}
 use Rattle.ak_run.proofs.Calls.{does_same}
 use Rattle.ak_run.proofs.Doing.{does_with, then_quiet, then_records}
@@ -24,8 +21,19 @@ returns-then-start_team-clause-did g c =
     let word = c.args.word.now in
     let s = c.in-Started.field-0 in
     let entered = c.enter_launch.new.self in
-    then_quiet (EntersLaunch word (launch.Started s) entered) (team_fronts s.new) c.args.self.now entered c.start_team.new.self c.in-Started.ensures.did c.start_team.ensures.started.on c.start_team.ensures.started.desks_on
-    (LaunchedSo word (answer.Started s.team.number c.last_place-place.result)) (λ steps is. (is.0, s.team.first, launches_at word (outcome.Started is.0 s.team.number s.team.first) entered c.last_place-place.result steps c.last_place-place.ensures is.1))
+    let place = c.last_place-place.result in
+    then_quiet _ (team_fronts s.new) c.args.self.now entered c.start_team.new.self c.in-Started.ensures.did c.start_team.ensures.started.on c.start_team.ensures.started.desks_on _
+    (λ steps is. record {
+      description = is.description;
+      first = s.team.first;
+      app = is.app;
+      described = is.described;
+      ports = is.ports;
+      enters = is.enters;
+      entry = is.entry;
+      launches = launches_at word (outcome.Started is.description s.team.number s.team.first) entered place is.entry c.last_place-place.ensures is.launches;
+      is = is.is;
+    })
     (c.start_team.ensures.quiet c.if-start_team.true)
 
 pub returns-then-start_team-clause-running : goal.returns-then-start_team-clause-running
@@ -35,10 +43,9 @@ returns-then-start_team-clause-running g c =
 
 pub returns-else-start_team-clause-did : goal.returns-else-start_team-clause-did
 returns-else-start_team-clause-did g c =
-    let word = c.args.word.now in
     let s = c.in-Started.field-0 in
     let entered = c.enter_launch.new.self in
-    then_records (EntersLaunch word (launch.Started s) entered) (team_fronts s.new) c.args.self.now entered c.start_team.new.self c.in-Started.ensures.did c.start_team.ensures.started.on c.start_team.ensures.started.desks_on c.start_team.ensures.recorded
+    then_records _ (team_fronts s.new) c.args.self.now entered c.start_team.new.self c.in-Started.ensures.did c.start_team.ensures.started.on c.start_team.ensures.started.desks_on c.start_team.ensures.recorded
 
 pub returns-else-start_team-clause-running : goal.returns-else-start_team-clause-running
 returns-else-start_team-clause-running g c =
@@ -47,25 +54,25 @@ returns-else-start_team-clause-running g c =
 
 pub returns-in-Running-clause-did : goal.returns-in-Running-clause-did
 returns-in-Running-clause-did g c =
-    runs_so c.args.word.now c.in-Running.team c.in-Running.first c.args.self.now c.enter_launch.new.self c.greet_again.new.self c.in-Running.ensures.did c.greet_again.ensures.did c.greet_again.result c.greet_again.ensures.answer
+    runs_so _ _ _ c.in-Running.team c.in-Running.first c.args.self.now c.enter_launch.new.self c.greet_again.new.self c.in-Running.ensures.did c.greet_again.result c.greet_again.ensures.answer c.greet_again.ensures.did
 
 pub returns-in-NotFound-clause-did : goal.returns-in-NotFound-clause-did
 returns-in-NotFound-clause-did g c =
     let word = c.args.word.now in
     let entered = c.enter_launch.new.self in
-    does_with (EntersLaunch word launch.NotFound entered) _ c.args.self.now entered (λ steps is. launches_at word outcome.NotFound entered _ steps c.last_place.ensures is) c.in-NotFound.ensures.did
+    does_with (LaunchesLast word outcome.NotFound entered) _ c.args.self.now entered (λ steps is. launches_at word outcome.NotFound entered _ steps c.last_place.ensures is) c.in-NotFound.ensures.did
 
 pub returns-in-Limit-clause-did : goal.returns-in-Limit-clause-did
 returns-in-Limit-clause-did g c =
     let word = c.args.word.now in
     let entered = c.enter_launch.new.self in
-    does_with (EntersLaunch word launch.Limit entered) _ c.args.self.now entered (λ steps is. launches_at word outcome.Limit entered _ steps c.last_place-in-Limit.ensures is) c.in-Limit.ensures.did
+    does_with (LaunchesLast word outcome.Limit entered) _ c.args.self.now entered (λ steps is. launches_at word outcome.Limit entered _ steps c.last_place-in-Limit.ensures is) c.in-Limit.ensures.did
 
 pub returns-in-NoMemory-clause-did : goal.returns-in-NoMemory-clause-did
 returns-in-NoMemory-clause-did g c =
     let entered = c.enter_launch.new.self in
-    does_with (EntersLaunch c.args.word.now launch.NoMemory entered) (LaunchedSo c.args.word.now answer.NoMemory) c.args.self.now entered (λ steps is. tt) c.in-NoMemory.ensures.did
+    does_with (λ steps. Unit {0}) _ c.args.self.now entered (λ steps is. tt) c.in-NoMemory.ensures.did
 
 -- nothing was done
 pub returns-in_default-clause-did : goal.returns-in_default-clause-did
-returns-in_default-clause-did g c = does_same (LaunchedSo c.args.word.now answer.NoMemory) c.args.self.now _ tt refl refl refl
+returns-in_default-clause-did g c = does_same (λ steps. Unit {0}) c.args.self.now _ tt refl refl refl

@@ -1,33 +1,37 @@
--- Team after team the run goes on.
-use Rattle.std.proofs.Common.{refl, subst, sym}
-use Rattle.ak_run.specs.Starting.{GoesOn}
-use Rattle.ak_run.proofs.Calls.{goes_same, stands_further}
-use Rattle.ak_run.proofs.GoingOn.{goes_then_goes}
-use Rattle.ak_run.proofs.run.Run.leave_all.Goals.{then-leave, else-leave}
+-- Team after team is ended.
+use Rattle.std.proofs.Common.{◌≡◌, ◌+◌, List, ℕ, refl, sym, subst, ◌++◌, arith}
+use Rattle.std.specs.List.{range_with_len}
+use Rattle.ak_roster.specs.declared.head.AppHead.{AppHead}
+use Rattle.ak_describe.specs.Whole.{heads_of}
+use Rattle.ak_run.specs.Closing.{EndsTeam, EndsTeams}
+use Rattle.ak_run.proofs.Calls.{goes_same}
+use Rattle.ak_run.proofs.TeamEnds.{closes_same, closes_then, ends_push, range_push}
+use Rattle.ak_run.proofs.Endings.{same_heads_of}
+use Rattle.ak_run.proofs.GoingOn.{goes_then_goes, still_running}
 use Rattle.ak_run.proofs.run.Run.leave_all.Goals as goal
 
-pub loop-team-init : goal.loop-team-init
-loop-team-init g c = goes_same c.args.self.now _ (record { apps = refl; shared = refl; joined = refl; ports = refl; desks = refl }) refl refl refl
+pub loop-place-init : goal.loop-place-init
+loop-place-init g c = record {
+  goes = goes_same c.args.self.now _ (record { apps = refl; shared = refl; joined = refl; ports = refl; desks = refl }) refl refl refl;
+  closed = closes_same (EndsTeams (heads_of c.args.self.now.apps.items) (range_with_len 1 0)) c.args.self.now _ refl refl refl refl;
+}
 
-pub shut-requires : goal.shut-requires
-shut-requires g c =
-    let r = c.args.self.now in
-    record { stands = stands_further c.loop-team.self _ c.leave.ensures (stands_further r c.loop-team.self c.loop-team.invariant c.requires.stands) }
+pub end_team-requires : goal.end_team-requires
+end_team-requires g c = record { running = still_running c.args.self.now _ c.loop-place.invariant.goes c.requires.running }
 
-pub loop-team-preserved : goal.loop-team-preserved
-loop-team-preserved g c =
+pub loop-place-preserved : goal.loop-place-preserved
+loop-place-preserved g c =
     let r = c.args.self.now in
-    let left = goes_then_goes r c.loop-team.self c.leave.new.self c.loop-team.invariant c.leave.ensures in
-    elim c.if-leave.branch [
-      | then-leave w ↦ subst (GoesOn r) (sym w.self-is) (goes_then_goes r c.leave.new.self w.shut.new.self left w.shut.ensures)
-      | else-leave w ↦ subst (GoesOn r) (sym w.self-is) left
-    ]
-
-pub returns-after-leave : goal.returns-after-leave
-returns-after-leave g c =
-    let r = c.args.self.now in
-    let left = goes_then_goes r c.loop-team.self c.leave.new.self c.loop-team.invariant c.leave.ensures in
-    elim c.if-leave.branch [
-      | then-leave w ↦ subst (GoesOn r) (sym w.self-is) (goes_then_goes r c.leave.new.self w.shut.new.self left w.shut.ensures)
-      | else-leave w ↦ subst (GoesOn r) (sym w.self-is) left
-    ]
+    let heads = heads_of r.apps.items in
+    let place = c.loop-place.place in
+    let was = c.loop-place.invariant in
+    let later = heads_of c.loop-place.self.apps.items in
+    let same : later ≡ heads = same_heads_of r c.loop-place.self was.goes in
+    let next : place + 1 ≡ 1 + place = omega arith in
+    record {
+      goes = goes_then_goes r _ _ was.goes c.end_team.ensures.goes;
+      closed = closes_then (EndsTeams heads (range_with_len 1 place)) (EndsTeam later (place + 1)) (EndsTeams heads (range_with_len 1 (place + 1))) r _ _
+          (λ xs ys all one.
+          subst (λ (teams : List ℕ). EndsTeams heads teams (xs ++ ys)) (sym (range_push 1 place))
+          (ends_push heads (range_with_len 1 place) (1 + place) xs ys all (subst (λ (n : ℕ). EndsTeam heads n ys) next (subst (λ (hs : List AppHead). EndsTeam hs (place + 1) ys) same one)))) was.closed c.end_team.ensures.closed;
+    }

@@ -4,7 +4,8 @@ use Rattle.std.proofs.lemmas.List.{length-set}
 use Rattle.ak_messenger.specs.Sends.{post_event}
 use Rattle.ak_run.specs.Doing.{EnteredSo}
 use Rattle.ak_run.proofs.Acting.{may_post}
-use Rattle.ak_run.proofs.Calls.{desk_same, keeps_itself, main_has, one_does, port_after, port_before, post_acts, post_goes}
+use Rattle.ak_turn.proofs.Surface.{keeps_itself}
+use Rattle.ak_run.proofs.Calls.{desk_same, main_has, one_does, port_after, port_before, post_acts, post_goes}
 use Rattle.ak_run.proofs.GoingOn.{still_running}
 use Rattle.ak_run.proofs.run.Run.post.Goals as goal
 

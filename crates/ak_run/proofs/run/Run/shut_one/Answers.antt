@@ -3,7 +3,8 @@ use Rattle.std.proofs.Common.{refl, sym, ◌∙◌}
 use Rattle.ak_port.specs.PortCalls.{close_entry}
 use Rattle.ak_run.specs.Entering.{AreAtPorts}
 use Rattle.ak_run.proofs.Acting.{adds_by, may_close}
-use Rattle.ak_run.proofs.Calls.{desk_same, goes_same, keeps_itself, main_has, one_goes, port_alone}
+use Rattle.ak_turn.proofs.Surface.{keeps_itself}
+use Rattle.ak_run.proofs.Calls.{desk_same, goes_same, main_has, one_goes, port_alone}
 use Rattle.ak_run.proofs.Standing.{same_book}
 use Rattle.ak_run.proofs.run.Run.shut_one.Goals as goal
 

@@ -1,5 +1,0 @@
-use Rattle.std.proofs.Common.{length}
-use Rattle.ak_kit.proofs.reading.+names_differ.Given as goal
-
-abbrev pub decreases-names_differ : goal.decreases-names_differ
-decreases-names_differ l = length l.rows.now

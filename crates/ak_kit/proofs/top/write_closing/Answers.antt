@@ -1,7 +1,0 @@
-use Rattle.ak_outside.specs.Faults.{Rose}
-use Rattle.ak_kit.proofs.Ends.{closed}
-use Rattle.ak_kit.proofs.top.write_closing.Goals as goal
-
-pub returns-clause-line : goal.returns-clause-line
-returns-clause-line g c =
-    closed c.write_all.result c.args.line.now (g.K.Sink.written c.args.sink.now) (g.K.Sink.written c.write_all.new.sink) (Rose (g.K.Sink.faults c.args.sink.now) (g.K.Sink.faults c.write_all.new.sink)) c.write_all.ensures.ok c.write_all.ensures.err c.write_all.ensures.cause

@@ -1,0 +1,162 @@
+-- Main ends team after team.
+use Rattle.std.proofs.Common.{◌≡◌, ◌≢◌, ℕ, zero, suc, ◌+◌, ◌<◌, ◌≤◌, Bool, true, false, cond, ◌||◌, List, [], ◌∷◌, ◌++◌, length, All, Option, None, Some, refl, sym, ap, ◌∙◌, subst, append_assoc, append-nil, arith}
+use Rattle.std.specs.Prelude.{IfSome, IsFalse, IsTrue, get_or, is_some, set}
+use Rattle.std.specs.List.{find, list_any, range_with_len}
+use Rattle.std.proofs.lemmas.List.Concat.{flat_map-append}
+use Rattle.std.proofs.lemmas.List.Elements.{All-append, All-nil, All-weaker}
+use mathlib.Core.Logic.{dite}
+use native.Mathlib.Decide.{ℕ_discrete}
+use Rattle.ak_base.specs.Thread.{main_thread}
+use Rattle.ak_turn.specs.Entries.{StartsWith}
+use Rattle.ak_turn.specs.declared.clock.Clock.{Clock}
+use Rattle.ak_turn.proofs.Surface.{starts_then_starts}
+use Rattle.ak_roster.specs.Heads.{IsHeads}
+use Rattle.ak_roster.specs.Machine.{IsHistory, runs_team}
+use Rattle.ak_roster.specs.Roster.{Enters, Stays, plain_entries, state}
+use Rattle.ak_roster.specs.declared.entry.RosterEntry.{RosterEntry}
+use Rattle.ak_roster.specs.declared.entry.RosterEvent.{RosterEvent}
+use Rattle.ak_roster.specs.declared.entry.RosterEvent.TheVariants as event
+use Rattle.ak_roster.specs.declared.head.AppHead.{AppHead}
+use Rattle.ak_roster.specs.declared.team.Running.{Running}
+use Rattle.ak_port.specs.declared.port_entry.PortEntry.{PortEntry}
+use Rattle.ak_diary.specs.Step.{Step, port_sight, port_sights, roster_sight, roster_sights}
+use Rattle.ak_diary.specs.Turns.{Shuts, ShutsAll}
+use Rattle.ak_looper.specs.Rosters.{plain_of}
+use Rattle.ak_looper.specs.declared.door.Door.{Door}
+use Rattle.ak_run.specs.declared.member.Member.{Member}
+use Rattle.ak_run.specs.declared.run.Run.{Run}
+use Rattle.ak_run.specs.Closing.{ClosesSo, EndsTeam, EndsTeams, LeavesBook, LeavesSo, ports_of}
+use Rattle.ak_run.specs.Launching.{Book, HasEntered}
+use Rattle.ak_run.specs.Recording.{fronts_of, list_at}
+use Rattle.ak_run.specs.Starting.{GoesOn}
+use Rattle.ak_run.proofs.Acting.{ActsAtBoth, SeesShut}
+use Rattle.ak_run.proofs.Acts.{goes_then, same_goes}
+use Rattle.ak_run.proofs.Entering.{all_started, none_entered, one_entered}
+use Rattle.ak_run.proofs.GoingOn.{plain_on}
+use Rattle.ak_run.proofs.Recorded.{call_goes, fronts_same, others_still, saw_front, sees_front}
+
+-- ---- steps
+-- one port more
+pub shuts_push : (loopers : List ℕ) (looper : ℕ) (xs ys : List Step) → ShutsAll loopers xs → Shuts looper ys → ShutsAll (loopers ++ looper ∷ []) (xs ++ ys)
+shuts_push [] looper xs ys none one = (ys, [], one, refl, ap (λ (l : List Step). l ++ ys) none ∙ sym (append-nil ys))
+shuts_push (x ∷ loopers) looper xs ys all one = (all.0, all.1 ++ ys, all.2, shuts_push loopers looper all.1 ys all.3 one, ap (λ (l : List Step). l ++ ys) all.4 ∙ append_assoc all.0 all.1 ys)
+
+-- one team more
+pub ends_push : (heads : List AppHead) (teams : List ℕ) (team : ℕ) (xs ys : List Step) → EndsTeams heads teams xs → EndsTeam heads team ys → EndsTeams heads (teams ++ team ∷ []) (xs ++ ys)
+ends_push heads [] team xs ys none one = (ys, [], one, refl, ap (λ (l : List Step). l ++ ys) none ∙ sym (append-nil ys))
+ends_push heads (x ∷ teams) team xs ys all one = (all.0, all.1 ++ ys, all.2, ends_push heads teams team all.1 ys all.3 one, ap (λ (l : List Step). l ++ ys) all.4 ∙ append_assoc all.0 all.1 ys)
+
+pub range_push : (a n : ℕ) → range_with_len a (n + 1) ≡ range_with_len a n ++ (a + n) ∷ []
+range_push a zero = let same : a ≡ a + 0 = omega arith in ap (λ (m : ℕ). m ∷ []) same
+range_push a (suc n) =
+    let more : suc n + 1 ≡ suc (n + 1) = omega arith in
+    let same : (a + 1) + n ≡ a + suc n = omega arith in
+    ap (range_with_len a) more ∙ ap (λ (l : List ℕ). a ∷ l) (range_push (a + 1) n ∙ ap (λ (m : ℕ). range_with_len (a + 1) n ++ m ∷ []) same)
+
+-- ---- calls
+-- what is a beginning of a list is one of what the list goes on to
+still : {L : Type 0} (xs ys : List L) (seen : List (List L)) → StartsWith ys xs → All (StartsWith xs) seen → All (StartsWith ys) seen
+still xs ys seen on all = All-weaker (StartsWith xs) (StartsWith ys) (λ front starts. starts_then_starts front xs ys starts on) seen all
+
+pub closes_then : (P Q S : List Step → Type 0) (r s t : Run) → ((xs ys : List Step) → P xs → Q ys → S (xs ++ ys)) → ClosesSo P r s → ClosesSo Q s t → ClosesSo S r t
+closes_then P Q S r s t tells one two = record {
+  steps = one.steps ++ two.steps;
+  so = tells one.steps two.steps one.so two.so;
+  goes = goes_then one.steps two.steps (fronts_of r) (fronts_of s) (fronts_of t) one.goes two.goes;
+  roster_on = starts_then_starts (plain_of r.roster_seat) (plain_of s.roster_seat) (plain_of t.roster_seat) one.roster_on two.roster_on;
+  ports_on = λ looper. starts_then_starts (list_at (fronts_of r).ports looper) (list_at (fronts_of s).ports looper) (list_at (fronts_of t).ports looper) (one.ports_on looper) (two.ports_on looper);
+  roster_seen =
+      subst (All (StartsWith (plain_of t.roster_seat))) (sym (flat_map-append roster_sight one.steps two.steps))
+      (All-append (StartsWith (plain_of t.roster_seat)) (roster_sights one.steps) (roster_sights two.steps) (still (plain_of s.roster_seat) (plain_of t.roster_seat) (roster_sights one.steps) two.roster_on one.roster_seen) two.roster_seen);
+  ports_seen = λ looper.
+      subst (All (StartsWith (list_at (fronts_of t).ports looper))) (sym (flat_map-append (port_sight looper) one.steps two.steps))
+      (All-append (StartsWith (list_at (fronts_of t).ports looper)) (port_sights looper one.steps) (port_sights looper two.steps)
+      (still (list_at (fronts_of s).ports looper) (list_at (fronts_of t).ports looper) (port_sights looper one.steps) (two.ports_on looper) (one.ports_seen looper)) (two.ports_seen looper));
+}
+
+pub closes_as : (P Q : List Step → Type 0) (r r' : Run) → ((steps : List Step) → P steps → Q steps) → ClosesSo P r r' → ClosesSo Q r r'
+closes_as P Q r r' tells one = record { steps = one.steps; so = tells one.steps one.so; goes = one.goes; roster_on = one.roster_on; ports_on = one.ports_on; roster_seen = one.roster_seen; ports_seen = one.ports_seen }
+
+same_on : {L : Type 0} (xs ys : List L) → ys ≡ xs → StartsWith ys xs
+same_on xs ys same = ([], same ∙ sym (append-nil xs))
+
+-- nothing was done
+pub closes_same : (P : List Step → Type 0) (r r' : Run) → P [] → r'.members ≡ r.members → r'.roster_seat ≡ r.roster_seat → r'.hands.book_seat.front ≡ r.hands.book_seat.front → ClosesSo P r r'
+closes_same P r r' so members roster book =
+    let same = fronts_same r r' members (ap (λ s. s.front) roster) book [] in
+    record {
+      steps = [];
+      so = so;
+      goes = same_goes (fronts_of r) (fronts_of r') same;
+      roster_on = same_on (plain_of r.roster_seat) (plain_of r'.roster_seat) (ap plain_of roster);
+      ports_on = λ looper. same_on (list_at (fronts_of r).ports looper) (list_at (fronts_of r').ports looper) (ap (λ f. list_at f.ports looper) same);
+      roster_seen = All-nil (StartsWith (plain_of r'.roster_seat));
+      ports_seen = λ looper. All-nil (StartsWith (list_at (fronts_of r').ports looper));
+    }
+
+-- the team is gone, and its ports are shut
+pub ends_so : (heads : List AppHead) (team : ℕ) (running : Option Running) (xs ys : List Step) → LeavesSo heads team running xs → ShutsAll (ports_of running) ys → EndsTeam heads team (xs ++ ys)
+ends_so heads team running xs ys leaves shuts = record { running = running; gone = xs; leaves = leaves; shut = ys; shuts = shuts; is = refl }
+
+pub ends_gone : (heads : List AppHead) (team : ℕ) (steps : List Step) → LeavesSo heads team None steps → EndsTeam heads team steps
+ends_gone heads team steps leaves = record { running = None; gone = steps; leaves = leaves; shut = []; shuts = refl; is = sym (append-nil steps) }
+
+-- ---- a port is shut
+module _ (r r' : Run) (place : ℕ) (m : Member) (door : Door) (within : place < length r.members.items) (here : get_or r.members.items place m ≡ m) (is : r'.members.items ≡ set r.members.items place (record m { door = door })) (roster : r'.roster_seat ≡ r.roster_seat) where
+  abbrev front : List PortEntry
+  front = door.port_seat.front
+
+  front_is : list_at (fronts_of r').ports place ≡ front
+  front_is = sees_front r r' place m door within here is
+
+  on_there : StartsWith front m.door.port_seat.front → (other : ℕ) → StartsWith (list_at (fronts_of r').ports other) (list_at (fronts_of r).ports other)
+  on_there on other = dite (ℕ_discrete other place)
+      (λ same. subst (λ (n : ℕ). StartsWith (list_at (fronts_of r').ports n) (list_at (fronts_of r).ports n)) (sym same)
+      (subst (λ (l : List PortEntry). StartsWith l (list_at (fronts_of r).ports place)) (sym front_is) (subst (StartsWith front) (sym (saw_front r r' place m door within here is)) on)))
+      (λ differ. same_on (list_at (fronts_of r).ports other) (list_at (fronts_of r').ports other) (others_still r r' place m door within here is other differ))
+
+  seen_there : (steps : List Step) → SeesShut place front steps → (other : ℕ) → All (StartsWith (list_at (fronts_of r').ports other)) (port_sights other steps)
+  seen_there steps sees other = dite (ℕ_discrete other place)
+      (λ same. subst (λ (n : ℕ). All (StartsWith (list_at (fronts_of r').ports n)) (port_sights n steps)) (sym same) (subst (λ (l : List PortEntry). All (StartsWith l) (port_sights place steps)) (sym front_is) sees.ports_seen))
+      (λ differ. subst (All (StartsWith (list_at (fronts_of r').ports other))) (sym (sees.elsewhere other differ)) (All-nil (StartsWith (list_at (fronts_of r').ports other))))
+
+  pub shut_closes : StartsWith front m.door.port_seat.front → ActsAtBoth place (SeesShut place front) r.hands.book_seat.front r'.hands.book_seat.front m.door.port_seat.front front → ClosesSo (Shuts place) r r'
+  shut_closes on acts = record {
+    steps = acts.steps;
+    so = acts.so.shuts;
+    goes = call_goes r r' place m door within here is acts.steps roster acts.acts acts.goes [];
+    roster_on = same_on (plain_of r.roster_seat) (plain_of r'.roster_seat) (ap plain_of roster);
+    ports_on = on_there on;
+    roster_seen = subst (All (StartsWith (plain_of r'.roster_seat))) (sym acts.so.no_roster) (All-nil (StartsWith (plain_of r'.roster_seat)));
+    ports_seen = seen_there acts.steps acts.so;
+  }
+
+-- ---- in main's turn at the roster
+-- a team is found exactly where the search tells so
+any_found : (test : Running → Bool) (xs : List Running) (o : Option Running) → find test xs ≡ o → list_any test xs ≡ is_some o
+any_found test [] o is = ap is_some is
+any_found test (x ∷ xs) o is = by_case (any_found test xs o) (test x) is
+  where
+    by_case : (find test xs ≡ o → list_any test xs ≡ is_some o) → (b : Bool) → cond b (Some x) (find test xs) ≡ o → (b || list_any test xs) ≡ is_some o
+    by_case behind true found = ap is_some found
+    by_case behind false found = behind found
+
+module _ (book book' : Book) (clock clock' : Clock) (main : clock.thread.0 ≡ main_thread) (team : ℕ) (heads : IsHeads book.heads) (history : IsHistory book.heads (plain_entries book.entries)) where
+  pub leaves_book : (o : Option Running) (left : Bool) → find (runs_team team) (state book).running ≡ o → left ≡ list_any (runs_team team) (state book).running → (IsTrue left → Enters (event.Gone team) [] book.doors book book' clock clock') → (IsFalse left → Stays book book' clock clock')
+      → LeavesBook team o book book'
+  leaves_book (Some x) left is told enters stays =
+      let ran : left ≡ true = told ∙ any_found (runs_team team) (state book).running (Some x) is in
+      (is, one_entered book book' clock clock' 0 (event.Gone team) [] book.doors tt main (enters ran) refl, all_started book.heads (plain_entries book.entries) (runs_team team) x heads history (sym is))
+  leaves_book None left is told enters stays =
+      let gone : left ≡ false = told ∙ any_found (runs_team team) (state book).running None is in
+      (is, none_entered book book' clock clock' (stays gone))
+
+-- main entered one entry or none
+pub leaves_entered : (team : ℕ) (o : Option Running) (book book' : Book) → LeavesBook team o book book' → (what : Option RosterEvent) × HasEntered what 0 book book'
+leaves_entered team (Some x) book book' leaves = (Some (event.Gone team), leaves.1)
+leaves_entered team None book book' leaves = (None, leaves.1)
+
+-- the loopers of a team that ran were started
+pub leaves_started : (team : ℕ) (o : Option Running) (book book' : Book) (many : ℕ) → length (state book).loopers ≡ many → LeavesBook team o book book' → IfSome o (λ (running : Running). running.first + running.loopers ≤ many)
+leaves_started team (Some x) book book' many count leaves = subst (λ (n : ℕ). x.first + x.loopers ≤ n) count leaves.2
+leaves_started team None book book' many count leaves = tt

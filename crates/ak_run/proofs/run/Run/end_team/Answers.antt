@@ -1,0 +1,30 @@
+-- The team is gone, and then its ports are shut; or it did not run.
+use Rattle.std.proofs.Common.{Some, None}
+use Rattle.std.specs.List.{range_with_len}
+use Rattle.ak_describe.specs.Whole.{heads_of}
+use Rattle.ak_diary.specs.Turns.{ShutsAll}
+use Rattle.ak_run.specs.Closing.{EndsTeam, LeavesSo}
+use Rattle.ak_run.proofs.TeamEnds.{closes_as, closes_then, ends_gone, ends_so}
+use Rattle.ak_run.proofs.GoingOn.{goes_then_goes, still_running}
+use Rattle.ak_run.proofs.run.Run.end_team.Goals as goal
+
+pub shut_ports-requires-clause-running : goal.shut_ports-requires-clause-running
+shut_ports-requires-clause-running g c = still_running c.args.self.now _ c.in-Some.ensures.goes c.requires.running
+
+pub returns-in-Some : goal.returns-in-Some
+returns-in-Some g c =
+    let r = c.args.self.now in
+    let heads = heads_of r.apps.items in
+    let team = c.args.team in
+    let running = c.in-Some.running in
+    record {
+      goes = goes_then_goes r _ _ c.in-Some.ensures.goes c.shut_ports.ensures.goes;
+      closed = closes_then (LeavesSo heads team (Some running)) (ShutsAll (range_with_len running.first running.loopers)) (EndsTeam heads team) r _ _ (λ xs ys leaves shuts. ends_so heads team (Some running) xs ys leaves shuts) c.in-Some.ensures.closed c.shut_ports.ensures.closed;
+    }
+
+pub returns-in-None : goal.returns-in-None
+returns-in-None g c =
+    let r = c.args.self.now in
+    let heads = heads_of r.apps.items in
+    let team = c.args.team in
+    record { goes = c.in-None.ensures.goes; closed = closes_as (LeavesSo heads team None) (EndsTeam heads team) r _ (λ steps leaves. ends_gone heads team steps leaves) c.in-None.ensures.closed }
