@@ -37,6 +37,7 @@ pub use laws::{
 };
 pub use pass::FirstPass;
 use std::alloc::Global;
+pub use words::{behind, ends};
 
 /// The applications that these lines describe, in order, each with the plans of its loopers. The lines are
 /// those behind the input's first one, up to those that are no description; any other line is unknown here.

@@ -103,8 +103,8 @@ pub(crate) fn last_of(words: &[Word]) -> Option<(&[u8], &[Word])>
     Some((last.bytes.as_slice(), front))
 }
 
-/// The words behind that one, if it is the first.
-pub(crate) fn behind<'a>(words: &'a [Word], word: &[u8]) -> Option<&'a [Word]>
+/// The words behind that one, if it is the first. None where another one is, or no word is there.
+pub fn behind<'a>(words: &'a [Word], word: &[u8]) -> Option<&'a [Word]>
     ensures { option_map rest_seen result ≡ reads.behind (texts words.now) word.now }
 {
     let (first, rest) = words.split_first()?;
@@ -116,7 +116,7 @@ pub(crate) fn behind<'a>(words: &'a [Word], word: &[u8]) -> Option<&'a [Word]>
 }
 
 /// Whether no word is left.
-pub(crate) fn ends(words: &[Word]) -> bool
+pub fn ends(words: &[Word]) -> bool
     ensures { result ≡ reads.ends (texts words.now) }
 {
     words.is_empty()

@@ -26,9 +26,9 @@ use Rattle.ak_looper.specs.Rosters.{HasEntered, HasLooked, MayGetDoor, Object, R
 use Rattle.ak_looper.specs.RosterCalls.{HasFound, HasLookedUp, heard_find}
 
 -- ---- entries of others
-made_on : (thread : ℕ) (front between : List (EntryWithObjects Object)) → AreByOthers by_number thread between → made_by by_number thread (front ++ between) ≡ made_by by_number thread front
-made_on thread front between others =
-    sym (noted_is_made by_number thread (front ++ between)) ∙ ap (map entry_of) (noted-others by_number thread front between others) ∙ noted_is_made by_number thread front
+module _ {L : Type 0} (by : L → ℕ) where
+  pub made_on : (thread : ℕ) (front between : List L) → AreByOthers by thread between → made_by by thread (front ++ between) ≡ made_by by thread front
+  made_on thread front between others = sym (noted_is_made by thread (front ++ between)) ∙ ap (map entry_of) (noted-others by thread front between others) ∙ noted_is_made by thread front
 
 -- ---- what the roster pairs with a looper stays
 there_still : {X : Type 0} (xs ys : List X) (i : ℕ) (x : X) → slice_get xs i ≡ Some x → slice_get (xs ++ ys) i ≡ Some x
@@ -137,7 +137,7 @@ pub stranger_at_turn : {D : Type 0} (looper : ℕ) (seat given : RosterSeat) (bo
 stranger_at_turn looper seat given book clock seen list opening thread may history =
     let at = list ∙ ap (λ (s : RosterSeat). s.front) seen.after in
     subst (λ (t : ℕ). IsStranger t looper (slice_get (state book).loopers looper)) thread
-    (may book.heads book.entries opening (seen.between, at) (ap (made_by by_number seat.thread) at ∙ made_on seat.thread seat.front seen.between seen.others) history)
+    (may book.heads book.entries opening (seen.between, at) (ap (made_by by_number seat.thread) at ∙ made_on by_number seat.thread seat.front seen.between seen.others) history)
 
 -- it may still, where it has made no entry since
 pub may_still : (looper : ℕ) (seat seat' : RosterSeat) → HasSeen by_number seat seat' → MayGetDoor looper seat → MayGetDoor looper seat'
@@ -146,6 +146,6 @@ may_still looper seat seat' seen may = λ heads front opening starts made histor
     let begins : front ≡ seat.front ++ (seen.between ++ starts.0) =
     starts.1 ∙ ap (λ (s : RosterSeat). s.front ++ starts.0) seen.after ∙ append_assoc seat.front seen.between starts.0 in
     let same : made_by by_number seat.thread front ≡ made_by by_number seat.thread seat.front =
-    ap (λ (t : ℕ). made_by by_number t front) (sym thread) ∙ made ∙ ap (λ (s : RosterSeat). made_by by_number s.thread s.front) seen.after ∙ made_on seat.thread seat.front seen.between seen.others in
+    ap (λ (t : ℕ). made_by by_number t front) (sym thread) ∙ made ∙ ap (λ (s : RosterSeat). made_by by_number s.thread s.front) seen.after ∙ made_on by_number seat.thread seat.front seen.between seen.others in
     subst (λ (t : ℕ). IsStranger t looper (slice_get (state_of heads (plain_entries front)).loopers looper)) (sym thread)
     (may heads front (sym (ap (λ (s : RosterSeat). s.opening) seen.after) ∙ opening) (seen.between ++ starts.0, begins) same history)

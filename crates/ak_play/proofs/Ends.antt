@@ -69,6 +69,14 @@ lines_by_main (Err stop.WriteFault) lacked main tolds old new is written found e
 lines_by_main (Err stop.ThreadFault) lacked main tolds old new is written found end = absurd (cc end)
 lines_by_main (Err stop.NoMemory) lacked main tolds old new is written found end = let bad : true ≡ false = sym is ∙ found in absurd (cc bad)
 
+-- where main found memory, and each thread was started, it stopped at no statement
+stopped_nowhere : {A : Type 0} (P : Type 0) (played : Result A Stop) (lacked main : Bool) (more : List Step) → main ≡ is_lack played → OnOk played P → (P → more ≡ []) → (stopped_as played ≡ ending.WriteFault → more ≡ []) → main ≡ false
+    → ended_as played lacked ≢ ending.ThreadFault → more ≡ []
+stopped_nowhere P (Ok x) lacked main more is whole none at_a_write found other = none whole
+stopped_nowhere P (Err stop.WriteFault) lacked main more is whole none at_a_write found other = at_a_write refl
+stopped_nowhere P (Err stop.ThreadFault) lacked main more is whole none at_a_write found other = absurd (other refl)
+stopped_nowhere P (Err stop.NoMemory) lacked main more is whole none at_a_write found other = let bad : true ≡ false = sym is ∙ found in absurd (cc bad)
+
 -- ---- the steps at the end
 module _ (heads : List AppHead) (h : Histories) (steps more : List Step) (at_end : DoneAtEnd heads (steps ++ more) h) where
   regrouped : (steps ++ more) ++ at_end.closing ≡ steps ++ (more ++ at_end.closing)
@@ -109,6 +117,7 @@ module _ {A : Type 0} (apps : List AppText) (statements : List Statement) (playe
         written = written_at_end played (is_any end.short.loopers) to.tolds old new to.written;
         all_lines = lines_by_main played (is_any end.short.loopers) end.short.main to.tolds old new main to.written;
         replies = replies end.short.loopers h (steps ++ (to.more ++ at_end.closing)) of_run.histories.ports done answered apps statements end.outcomes to.tolds to.blocks (to.more ++ at_end.closing) refl to.are;
+        stopped_nowhere = stopped_nowhere (length end.outcomes ≡ length statements) played (is_any end.short.loopers) end.short.main to.more main whole to.none_more to.none_at_a_write;
         whole = done_is_whole (length end.outcomes ≡ length statements) played (is_any end.short.loopers) whole;
         short = λ short. done_not_short played end.short (is_any end.short.loopers) main refl short;
         ran_short = lacking_is_short played end.short (is_any end.short.loopers) main refl;

@@ -1,5 +1,5 @@
 -- Statement after statement.
-use Rattle.std.proofs.Common.{◌≡◌, inl, inr, ℕ, List, [], ◌∷◌, ◌++◌, length, take, Some, None, Err, slice_get, refl, sym, ap, subst, append-nil, arith}
+use Rattle.std.proofs.Common.{◌≡◌, ◌≢◌, inl, inr, ℕ, List, [], ◌∷◌, ◌++◌, length, take, Some, None, Err, slice_get, refl, sym, ap, subst, append-nil, arith}
 use Rattle.std.specs.Prelude.{Option, Ok, Result, Bool, true, false}
 use Rattle.std.specs.Io.KnownBytes.{Appends}
 use Rattle.std.proofs.Math.Seq.{take-append_seam, take-length}
@@ -72,18 +72,20 @@ module _ (apps : List AppText) (statements : List Statement) where
       are = are_pushed on;
       more = [];
       none_more = λ all. refl;
+      none_at_a_write = λ at_a_write. refl;
       done = subst (λ (steps : List Step). HasDoneSoFar steps r') (sym (append-nil (all_steps (so_far.blocks ++ on.block ∷ [])))) (done_pushed on);
       written = written;
     }
 
     -- without one
-    stops_before : (end : Ending) → StopsShort os os' r r' mid new → IsWritten end so_far.tolds old new → IsPlayedTo apps statements os' end r' old new
-    stops_before end short written = record {
+    stops_before : (end : Ending) → end ≢ ending.WriteFault → StopsShort os os' r r' mid new → IsWritten end so_far.tolds old new → IsPlayedTo apps statements os' end r' old new
+    stops_before end other short written = record {
       tolds = so_far.tolds;
       blocks = so_far.blocks;
       are = subst (λ (outcomes : List Outcome). AreBlocks apps statements outcomes so_far.tolds so_far.blocks) (sym short.same) so_far.are;
       more = short.steps;
       none_more = λ all. absurd (omega (arith, all, ap length short.same, slice_get_within statements (length os) s at));
+      none_at_a_write = λ at_a_write. absurd (other at_a_write);
       done = done_then (all_steps so_far.blocks) short.steps r r' so_far.done short.does;
       written = written;
     }
@@ -111,8 +113,8 @@ module _ (apps : List AppText) (statements : List Statement) where
       short = on.written.1;
       written = Appends-joined old mid new (text_of so_far.tolds) (take on.written.0 (told_line on.told)) so_far.written on.written.2;
     })
-    play_stops stop.ThreadFault short = stops_before ending.ThreadFault short (Appends-no_more old mid new (text_of so_far.tolds) so_far.written short.written)
-    play_stops stop.NoMemory (inl short) = stops_before ending.NoMemory short (all_lines (Appends-no_more old mid new (text_of so_far.tolds) so_far.written short.written))
+    play_stops stop.ThreadFault short = stops_before ending.ThreadFault (λ at_a_write. absurd (cc at_a_write)) short (Appends-no_more old mid new (text_of so_far.tolds) so_far.written short.written)
+    play_stops stop.NoMemory (inl short) = stops_before ending.NoMemory (λ at_a_write. absurd (cc at_a_write)) short (all_lines (Appends-no_more old mid new (text_of so_far.tolds) so_far.written short.written))
     play_stops stop.NoMemory (inr on) = stops_behind ending.NoMemory on (but_the_last on.told (Appends-no_more old mid new (text_of so_far.tolds) so_far.written on.written))
 
   -- behind the last one
@@ -123,6 +125,7 @@ module _ (apps : List AppText) (statements : List Statement) where
     are = so_far.are;
     more = [];
     none_more = λ all. refl;
+    none_at_a_write = λ at_a_write. refl;
     done = subst (λ (steps : List Step). HasDoneSoFar steps r) (sym (append-nil (all_steps so_far.blocks))) so_far.done;
     written = so_far.written;
   }

@@ -92,6 +92,8 @@ pub record IsPlay (apps : List AppText) (statements : List Statement) (end : End
   pub replies : AreReplies run.short.loopers run.histories run.outcomes tolds
   -- it is done only where each statement has its outcome
   pub whole : end ≡ ending.Done → length run.outcomes ≡ length statements
+  -- where main found memory, and each thread was started, main did nothing for a statement without an outcome
+  pub stopped_nowhere : run.short.main ≡ false → end ≢ ending.ThreadFault → played.stopped ≡ []
   -- and nobody found no memory; where memory ran out, somebody did
   pub short : IsShort run.short → end ≢ ending.Done
   pub ran_short : end ≡ ending.NoMemory → IsShort run.short

@@ -72,6 +72,7 @@ pub record IsPlayedTo (apps : List AppText) (statements : List Statement) (outco
   pub are : AreBlocks apps statements outcomes tolds blocks
   pub more : List Step
   pub none_more : length outcomes ≡ length statements → more ≡ []
+  pub none_at_a_write : end ≡ ending.WriteFault → more ≡ []
   pub done : HasDoneSoFar (all_steps blocks ++ more) r
   pub written : IsWritten end tolds old new
 

@@ -1,5 +1,5 @@
 -- The application that is to start.
-use Rattle.std.proofs.Common.{◌≡◌, ℕ, zero, suc, ◌+◌, ◌≤◌, ◌<◌, List, [], ◌∷◌, length, map, get_or, Option, None, Some, refl, sym, ap, ◌∙◌, subst, arith, All}
+use Rattle.std.proofs.Common.{◌≡◌, ℕ, zero, suc, ◌+◌, ◌<◌, List, [], ◌∷◌, length, get_or, Option, Some, refl, sym, ap, ◌∙◌, subst, arith, All}
 use Rattle.std.specs.Prelude.{slice_get, option_map, unwrap_or}
 use Rattle.std.proofs.lemmas.List.{length-map}
 use Rattle.std.proofs.lemmas.List.Elements.{All-get_or}
@@ -17,7 +17,6 @@ use Rattle.ak_roster.specs.Machine.{launch_of, loopers_at, runs_team}
 use Rattle.ak_roster.specs.declared.team.Running.{Running}
 use Rattle.ak_roster.specs.Roster.{state}
 use Rattle.ak_roster.proofs.Surface.{started_facts}
-use Rattle.ak_action.specs.declared.plan.PlanParts.{PlanParts}
 use Rattle.ak_describe.specs.declared.described.AppText.{AppText}
 use Rattle.ak_describe.specs.Whole.{IsWholeApp, head_of, heads_of}
 use Rattle.ak_run.specs.declared.launching.Launch.{Launch}

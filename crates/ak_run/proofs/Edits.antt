@@ -1,5 +1,5 @@
 -- Main edits the handlers of a looper: one entry at its desk, or none.
-use Rattle.std.proofs.Common.{◌≡◌, ◌≢◌, ℕ, ◌<◌, ◌+◌, cond, List, [], ◌∷◌, ◌++◌, length, All, Some, None, refl, sym, ap, ◌∙◌, subst, append-nil, eq-eqb, ne_eqb}
+use Rattle.std.proofs.Common.{◌≡◌, ℕ, ◌<◌, ◌+◌, cond, List, [], ◌∷◌, ◌++◌, length, All, Some, None, refl, sym, ap, ◌∙◌, subst, append-nil, eq-eqb, ne_eqb}
 use Rattle.std.specs.Prelude.{get_or, option_map, set, slice_get, unwrap_or}
 use Rattle.std.proofs.lemmas.List.Elements.{All-cons, All-nil}
 use mathlib.Core.Logic.{dite}
@@ -17,11 +17,9 @@ use Rattle.ak_desk.specs.declared.entry.EditAnswer.TheVariants as answer
 use Rattle.ak_desk.specs.Desk.{edit_entry, entry_with, stamp_number}
 use Rattle.ak_desk.specs.Entry.{EntryData}
 use Rattle.ak_desk.specs.Shared as desks
-use Rattle.ak_desk.specs.Shared.{DeskSeat}
-use Rattle.ak_diary.specs.Step.{Step, at_desk, desk_entries}
+use Rattle.ak_diary.specs.Step.{at_desk, desk_entries}
 use Rattle.ak_headline.specs.Main.{begun, edits}
 use Rattle.ak_looper.specs.declared.door.Door.{Door}
-use Rattle.ak_looper.specs.Rosters.{plain_of}
 use Rattle.ak_run.specs.declared.answers.Edited.{Edited}
 use Rattle.ak_run.specs.declared.answers.Edited.TheVariants as edited
 use Rattle.ak_run.specs.declared.member.Member.{Member}

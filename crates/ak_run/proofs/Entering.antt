@@ -1,14 +1,13 @@
 -- What main enters at the roster, and how many loopers it starts.
-use Rattle.std.proofs.Common.{◌≡◌, ◌≢◌, ◌⊎◌, inl, inr, eq-eqb, ne_eqb, ℕ, zero, suc, ◌+◌, ◌<◌, ◌≤◌, Bool, true, false, cond, not, List, [], ◌∷◌, ◌++◌, length, map, filter, Option, None, Some, refl, sym, ap, ◌∙◌, subst, append-nil, arith, All}
-use Rattle.std.specs.Prelude.{IfSome, IsTrue, IsFalse, slice_get, slice_index_or, unwrap_or, option_map, if◌then◌else◌}
+use Rattle.std.proofs.Common.{◌≡◌, ◌≢◌, ◌⊎◌, inl, inr, eq-eqb, ne_eqb, ℕ, zero, suc, ◌+◌, ◌<◌, ◌≤◌, Bool, true, false, cond, not, List, [], ◌∷◌, ◌++◌, length, Option, None, Some, refl, sym, ap, ◌∙◌, subst, append-nil, arith, All}
+use Rattle.std.specs.Prelude.{IfSome, IsTrue, IsFalse, slice_get, unwrap_or, option_map, if◌then◌else◌}
 use Rattle.std.specs.List.{Any, find}
 use Rattle.std.proofs.lemmas.Option.{get_or_from_slice_get, slice_get_within}
-use Rattle.std.proofs.lemmas.List.Elements.{All-append, All-get_or, All-cons, All-filter, All-head, All-nil, All-weaker}
+use Rattle.std.proofs.lemmas.List.Elements.{All-append, All-get_or, All-cons, All-filter, All-nil, All-weaker}
 use mathlib.Core.Logic.{dite}
 use native.Mathlib.Decide.{ℕ_discrete}
 use Rattle.ak_base.proofs.Surface.{find-All}
 use Rattle.ak_base.specs.Thread.{main_thread}
-use Rattle.ak_base.specs.Limits.{looper_limit}
 use Rattle.ak_base.specs.declared.app_word.AppWord.{AppWord}
 use Rattle.ak_turn.specs.declared.clock.Clock.{Clock}
 use Rattle.ak_roster.specs.declared.answer.Decision.{Decision}

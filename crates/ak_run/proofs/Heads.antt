@@ -1,12 +1,11 @@
 -- A head knows which threads made nothing: those that have had no seat.
-use Rattle.std.proofs.Common.{◌≡◌, ◌≢◌, ℕ, true, List, [], ◌∷◌, map, Option, None, Some, is_some, refl, sym, ap, ◌∙◌, subst, All, Contains}
+use Rattle.std.proofs.Common.{◌≡◌, ◌≢◌, ℕ, true, List, [], map, Option, None, Some, is_some, refl, sym, ap, ◌∙◌, All, Contains}
 use Rattle.std.specs.Prelude.{IfSome}
 use Rattle.std.proofs.lemmas.List.Elements.{All-weaker, All-contains}
 use Rattle.ak_turn.specs.Entries.{AreByOthers, made_by}
 use Rattle.ak_turn.specs.Noted.{noted, entry_of}
-use Rattle.ak_turn.specs.Seats.{SeatData, KnowsWhole, new_seat, titled_seat}
+use Rattle.ak_turn.specs.Seats.{SeatData, KnowsWhole}
 use Rattle.ak_turn.specs.Steps.{IsNewName, names_with}
-use Rattle.ak_turn.specs.Laws.{SplitHeadsKnow, SplitSeatsKnow}
 use Rattle.ak_turn.proofs.Surface.{noted_is_made, noted-others}
 
 module _ {L : Type 0} (by : L → ℕ) where

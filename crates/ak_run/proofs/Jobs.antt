@@ -1,6 +1,5 @@
 -- The job of a looper that may start is ready.
-use Rattle.std.proofs.Common.{◌≡◌, ℕ, ◌+◌, ◌-◌, ◌<◌, ◌≤◌, Bool, true, false, cond, List, [], ◌∷◌, length, map, vec_items, All, Any, Option, None, Some, refl, sym, ap, ◌∙◌, subst, le-leb, lt-ltb, arith}
-use Rattle.std.specs.Prelude.{slice_get}
+use Rattle.std.proofs.Common.{◌≡◌, ℕ, ◌+◌, ◌-◌, ◌<◌, List, [], map, All, Any, sym, ap, ◌∙◌, subst, le-leb, lt-ltb, arith}
 use Rattle.std.specs.VecDeque.{deque_len, deque_capacity}
 use Rattle.std.proofs.lemmas.Bool.{and_from}
 use Rattle.std.proofs.lemmas.Option.{slice_get_within}
@@ -10,7 +9,6 @@ use Rattle.ak_base.specs.declared.thread.ThreadId.{ThreadId}
 use Rattle.ak_turn.specs.Entries.{StartsWith}
 use Rattle.ak_turn.specs.Noted.{noted}
 use Rattle.ak_roster.specs.declared.head.AppHead.{AppHead}
-use Rattle.ak_roster.specs.declared.entry.EntryWithObjects.{EntryWithObjects}
 use Rattle.ak_port.specs.PortCalls as ports
 use Rattle.ak_port.specs.PortCalls.{CanTake}
 use Rattle.ak_port.specs.ReplySeats as books
@@ -21,7 +19,7 @@ use Rattle.ak_looper.specs.declared.door.Door.{Door}
 use Rattle.ak_looper.specs.declared.job.LooperJob.{LooperJob}
 use Rattle.ak_looper.specs.Doors.{IsNewDoor}
 use Rattle.ak_looper.specs.Job.{IsReady, facts_of}
-use Rattle.ak_looper.specs.Rosters.{LeadsTo, Object, RosterSeat, maker_of, plain_of}
+use Rattle.ak_looper.specs.Rosters.{LeadsTo, RosterSeat, maker_of, plain_of}
 use Rattle.ak_looper.specs.Stands.{DoorStands, StartsTeam, doors_kept}
 use Rattle.ak_run.specs.declared.launching.Team.{Team}
 use Rattle.ak_run.specs.declared.new_looper.NewLooper.{NewLooper}

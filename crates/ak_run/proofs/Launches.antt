@@ -1,5 +1,5 @@
 -- Behind main's turn at the roster, in which it launched.
-use Rattle.std.proofs.Common.{◌≡◌, ℕ, ◌+◌, ◌<◌, ◌≤◌, false, List, [], ◌∷◌, ◌++◌, length, length-append, map, Option, None, Some, refl, sym, ap, ◌∙◌, subst, append-nil, inl, inr, arith, All}
+use Rattle.std.proofs.Common.{◌≡◌, ℕ, ◌+◌, ◌<◌, ◌≤◌, List, [], ◌∷◌, ◌++◌, length, length-append, map, Option, None, Some, refl, sym, ap, ◌∙◌, subst, append-nil, inl, inr, arith, All}
 use Rattle.std.proofs.lemmas.List.Elements.{All-cons, All-head, All-nil}
 use Rattle.std.proofs.lemmas.List.{length-map}
 use Rattle.std.specs.Prelude.{slice_get}
@@ -8,13 +8,11 @@ use Rattle.ak_base.specs.declared.app_word.AppWord.{AppWord}
 use Rattle.ak_turn.specs.Entries.{StartsWith}
 use Rattle.ak_message.specs.Message.{MessageData}
 use Rattle.ak_turn.specs.Noted.{note}
-use Rattle.ak_base.specs.Limits.{app_looper_limit}
 use Rattle.ak_base.specs.Thread.{main_thread}
 use Rattle.ak_turn.specs.Seats.{IsGiven, IsNext, KnowsWhole, at_leisure, entered_by}
 use Rattle.ak_roster.specs.declared.answer.FindAnswer.{FindAnswer}
 use Rattle.ak_roster.specs.declared.answer.FindAnswer.TheVariants as found_by
 use Rattle.ak_roster.specs.declared.entry.EntryWithObjects.{EntryWithObjects}
-use Rattle.ak_roster.specs.declared.head.AppHead.{AppHead}
 use Rattle.ak_roster.specs.declared.entry.LaunchOutcome.{LaunchOutcome}
 use Rattle.ak_roster.specs.declared.entry.LaunchOutcome.TheVariants as outcome
 use Rattle.ak_roster.specs.declared.entry.RosterEntry.{RosterEntry}
@@ -27,7 +25,6 @@ use Rattle.ak_roster.specs.Roster.{objects_of, plain_entries, state}
 use Rattle.ak_describe.specs.Whole.{heads_of}
 use Rattle.ak_diary.specs.Step.{Step, at_roster, desk_entry, port_sights, roster_sights, saw_roster}
 use Rattle.ak_headline.specs.Main.{finds_gone}
-use Rattle.ak_action.specs.declared.state.DeskState.{DeskState}
 use Rattle.ak_describe.specs.declared.described.AppText.{AppText}
 use Rattle.ak_port.specs.declared.port_entry.PortEntry.{PortEntry}
 use Rattle.ak_looper.specs.Rosters.{Object, RosterSeat, by_number, plain_of}
@@ -44,12 +41,12 @@ use Rattle.ak_run.specs.Doing.{DoesSo, FindsAt, FoundSo, LaunchesAt}
 use Rattle.ak_run.specs.Entering.{DoesWith, EntersLaunch, EntersRunning, LaunchesLast}
 use Rattle.ak_run.specs.Finding.{IsFoundAt, LooksUp}
 use Rattle.ak_run.specs.Greeting.{at_looper, capacities_in, made_from, start_entries, told_first, written_from}
-use Rattle.ak_run.specs.Jobs.{HasWays, IsStartedIn, facts_in}
+use Rattle.ak_run.specs.Jobs.{facts_in}
 use Rattle.ak_run.specs.Launching.{Book, ByMain, ComesTo, HasEntered, HasStarted, TellsTeam}
 use Rattle.ak_run.specs.NewTeam.{IsNewTeam, IsOneOf}
 use Rattle.ak_run.specs.Recording.{GoesBy, fronts, fronts_of, fronts_with, list_at, member_front, new_front, team_fronts}
 use Rattle.ak_run.specs.Running.{IsRunning, KeepsRest, Stands}
-use Rattle.ak_run.specs.Starting.{HasEnteredLaunch, MayStartTeam, launched_fronts}
+use Rattle.ak_run.specs.Starting.{HasEnteredLaunch, launched_fronts}
 use Rattle.ak_run.proofs.Acting.{turn_no_edits, turn_step}
 use Rattle.ak_run.proofs.Acts.{goes_then, nothing_after, one_act}
 use Rattle.ak_run.proofs.Doing.{does_with}

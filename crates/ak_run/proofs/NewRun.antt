@@ -5,7 +5,7 @@ use Rattle.std.specs.Prelude.{get_or}
 use Rattle.std.proofs.lemmas.List.{map_more}
 use Rattle.std.proofs.lemmas.List.Elements.{All-cons, All-nil}
 use Rattle.ak_base.specs.Limits.{looper_limit}
-use Rattle.ak_base.specs.Thread.{looper_thread, main_thread}
+use Rattle.ak_base.specs.Thread.{main_thread}
 use Rattle.ak_turn.specs.Noted.{StandsIn}
 use Rattle.ak_turn.specs.Seats.{KnowsWhole, LockId, first_seat}
 use Rattle.ak_turn.proofs.Surface.{first_knows}
@@ -23,7 +23,7 @@ use Rattle.ak_run.specs.declared.run.Run.{Run}
 use Rattle.ak_run.specs.Counting.{started_by_main}
 use Rattle.ak_run.specs.Doing.{HasDoneSoFar, desk_front}
 use Rattle.ak_run.proofs.Recorded.{nothing_yet}
-use Rattle.ak_run.specs.Running.{AreBelow, HasRoomToEnd, IsBelow, IsMember, IsOpenedAs, IsRunning, Stands}
+use Rattle.ak_run.specs.Running.{AreBelow, HasRoomToEnd, IsBelow, IsMember, IsOpenedAs, IsRunning}
 
 -- the heads of one application more
 pub heads_more : (apps : List AppText) (index : ℕ) (app : AppText) (head : AppHead) (heads heads' : List AppHead) → index < length apps → app ≡ get_or apps index app → head ≡ head_of app

@@ -1,5 +1,5 @@
 -- What main enters at the ports of a team that starts, and what it tells the first looper.
-use Rattle.std.proofs.Common.{◌≡◌, ◌≢◌, ℕ, zero, suc, ◌+◌, ◌<◌, ◌≤◌, Bool, true, false, cond, List, [], ◌∷◌, ◌++◌, length, length-append, map, All, Contains, Option, None, Some, Result, Ok, Err, refl, sym, ap, ◌∙◌, subst, append_assoc, append-nil, lt-ltb, ltb-true, arith}
+use Rattle.std.proofs.Common.{◌≡◌, ◌≢◌, ℕ, zero, suc, ◌+◌, ◌<◌, ◌≤◌, Bool, true, false, List, [], ◌∷◌, ◌++◌, length, length-append, map, All, Contains, Option, None, Some, Result, Ok, Err, refl, sym, ap, ◌∙◌, subst, append_assoc, append-nil, lt-ltb, ltb-true, arith}
 use Rattle.std.specs.Prelude.{◌↔◌, IfSome, IsErrOf, IsSomeAnd, OnOk, nat_lt, slice_get, take, if◌then◌else◌}
 use Rattle.std.specs.List.{flat_map}
 use Rattle.std.proofs.lemmas.List.{map-append}
@@ -37,7 +37,7 @@ use Rattle.ak_run.specs.declared.run.Run.{Run}
 use Rattle.ak_run.specs.Doing.{EnteredSo}
 use Rattle.ak_run.specs.Greeting.{AnswersSend, AreMains, EachMains, EntersEach, HasSent, IsAlone, SendsEach, arguments_told, at_looper, events_of, from_main, greeting_item, items_told, made_event, capacities_in, made_events, made_from, port_events, written_from}
 use Rattle.ak_run.specs.Opening.{opened_front}
-use Rattle.ak_run.specs.Recording.{Fronts, GoesBy, Records, fronts, list_at}
+use Rattle.ak_run.specs.Recording.{Fronts, GoesBy, fronts, list_at}
 use Rattle.ak_run.proofs.Acts.{GoesAtBoth, May, adds_there, both_goes, goes_then, none_behind, nothing_after, push_other, same_goes, seam_other, steps_there, there_diary}
 
 -- ---- main's own entries, each with what stands before it

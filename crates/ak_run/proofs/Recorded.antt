@@ -1,8 +1,8 @@
 -- A run's calls as acts of main's.
-use Rattle.std.proofs.Common.{◌≡◌, ◌≢◌, ℕ, zero, suc, ◌<◌, false, List, [], ◌∷◌, ◌++◌, length, map, All, refl, sym, ap, ◌∙◌, subst, append_assoc, append-nil, arith, Option}
+use Rattle.std.proofs.Common.{◌≡◌, ◌≢◌, ℕ, zero, suc, ◌<◌, false, List, [], ◌∷◌, ◌++◌, length, map, refl, sym, ap, ◌∙◌, subst, append_assoc, arith, Option}
 use Rattle.std.specs.Prelude.{get_or, set}
 use Rattle.std.proofs.lemmas.List.{get_or-set_other, get_or-set_same, length-append, length-map, map-append, map-set}
-use Rattle.std.proofs.lemmas.List.Elements.{All-cons, All-head, All-nil, All-tail}
+use Rattle.std.proofs.lemmas.List.Elements.{All-nil}
 use Rattle.std.proofs.Math.Seq.{get_or-append_seam}
 use Rattle.ak_base.specs.Thread.{main_thread}
 use Rattle.ak_turn.specs.Entries.{AreByOthers, StartsWith}
@@ -15,23 +15,16 @@ use Rattle.ak_roster.specs.Roster.{plain_entries}
 use Rattle.ak_port.specs.declared.port_entry.PortEntry.{PortEntry}
 use Rattle.ak_port.specs.declared.reply_entry.ReplyEntry.{ReplyEntry}
 use Rattle.ak_port.specs.PortCalls as at_ports
-use Rattle.ak_action.specs.declared.plan.PlanParts.{PlanParts}
-use Rattle.ak_diary.specs.Step.{Step, book_entry, desk_entry, roster_entry}
+use Rattle.ak_diary.specs.Step.{Step}
 use Rattle.ak_headline.specs.Main.{IsMainDiary, begun}
 use Rattle.ak_looper.specs.declared.door.Door.{Door}
-use Rattle.ak_looper.specs.declared.kept_door.KeptDoor.{KeptDoor}
 use Rattle.ak_looper.specs.Rosters.{Object, RosterSeat, by_number, plain_of}
 use Rattle.ak_run.specs.declared.member.Member.{Member}
-use Rattle.ak_run.specs.declared.new_looper.NewLooper.{NewLooper}
-use Rattle.ak_run.specs.declared.new_looper.Shared.{Shared}
-use Rattle.ak_run.specs.declared.new_team.NewTeam.{NewTeam}
 use Rattle.ak_run.specs.declared.run.Run.{Run}
 use Rattle.ak_run.specs.Launching.{Book, HasEntered}
-use Rattle.ak_run.specs.NewTeam.{AreOthers, IsNewTeam}
-use Rattle.ak_run.specs.Entering.{AreAtPorts}
-use Rattle.ak_run.specs.Recording.{AddsAtPort, Fronts, GoesBy, HasRecord, IsRecorded, Records, RecordsBeside, RecordsStart, StartsQuietly, fronts, fronts_of, fronts_with, list_at, member_front, new_front, team_fronts}
+use Rattle.ak_run.specs.Recording.{AddsAtPort, Fronts, GoesBy, HasRecord, IsRecorded, Records, RecordsBeside, RecordsStart, StartsQuietly, fronts, fronts_of, fronts_with, list_at, member_front}
 use Rattle.ak_run.proofs.Acting.{roster_goes, turn_no_edits, turn_step}
-use Rattle.ak_run.proofs.Acts.{GoesAtBoth, adds_there, both_goes, goes_then, no_book, no_roster, none_behind, nothing_after, port_records, push_other, recorded_on, records_then, same_fronts, same_goes, seam_other, set_before, steps_there, there_diary}
+use Rattle.ak_run.proofs.Acts.{GoesAtBoth, both_goes, port_records, recorded_on, records_then, same_fronts, seam_other, set_before}
 use Rattle.ak_run.proofs.RosterTurn.{sees_all}
 
 -- ---- main's diary

@@ -1,13 +1,12 @@
 -- Main's turn at the roster: how many loopers its own entries start, and how its seat goes on.
-use Rattle.std.proofs.Common.{◌≡◌, ◌≢◌, ℕ, ◌+◌, ◌≤◌, suc, false, List, [], ◌∷◌, ◌++◌, length, map, cond, refl, sym, ap, ◌∙◌, subst, append_assoc, append-nil, eq-eqb, arith, All, Option}
+use Rattle.std.proofs.Common.{◌≡◌, ◌≢◌, ℕ, ◌+◌, ◌≤◌, false, List, [], ◌∷◌, ◌++◌, length, cond, refl, sym, ap, ◌∙◌, subst, append_assoc, append-nil, eq-eqb, arith, All, Option}
 use Rattle.std.proofs.lemmas.List.{map-append}
 use Rattle.std.proofs.lemmas.List.Elements.{All-head, All-tail, All-map, filter-append}
 use Rattle.ak_base.specs.Thread.{main_thread}
 use Rattle.ak_turn.specs.Called.{KeepsSeat}
 use Rattle.ak_turn.specs.Entries.{AreByOthers, StartsWith, made_by}
-use Rattle.ak_turn.specs.Noted.{entry_of}
 use Rattle.ak_turn.specs.Seats.{IsGiven, KnowsWhole, at_leisure, entered_by}
-use Rattle.ak_turn.proofs.Surface.{keeps_same, noted-others, noted_is_made, passing_keeps, turn_keeps}
+use Rattle.ak_turn.proofs.Surface.{keeps_same, passing_keeps, turn_keeps}
 use Rattle.ak_roster.specs.declared.head.AppHead.{AppHead}
 use Rattle.ak_roster.specs.declared.entry.EntryWithObjects.{EntryWithObjects}
 use Rattle.ak_roster.specs.declared.entry.RosterEntry.{RosterEntry}
@@ -15,6 +14,7 @@ use Rattle.ak_roster.specs.declared.entry.RosterEvent.{RosterEvent}
 use Rattle.ak_roster.specs.Kept.{count_of}
 use Rattle.ak_roster.specs.Roster.{plain_entries}
 use Rattle.ak_looper.specs.Rosters.{Object, RosterSeat, by_number, maker_of}
+use Rattle.ak_looper.proofs.Surface.{made_on}
 use Rattle.ak_run.specs.Counting.{started_by_main, started_in}
 use Rattle.ak_run.specs.Launching.{Book, HasEntered}
 
@@ -33,11 +33,7 @@ module _ (heads : List AppHead) where
   started-append [] ys = none_before (started_in heads ys)
   started-append (x ∷ xs) ys = ap (λ n. count_of heads x.event + n) (started-append xs ys) ∙ regroup (count_of heads x.event) (started_in heads xs) (started_in heads ys)
 
--- what others made is none of the thread's, and what it made itself is all its own
-made_on : (thread : ℕ) (front between : List RosterEntry) → AreByOthers maker_of thread between → made_by maker_of thread (front ++ between) ≡ made_by maker_of thread front
-made_on thread front between others =
-    sym (noted_is_made maker_of thread (front ++ between)) ∙ ap (map entry_of) (noted-others maker_of thread front between others) ∙ noted_is_made maker_of thread front
-
+-- what the thread made itself is all its own
 made_own : (thread : ℕ) (xs : List RosterEntry) → All (λ (entry : RosterEntry). entry.by.0 ≡ thread) xs → made_by maker_of thread xs ≡ xs
 made_own thread [] all = refl
 made_own thread (x ∷ xs) all =
@@ -53,7 +49,7 @@ made_in_all thread front between added others mine =
     let plain = λ (entry : EntryWithObjects Object). entry.plain in
     ap (made_by maker_of thread) (plain-append (front ++ between) added ∙ ap (λ l. l ++ plain_entries added) (plain-append front between))
     ∙ filter-append _ (plain_entries front ++ plain_entries between) (plain_entries added)
-    ∙ ap (λ l. l ++ made_by maker_of thread (plain_entries added)) (made_on thread (plain_entries front) (plain_entries between) (All-map (λ (entry : RosterEntry). entry.by.0 ≢ thread) plain between others))
+    ∙ ap (λ l. l ++ made_by maker_of thread (plain_entries added)) (made_on maker_of thread (plain_entries front) (plain_entries between) (All-map (λ (entry : RosterEntry). entry.by.0 ≢ thread) plain between others))
     ∙ ap (λ l. made_by maker_of thread (plain_entries front) ++ l) (made_own thread (plain_entries added) (All-map (λ (entry : RosterEntry). entry.by.0 ≡ thread) plain added mine))
 
 -- ---- main's seat goes on, by entries that start so many loopers

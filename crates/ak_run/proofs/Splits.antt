@@ -4,12 +4,12 @@ use Rattle.std.specs.Prelude.{slice_get}
 use Rattle.std.specs.Arc.{arc_value}
 use Rattle.std.specs.List.{range_with_len}
 use Rattle.std.proofs.lemmas.List.{length-append, map-append}
-use Rattle.std.proofs.lemmas.List.Elements.{All-map, All-push, All-weaker, Contains-append_left}
+use Rattle.std.proofs.lemmas.List.Elements.{All-map, All-push, All-weaker}
 use Rattle.ak_base.specs.Limits.{looper_limit}
-use Rattle.ak_base.specs.Thread.{looper_thread, main_thread}
+use Rattle.ak_base.specs.Thread.{looper_thread}
 use Rattle.ak_turn.specs.Entries.{AreByOthers, StartsWith}
 use Rattle.ak_turn.specs.Noted.{noted}
-use Rattle.ak_turn.specs.Seats.{KnowsWhole, SeatData, new_seat, titled_seat}
+use Rattle.ak_turn.specs.Seats.{KnowsWhole, new_seat}
 use Rattle.ak_turn.specs.Steps.{IsNewName, names_with}
 use Rattle.ak_turn.proofs.Surface.{noted-others, starts_then_starts}
 use Rattle.ak_roster.specs.declared.head.AppHead.{AppHead}
@@ -19,7 +19,6 @@ use Rattle.ak_roster.specs.Roster.{plain_entries}
 use Rattle.ak_port.specs.ReplySeats as books
 use Rattle.ak_port.specs.ReplySeats.{ReplySeat}
 use Rattle.ak_action.specs.declared.plan.PlanParts.{PlanParts}
-use Rattle.ak_action.specs.declared.state.DeskState.{DeskState}
 use Rattle.ak_action.specs.Opening.{Opens}
 use Rattle.ak_describe.specs.Whole.{IsWholeApp, heads_of, looper_names}
 use Rattle.ak_looper.specs.declared.door.Door.{Door}
@@ -34,7 +33,7 @@ use Rattle.ak_run.specs.declared.new_looper.Shared.{Shared}
 use Rattle.ak_run.specs.declared.run.Run.{Run}
 use Rattle.ak_run.specs.Counting.{started_by_main}
 use Rattle.ak_run.specs.Gathering.{HasRoomFor, HoldsNothing}
-use Rattle.ak_run.specs.Jobs.{CanStart, HasWays, IsJobOf, facts_in}
+use Rattle.ak_run.specs.Jobs.{CanStart, IsJobOf}
 use Rattle.ak_run.specs.Members.{IsLifeOf, StillLeads}
 use Rattle.ak_run.specs.NewLooper.{IsNewLooper}
 use Rattle.ak_run.specs.Opened.{IsLaunchOf}

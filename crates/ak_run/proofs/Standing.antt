@@ -1,12 +1,11 @@
 -- A run stands on, whatever main's call changes.
-use Rattle.std.proofs.Common.{◌≡◌, ℕ, ◌+◌, ◌<◌, ◌≤◌, zero, suc, List, [], ◌∷◌, length, map, refl, sym, ap, ◌∙◌, subst, append-nil, arith, All, vec_len, vec_capacity, Option, None, Some}
+use Rattle.std.proofs.Common.{◌≡◌, ℕ, ◌+◌, ◌<◌, ◌≤◌, List, [], length, map, sym, ap, ◌∙◌, subst, append-nil, arith, All, vec_capacity, Some}
 use Rattle.std.specs.Prelude.{get_or, set, slice_get}
 use Rattle.std.proofs.lemmas.List.Elements.{All-get_or, All-set, All-weaker}
 use Rattle.std.proofs.lemmas.List.{length-set}
 use Rattle.std.proofs.Math.Seq.{map-set_same}
 use Rattle.std.specs.List.{range_with_len}
 use Rattle.ak_base.specs.Limits.{looper_limit}
-use Rattle.ak_base.specs.Thread.{looper_thread, main_thread}
 use Rattle.ak_turn.specs.Called.{KeepsSeat}
 use Rattle.ak_turn.specs.Entries.{StartsWith}
 use Rattle.ak_turn.specs.Seats.{KnowsWhole, LockId}

@@ -1,40 +1,34 @@
 -- A launch that starts a team.
-use Rattle.std.proofs.Common.{◌≡◌, ℕ, ◌+◌, ◌≤◌, List, [], ◌∷◌, ◌++◌, length, map, Option, Some, refl, sym, ap, ◌∙◌, subst, arith, append-nil}
+use Rattle.std.proofs.Common.{◌≡◌, ℕ, ◌+◌, ◌≤◌, List, [], ◌∷◌, ◌++◌, length, map, Some, sym, ap, ◌∙◌, subst, arith, append-nil}
 use Rattle.std.specs.Prelude.{replicate}
 use Rattle.std.specs.List.{Any}
 use Rattle.std.proofs.lemmas.List.{length-map}
 use Rattle.std.proofs.lemmas.List.Concat.{flat_map-append}
 use Rattle.std.proofs.lemmas.List.Quantifiers.{Any-push}
-use Rattle.std.specs.Arc.{arc_value}
 use Rattle.ak_base.specs.Limits.{looper_limit}
 use Rattle.ak_base.specs.Thread.{main_thread}
 use Rattle.ak_base.specs.declared.app_word.AppWord.{AppWord}
 use Rattle.ak_turn.specs.declared.clock.Clock.{Clock}
-use Rattle.ak_roster.specs.declared.answer.Launched.{Launched}
-use Rattle.ak_roster.specs.declared.answer.Launched.TheVariants as launched
 use Rattle.ak_roster.specs.declared.entry.EntryWithObjects.{EntryWithObjects}
 use Rattle.ak_roster.specs.declared.entry.LaunchOutcome.{LaunchOutcome}
 use Rattle.ak_roster.specs.declared.entry.LaunchOutcome.TheVariants as launch
 use Rattle.ak_roster.specs.declared.entry.RosterEvent.TheVariants as event
-use Rattle.ak_roster.specs.declared.head.AppHead.{AppHead}
 use Rattle.ak_roster.specs.Answers.{IsStarted}
 use Rattle.ak_roster.specs.Kept.{count_of}
 use Rattle.ak_roster.specs.Machine.{LooperData, launch_of, loopers_at, loopers_of}
 use Rattle.ak_roster.specs.Roster.{AreKept, Enters, IsAtRest, IsRoster, new_entry, objects_of, state}
 use Rattle.ak_roster.proofs.Surface.{started_facts}
-use Rattle.ak_action.specs.declared.plan.PlanParts.{PlanParts}
 use Rattle.ak_action.specs.declared.state.DeskState.{DeskState}
 use Rattle.ak_describe.specs.declared.described.AppText.{AppText}
 use Rattle.ak_looper.specs.declared.kept_door.KeptDoor.{KeptDoor}
 use Rattle.ak_looper.specs.Rosters.{Object}
 use Rattle.ak_looper.specs.Stands.{StartsTeam}
 use Rattle.ak_run.specs.declared.launching.StartedTeam.{StartedTeam}
-use Rattle.ak_run.specs.declared.launching.Team.{Team}
 use Rattle.ak_run.specs.declared.new_looper.Shared.{Shared}
 use Rattle.ak_run.specs.declared.new_team.Making.{Making}
 use Rattle.ak_run.specs.declared.new_team.NewTeam.{NewTeam}
 use Rattle.ak_run.specs.Jobs.{facts_in}
-use Rattle.ak_run.specs.Launching.{Book, HasEntered, HasStarted, IsDecided, IsMade, object_of}
+use Rattle.ak_run.specs.Launching.{Book, HasEntered, HasStarted, IsDecided, IsMade}
 use Rattle.ak_run.specs.NewTeam.{IsNewTeam}
 use Rattle.ak_run.proofs.Counting.{threads}
 use Rattle.ak_run.proofs.Entering.{one_entered}

@@ -1,5 +1,5 @@
 -- Main ends team after team.
-use Rattle.std.proofs.Common.{◌≡◌, ◌≢◌, ℕ, zero, suc, ◌+◌, ◌<◌, ◌≤◌, Bool, true, false, cond, ◌||◌, List, [], ◌∷◌, ◌++◌, length, All, Option, None, Some, refl, sym, ap, ◌∙◌, subst, append_assoc, append-nil, arith}
+use Rattle.std.proofs.Common.{◌≡◌, ℕ, zero, suc, ◌+◌, ◌<◌, ◌≤◌, Bool, true, false, cond, ◌||◌, List, [], ◌∷◌, ◌++◌, length, All, Option, None, Some, refl, sym, ap, ◌∙◌, subst, append_assoc, append-nil, arith}
 use Rattle.std.specs.Prelude.{IfSome, IsFalse, IsTrue, get_or, is_some, set}
 use Rattle.std.specs.List.{find, list_any, range_with_len}
 use Rattle.std.proofs.lemmas.List.Concat.{flat_map-append}
@@ -13,7 +13,6 @@ use Rattle.ak_turn.proofs.Surface.{starts_then_starts}
 use Rattle.ak_roster.specs.Heads.{IsHeads}
 use Rattle.ak_roster.specs.Machine.{IsHistory, runs_team}
 use Rattle.ak_roster.specs.Roster.{Enters, Stays, plain_entries, state}
-use Rattle.ak_roster.specs.declared.entry.RosterEntry.{RosterEntry}
 use Rattle.ak_roster.specs.declared.entry.RosterEvent.{RosterEvent}
 use Rattle.ak_roster.specs.declared.entry.RosterEvent.TheVariants as event
 use Rattle.ak_roster.specs.declared.head.AppHead.{AppHead}
@@ -28,11 +27,9 @@ use Rattle.ak_run.specs.declared.run.Run.{Run}
 use Rattle.ak_run.specs.Closing.{ClosesSo, EndsTeam, EndsTeams, LeavesBook, LeavesSo, ports_of}
 use Rattle.ak_run.specs.Launching.{Book, HasEntered}
 use Rattle.ak_run.specs.Recording.{fronts_of, list_at}
-use Rattle.ak_run.specs.Starting.{GoesOn}
 use Rattle.ak_run.proofs.Acting.{ActsAtBoth, SeesShut}
 use Rattle.ak_run.proofs.Acts.{goes_then, same_goes}
 use Rattle.ak_run.proofs.Entering.{all_started, none_entered, one_entered}
-use Rattle.ak_run.proofs.GoingOn.{plain_on}
 use Rattle.ak_run.proofs.Recorded.{call_goes, fronts_same, others_still, saw_front, sees_front}
 
 -- ---- steps

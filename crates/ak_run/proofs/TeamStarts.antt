@@ -1,6 +1,6 @@
 -- The loopers of a team start, one after another.
-use Rattle.std.proofs.Common.{◌≡◌, ℕ, zero, suc, ◌+◌, ◌-◌, ◌≤◌, ◌<◌, List, [], ◌∷◌, ◌++◌, length, length-append, map, refl, sym, ap, ◌∙◌, subst, ne_eqb, arith, All}
-use Rattle.std.specs.Prelude.{if◌then◌else◌, slice_index_or}
+use Rattle.std.proofs.Common.{◌≡◌, ℕ, suc, ◌+◌, ◌-◌, ◌≤◌, List, [], ◌∷◌, ◌++◌, length, length-append, sym, ap, ◌∙◌, subst, ne_eqb, arith, All}
+use Rattle.std.specs.Prelude.{if◌then◌else◌}
 use Rattle.std.specs.Arc.{arc_value}
 use Rattle.std.specs.List.{Any, range_with_len}
 use Rattle.std.proofs.lemmas.List.{get_or_append_left}
@@ -10,15 +10,13 @@ use Rattle.ak_turn.specs.Entries.{StartsWith}
 use Rattle.ak_roster.specs.declared.head.AppHead.{AppHead}
 use Rattle.ak_action.specs.declared.plan.PlanParts.{PlanParts}
 use Rattle.ak_action.specs.declared.state.DeskState.{DeskState}
-use Rattle.ak_diary.specs.Looper.{LooperFacts}
 use Rattle.ak_looper.specs.declared.door.Door.{Door}
 use Rattle.ak_looper.specs.declared.kept_door.KeptDoor.{KeptDoor}
 use Rattle.ak_looper.specs.Doors.{IsNewDoor}
 use Rattle.ak_looper.specs.Rosters.{LeadsTo, RosterSeat, plain_of}
-use Rattle.ak_looper.specs.Stands.{StartsTeam, doors_kept}
+use Rattle.ak_looper.specs.Stands.{StartsTeam}
 use Rattle.ak_run.specs.declared.launching.Team.{Team}
 use Rattle.ak_run.specs.declared.new_looper.NewLooper.{NewLooper}
-use Rattle.ak_run.specs.declared.new_looper.Shared.{Shared}
 use Rattle.ak_run.specs.declared.new_team.NewTeam.{NewTeam}
 use Rattle.ak_run.specs.declared.run.Run.{Run}
 use Rattle.ak_run.specs.Jobs.{HasWays, IsStartedFrom, IsStartedIn, facts_in}

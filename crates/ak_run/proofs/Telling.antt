@@ -36,7 +36,7 @@ use Rattle.ak_diary.specs.Laws.{HasDiary}
 use Rattle.ak_diary.specs.Looper.{LooperFacts, desk_list, doors_got, last_quits}
 use Rattle.ak_diary.specs.Step.{book_entries, book_sights, desk_entries, port_entries, ran_short, roster_entries}
 use Rattle.ak_headline.specs.Run as headline
-use Rattle.ak_headline.specs.Run.{HasDone, HasLooper, StartedTeam, port_list}
+use Rattle.ak_headline.specs.Run.{HasLooper, StartedTeam, port_list}
 use Rattle.ak_looper.specs.declared.door.Door.{Door}
 use Rattle.ak_looper.specs.declared.job.LooperEnd.{LooperEnd}
 use Rattle.ak_looper.specs.declared.job.LooperJob.{LooperJob}

@@ -1,5 +1,5 @@
 -- The doors of a team that is about to start are those that the roster is to keep, and its own looper's lead where the roster says.
-use Rattle.std.proofs.Common.{◌≡◌, ℕ, zero, suc, ◌+◌, ◌-◌, ◌<◌, ◌≤◌, List, [], ◌∷◌, ◌++◌, length, length-append, map, Option, None, Some, refl, sym, ap, ◌∙◌, subst, append_assoc, eq-eqb, arith, All, Contains}
+use Rattle.std.proofs.Common.{◌≡◌, ℕ, zero, suc, ◌+◌, ◌-◌, List, [], ◌∷◌, ◌++◌, length, length-append, map, Option, Some, refl, sym, ap, ◌∙◌, subst, append_assoc, eq-eqb, arith, All, Contains}
 use Rattle.std.specs.Prelude.{IfSome, replicate, slice_get, if◌then◌else◌}
 use Rattle.std.specs.List.{range_with_len}
 use Rattle.std.specs.Arc.{arc_value}
@@ -10,18 +10,16 @@ use Rattle.ak_roster.specs.Machine.{LooperData, holders}
 use Rattle.ak_roster.specs.Roster.{AreKept, AreSame, objects_of}
 use Rattle.ak_action.specs.declared.plan.PlanParts.{PlanParts}
 use Rattle.ak_action.specs.declared.state.DeskState.{DeskState}
-use Rattle.ak_diary.specs.Looper.{LooperFacts}
 use Rattle.ak_looper.specs.declared.door.Door.{Door}
 use Rattle.ak_looper.specs.declared.kept_door.KeptDoor.{KeptDoor}
 use Rattle.ak_looper.specs.Doors.{IsNewDoor, door_object}
 use Rattle.ak_looper.specs.Rosters.{LeadsTo, Object, RosterSeat}
-use Rattle.ak_looper.specs.Stands.{doors_kept}
 use Rattle.ak_run.specs.declared.new_looper.NewLooper.{NewLooper}
 use Rattle.ak_run.specs.declared.new_looper.Shared.{Shared}
 use Rattle.ak_run.specs.declared.new_team.NewTeam.{NewTeam}
 use Rattle.ak_run.specs.Jobs.{HasWays}
-use Rattle.ak_run.specs.NewLooper.{IsKept, other_threads, own_threads}
-use Rattle.ak_run.specs.NewTeam.{AreOthers, IsNewTeam, IsOther}
+use Rattle.ak_run.specs.NewLooper.{other_threads, own_threads}
+use Rattle.ak_run.specs.NewTeam.{AreOthers, IsNewTeam}
 use Rattle.ak_run.specs.Starting.{IsPaired}
 use Rattle.ak_run.proofs.Counting.{threads}
 

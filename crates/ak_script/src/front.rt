@@ -2,8 +2,8 @@ ghost use Rattle.std.specs.Prelude.{◌≡◌};
 ghost use Rattle.ak_describe.specs.Words.{texts};
 ghost use Rattle.ak_script.specs.Pass as reads;
 
-use crate::words::{behind, ends};
 use ak_base::RefusalKind;
+use ak_describe::{behind, ends};
 use ak_message::Word;
 
 /// What is wrong with the words of the first line, which are `kit 1`.

@@ -9,9 +9,8 @@ use crate::part::Part;
 use crate::said::statement_of;
 use crate::script::STATEMENT_LIMIT;
 use crate::statement::Statement;
-use crate::words::{behind, ends};
 use ak_base::RefusalKind;
-use ak_describe::FirstPass;
+use ak_describe::{FirstPass, behind, ends};
 use ak_message::{Line, Word};
 use std::alloc::Global;
 

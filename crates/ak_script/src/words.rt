@@ -1,12 +1,13 @@
 //! Reads words of a line in their order. A reader answers what it read and the words behind it.
 
 ghost use Rattle.std.specs.Prelude.{◌≡◌, ◌≤◌, codes, option_map, IfSome};
-ghost use Rattle.ak_describe.specs.Seen.{word_and_rest, rest_seen};
+ghost use Rattle.ak_describe.specs.Seen.{word_and_rest};
 ghost use Rattle.ak_describe.specs.Words as reads;
 ghost use Rattle.ak_describe.specs.Words.{texts};
 ghost use Rattle.ak_script.specs.Forms as forms;
 ghost use Rattle.ak_script.specs.Seen.{bytes_seen, read_and_rest};
 
+use ak_describe::{behind, ends};
 use ak_message::{Word, read_uint};
 
 /// The first of the words.
@@ -15,25 +16,6 @@ pub(crate) fn first_of(words: &[Word]) -> Option<(&[u8], &[Word])>
 {
     let (first, rest) = words.split_first()?;
     Some((first.bytes.as_slice(), rest))
-}
-
-/// The words behind that one, if it is the first.
-pub(crate) fn behind<'a>(words: &'a [Word], word: &[u8]) -> Option<&'a [Word]>
-    ensures { option_map rest_seen result ≡ reads.behind (texts words.now) word.now }
-{
-    let (first, rest) = words.split_first()?;
-    if first.bytes.as_slice() == word {
-        Some(rest)
-    } else {
-        None
-    }
-}
-
-/// Whether no word is left.
-pub(crate) fn ends(words: &[Word]) -> bool
-    ensures { result ≡ reads.ends (texts words.now) }
-{
-    words.is_empty()
 }
 
 /// One word alone.

@@ -15,8 +15,9 @@ ghost use Rattle.ak_script.specs.Seen.{items_of, statement_seen};
 use crate::fault::{FormFault, StatementFault};
 use crate::messages::{arguments_message, is_short};
 use crate::statement::{Launch, Statement};
-use crate::words::{behind, ends, first_of};
+use crate::words::first_of;
 use ak_base::{AppWord, Limited, NoMemory, Text, is_path, is_signature};
+use ak_describe::{behind, ends};
 use ak_message::{ParseFault, VALUE_LIMIT, Word, read_quoted};
 use std::alloc::Global;
 

@@ -1,9 +1,9 @@
 -- One message after the other leaves main's door as one does, and each is told.
-use Rattle.std.proofs.Common.{Bor, ◌≡◌, ◌∷◌, ◌++◌, Option, refl, sym, subst}
+use Rattle.std.proofs.Common.{Bor, Option, subst}
 use Rattle.std.specs.Prelude.{option_map}
 use Rattle.ak_message.specs.declared.message.Message.{Message}
 use Rattle.ak_message.specs.Message.{MessageData}
-use Rattle.ak_run.specs.Greeting.{HasSent, IsAlone, arguments_told, made_event, ready_message, told_first, written_from}
+use Rattle.ak_run.specs.Greeting.{HasSent, arguments_told, ready_message}
 use Rattle.ak_run.proofs.PortsAtStart.{on_ok, sends_alone, told_few}
 use Rattle.ak_run.proofs.NewDoors.{keeps_then_keeps}
 use Rattle.ak_run.proofs.greeting.greet.Goals as goal

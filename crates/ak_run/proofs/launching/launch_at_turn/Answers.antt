@@ -1,5 +1,5 @@
 -- What was decided is what it comes to.
-use Rattle.std.proofs.Common.{Bor, ℕ, List, Option, length, ◌≡◌, ◌+◌, sym, ap, ◌∙◌, subst}
+use Rattle.std.proofs.Common.{Bor, List, Option, length, sym, ap, ◌∙◌, subst}
 use Rattle.std.specs.Prelude.{option_map}
 use Rattle.ak_message.specs.Message.{MessageData}
 use Rattle.ak_message.specs.declared.message.Message.{Message}

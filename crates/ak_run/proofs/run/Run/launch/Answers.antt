@@ -1,5 +1,5 @@
 -- A team that was launched starts; then each looper that was launched has its thread. What main did is told by the answer.
-use Rattle.std.proofs.Common.{arith, refl, ◌∙◌}
+use Rattle.std.proofs.Common.{arith, refl}
 use Rattle.ak_roster.specs.declared.entry.LaunchOutcome.TheVariants as outcome
 use Rattle.ak_run.specs.Entering.{LaunchesLast}
 use Rattle.ak_run.specs.Recording.{team_fronts}

@@ -1,6 +1,5 @@
 -- One looper starts: its seats are split from main's, it gets its life, and it is put behind the others.
 use Rattle.std.proofs.Common.{ℕ, ◌≡◌, ◌+◌, ◌<◌, length, None, refl, sym, ap, subst, ◌∙◌, vec_capacity}
-use Rattle.ak_base.specs.Thread.{looper_thread}
 use Rattle.ak_turn.specs.Seats.{new_seat}
 use Rattle.ak_turn.specs.Steps.{IsNewName}
 use Rattle.ak_looper.specs.declared.door.Door.{Door}
