@@ -69,6 +69,28 @@ lines_by_main (Err stop.WriteFault) lacked main tolds old new is written found e
 lines_by_main (Err stop.ThreadFault) lacked main tolds old new is written found end = absurd (cc end)
 lines_by_main (Err stop.NoMemory) lacked main tolds old new is written found end = let bad : true ≡ false = sym is ∙ found in absurd (cc bad)
 
+-- so it is where main found memory, no write failed and each thread was started
+whole_by_main : {A : Type 0} (P : Type 0) (played : Result A Stop) (lacked main : Bool) → main ≡ is_lack played → OnOk played P → main ≡ false → ended_as played lacked ≢ ending.WriteFault → ended_as played lacked ≢ ending.ThreadFault → P
+whole_by_main P (Ok x) lacked main is whole found no_write no_start = whole
+whole_by_main P (Err stop.WriteFault) lacked main is whole found no_write no_start = absurd (no_write refl)
+whole_by_main P (Err stop.ThreadFault) lacked main is whole found no_write no_start = absurd (no_start refl)
+whole_by_main P (Err stop.NoMemory) lacked main is whole found no_write no_start = let bad : true ≡ false = sym is ∙ found in absurd (cc bad)
+
+-- where main found none, that is how it ended
+main_short : {A : Type 0} (played : Result A Stop) (lacked main : Bool) → main ≡ is_lack played → main ≡ true → ended_as played lacked ≡ ending.NoMemory
+main_short (Ok x) lacked main is lacks = let bad : false ≡ true = sym is ∙ lacks in absurd (cc bad)
+main_short (Err stop.WriteFault) lacked main is lacks = let bad : false ≡ true = sym is ∙ lacks in absurd (cc bad)
+main_short (Err stop.ThreadFault) lacked main is lacks = let bad : false ≡ true = sym is ∙ lacks in absurd (cc bad)
+main_short (Err stop.NoMemory) lacked main is lacks = refl
+
+-- a thread fault is one of what was carried out
+refused_before : {A : Type 0} (played : Result A Stop) (lacked : Bool) → ended_as played lacked ≡ ending.ThreadFault → stopped_as played ≡ ending.ThreadFault
+refused_before (Ok x) true refused = absurd (cc refused)
+refused_before (Ok x) false refused = absurd (cc refused)
+refused_before (Err stop.WriteFault) lacked refused = absurd (cc refused)
+refused_before (Err stop.ThreadFault) lacked refused = refl
+refused_before (Err stop.NoMemory) lacked refused = absurd (cc refused)
+
 -- where main found memory, and each thread was started, it stopped at no statement
 stopped_nowhere : {A : Type 0} (P : Type 0) (played : Result A Stop) (lacked main : Bool) (more : List Step) → main ≡ is_lack played → OnOk played P → (P → more ≡ []) → (stopped_as played ≡ ending.WriteFault → more ≡ []) → main ≡ false
     → ended_as played lacked ≢ ending.ThreadFault → more ≡ []
@@ -118,6 +140,9 @@ module _ {A : Type 0} (apps : List AppText) (statements : List Statement) (playe
         all_lines = lines_by_main played (is_any end.short.loopers) end.short.main to.tolds old new main to.written;
         replies = replies end.short.loopers h (steps ++ (to.more ++ at_end.closing)) of_run.histories.ports done answered apps statements end.outcomes to.tolds to.blocks (to.more ++ at_end.closing) refl to.are;
         stopped_nowhere = stopped_nowhere (length end.outcomes ≡ length statements) played (is_any end.short.loopers) end.short.main to.more main whole to.none_more to.none_at_a_write;
+        whole_by_main = whole_by_main (length end.outcomes ≡ length statements) played (is_any end.short.loopers) end.short.main main whole;
+        at_a_launch = λ refused. to.at_a_launch (refused_before played (is_any end.short.loopers) refused);
+        main_short = main_short played (is_any end.short.loopers) end.short.main main;
         whole = done_is_whole (length end.outcomes ≡ length statements) played (is_any end.short.loopers) whole;
         short = λ short. done_not_short played end.short (is_any end.short.loopers) main refl short;
         ran_short = lacking_is_short played end.short (is_any end.short.loopers) main refl;

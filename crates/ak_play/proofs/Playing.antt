@@ -1,6 +1,6 @@
 -- Statement after statement.
-use Rattle.std.proofs.Common.{◌≡◌, ◌≢◌, inl, inr, ℕ, List, [], ◌∷◌, ◌++◌, length, take, Some, None, Err, slice_get, refl, sym, ap, subst, append-nil, arith}
-use Rattle.std.specs.Prelude.{Option, Ok, Result, Bool, true, false}
+use Rattle.std.proofs.Common.{◌≡◌, ◌≢◌, inl, inr, ℕ, List, [], ◌∷◌, ◌++◌, length, take, Some, None, Err, slice_get, refl, sym, ap, ◌∙◌, subst, append-nil, arith}
+use Rattle.std.specs.Prelude.{Option, Ok, Result, Bool, true, false, IsSomeAnd}
 use Rattle.std.specs.Io.KnownBytes.{Appends}
 use Rattle.std.proofs.Math.Seq.{take-append_seam, take-length}
 use Rattle.std.proofs.lemmas.List.{length_push}
@@ -18,7 +18,7 @@ use Rattle.ak_run.specs.Doing.{HasDoneSoFar}
 use Rattle.ak_play.specs.declared.outcome.Outcome.{Outcome}
 use Rattle.ak_play.specs.declared.stop.Stop.{Stop}
 use Rattle.ak_play.specs.declared.stop.Stop.TheVariants as stop
-use Rattle.ak_play.specs.Blocks.{AreBlocks, IsBlock}
+use Rattle.ak_play.specs.Blocks.{AreBlocks, IsBlock, IsLaunch}
 use Rattle.ak_play.specs.Play.{IsStopped, IsWritten, all_steps, text_of}
 use Rattle.ak_play.specs.Steps.{HasStepped, IsPlayedSoFar, IsPlayedTo, StepsOn, StopsShort, ended_as, stopped_as}
 use Rattle.ak_play.proofs.Doing.{done_then}
@@ -65,27 +65,29 @@ module _ (apps : List AppText) (statements : List Statement) where
     }
 
     -- with its outcome, and what was written then
-    stops_behind : {W : List ℕ → Type 0} (end : Ending) (on : StepsOn apps s os os' r r' W) → IsWritten end (so_far.tolds ++ on.told ∷ []) old new → IsPlayedTo apps statements os' end r' old new
-    stops_behind end on written = record {
+    stops_behind : {W : List ℕ → Type 0} (end : Ending) → end ≢ ending.ThreadFault → (on : StepsOn apps s os os' r r' W) → IsWritten end (so_far.tolds ++ on.told ∷ []) old new → IsPlayedTo apps statements os' end r' old new
+    stops_behind end other on written = record {
       tolds = so_far.tolds ++ on.told ∷ [];
       blocks = so_far.blocks ++ on.block ∷ [];
       are = are_pushed on;
       more = [];
       none_more = λ all. refl;
       none_at_a_write = λ at_a_write. refl;
+      at_a_launch = λ refused. absurd (other refused);
       done = subst (λ (steps : List Step). HasDoneSoFar steps r') (sym (append-nil (all_steps (so_far.blocks ++ on.block ∷ [])))) (done_pushed on);
       written = written;
     }
 
     -- without one
-    stops_before : (end : Ending) → end ≢ ending.WriteFault → StopsShort os os' r r' mid new → IsWritten end so_far.tolds old new → IsPlayedTo apps statements os' end r' old new
-    stops_before end other short written = record {
+    stops_before : (end : Ending) → end ≢ ending.WriteFault → (end ≡ ending.ThreadFault → IsLaunch s) → StopsShort os os' r r' mid new → IsWritten end so_far.tolds old new → IsPlayedTo apps statements os' end r' old new
+    stops_before end other launch short written = record {
       tolds = so_far.tolds;
       blocks = so_far.blocks;
       are = subst (λ (outcomes : List Outcome). AreBlocks apps statements outcomes so_far.tolds so_far.blocks) (sym short.same) so_far.are;
       more = short.steps;
       none_more = λ all. absurd (omega (arith, all, ap length short.same, slice_get_within statements (length os) s at));
       none_at_a_write = λ at_a_write. absurd (other at_a_write);
+      at_a_launch = λ refused. subst (λ (o : Option Statement). IsSomeAnd o IsLaunch) (sym (ap (λ (l : List Outcome). slice_get statements (length l)) short.same ∙ at)) (launch refused);
       done = done_then (all_steps so_far.blocks) short.steps r r' so_far.done short.does;
       written = written;
     }
@@ -105,7 +107,7 @@ module _ (apps : List AppText) (statements : List Statement) where
     }
 
     pub play_stops : (why : Stop) → HasStepped {A = Unit {0}} apps s (Err why) os os' r r' mid new → IsPlayedTo apps statements os' (stopped_as {A = Unit {0}} (Err why)) r' old new
-    play_stops stop.WriteFault on = stops_behind ending.WriteFault on (record {
+    play_stops stop.WriteFault on = stops_behind ending.WriteFault (λ refused. absurd (cc refused)) on (record {
       front = so_far.tolds;
       last = on.told;
       tolds_are = refl;
@@ -113,9 +115,10 @@ module _ (apps : List AppText) (statements : List Statement) where
       short = on.written.1;
       written = Appends-joined old mid new (text_of so_far.tolds) (take on.written.0 (told_line on.told)) so_far.written on.written.2;
     })
-    play_stops stop.ThreadFault short = stops_before ending.ThreadFault (λ at_a_write. absurd (cc at_a_write)) short (Appends-no_more old mid new (text_of so_far.tolds) so_far.written short.written)
-    play_stops stop.NoMemory (inl short) = stops_before ending.NoMemory (λ at_a_write. absurd (cc at_a_write)) short (all_lines (Appends-no_more old mid new (text_of so_far.tolds) so_far.written short.written))
-    play_stops stop.NoMemory (inr on) = stops_behind ending.NoMemory on (but_the_last on.told (Appends-no_more old mid new (text_of so_far.tolds) so_far.written on.written))
+    play_stops stop.ThreadFault (launch, short) =
+        stops_before ending.ThreadFault (λ at_a_write. absurd (cc at_a_write)) (λ refused. launch) short (Appends-no_more old mid new (text_of so_far.tolds) so_far.written short.written)
+    play_stops stop.NoMemory (inl short) = stops_before ending.NoMemory (λ at_a_write. absurd (cc at_a_write)) (λ refused. absurd (cc refused)) short (all_lines (Appends-no_more old mid new (text_of so_far.tolds) so_far.written short.written))
+    play_stops stop.NoMemory (inr on) = stops_behind ending.NoMemory (λ refused. absurd (cc refused)) on (but_the_last on.told (Appends-no_more old mid new (text_of so_far.tolds) so_far.written on.written))
 
   -- behind the last one
   pub play_ends : (os : List Outcome) (r : Run) (old new : Option (List ℕ)) → IsPlayedSoFar apps statements os r old new → IsPlayedTo apps statements os ending.Done r old new
@@ -126,6 +129,7 @@ module _ (apps : List AppText) (statements : List Statement) where
     more = [];
     none_more = λ all. refl;
     none_at_a_write = λ at_a_write. refl;
+    at_a_launch = λ refused. absurd (cc refused);
     done = subst (λ (steps : List Step). HasDoneSoFar steps r) (sym (append-nil (all_steps so_far.blocks))) so_far.done;
     written = so_far.written;
   }

@@ -32,6 +32,13 @@ use Rattle.ak_run.specs.Doing.{Answered, EditsAt, FindsAt, FindsRunning, Launche
 use Rattle.ak_play.specs.declared.outcome.Outcome.{Outcome}
 use Rattle.ak_play.specs.declared.outcome.Outcome.TheVariants as came
 
+-- ---- kinds of statements
+abbrev pub IsLaunch : Statement → Type 0
+IsLaunch (statement.Launch l) = Unit {0}
+IsLaunch (statement.Hey h) = ⊥
+IsLaunch (statement.Post p) = ⊥
+IsLaunch (statement.Lock l) = ⊥
+
 -- ---- what is sent
 -- a hey line's message goes to the preferred handler of the first looper, from nobody's team
 abbrev pub hey_item : Hey → ItemData

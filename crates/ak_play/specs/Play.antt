@@ -1,5 +1,5 @@
 -- A script that was carried out: what main did for its statements, and what was written of them.
-use Rattle.std.specs.Prelude.{◌≡◌, ◌≢◌, ◌≤◌, ◌<◌, ◌+◌, ◌⊎◌, ℕ, true, false, List, [], ◌∷◌, ◌++◌, length, take, All, Option}
+use Rattle.std.specs.Prelude.{◌≡◌, ◌≢◌, ◌≤◌, ◌<◌, ◌+◌, ◌⊎◌, ℕ, true, false, List, [], ◌∷◌, ◌++◌, length, slice_get, take, All, IsSomeAnd, Option}
 use Rattle.std.specs.List.{flat_map}
 use Rattle.std.specs.Io.KnownBytes.{Appends}
 use Rattle.ak_base.specs.declared.ending.Ending.{Ending}
@@ -23,7 +23,7 @@ use Rattle.ak_play.specs.declared.outcome.Outcome.{Outcome}
 use Rattle.ak_play.specs.declared.outcome.Outcome.TheVariants as came
 use Rattle.ak_play.specs.declared.run_end.RunEnd.{RunEnd}
 use Rattle.ak_play.specs.declared.run_end.Short.{Short}
-use Rattle.ak_play.specs.Blocks.{AreBlocks}
+use Rattle.ak_play.specs.Blocks.{AreBlocks, IsLaunch}
 
 abbrev pub all_steps : List (List Step) → List Step
 all_steps blocks = flat_map (λ (block : List Step). block) blocks
@@ -92,11 +92,16 @@ pub record IsPlay (apps : List AppText) (statements : List Statement) (end : End
   pub replies : AreReplies run.short.loopers run.histories run.outcomes tolds
   -- it is done only where each statement has its outcome
   pub whole : end ≡ ending.Done → length run.outcomes ≡ length statements
+  -- so it is where main found memory, no write failed and each thread was started
+  pub whole_by_main : run.short.main ≡ false → end ≢ ending.WriteFault → end ≢ ending.ThreadFault → length run.outcomes ≡ length statements
+  -- a thread that was not started is one of the launch that comes next
+  pub at_a_launch : end ≡ ending.ThreadFault → IsSomeAnd (slice_get statements (length run.outcomes)) IsLaunch
   -- where main found memory, and each thread was started, main did nothing for a statement without an outcome
   pub stopped_nowhere : run.short.main ≡ false → end ≢ ending.ThreadFault → played.stopped ≡ []
   -- and nobody found no memory; where memory ran out, somebody did
   pub short : IsShort run.short → end ≢ ending.Done
   pub ran_short : end ≡ ending.NoMemory → IsShort run.short
+  pub main_short : run.short.main ≡ true → end ≡ ending.NoMemory
 
 -- the endings of a script that is carried out
 abbrev pub IsPlayEnding : Ending → Type 0

@@ -1,5 +1,5 @@
 -- Statements carried out one after the other: what one adds, and how far a run came.
-use Rattle.std.specs.Prelude.{◌≡◌, ◌⊎◌, ℕ, List, [], ◌∷◌, ◌++◌, length, Bool, true, false, Option, Result, Ok, Err}
+use Rattle.std.specs.Prelude.{◌≡◌, ◌⊎◌, ℕ, List, [], ◌∷◌, ◌++◌, length, slice_get, Bool, true, false, IsSomeAnd, Option, Result, Ok, Err}
 use Rattle.std.specs.Io.KnownBytes.{Appends}
 use Rattle.ak_base.specs.declared.ending.Ending.{Ending}
 use Rattle.ak_base.specs.declared.ending.Ending.TheVariants as ending
@@ -14,7 +14,7 @@ use Rattle.ak_run.specs.Doing.{Does, HasDoneSoFar}
 use Rattle.ak_play.specs.declared.outcome.Outcome.{Outcome}
 use Rattle.ak_play.specs.declared.stop.Stop.{Stop}
 use Rattle.ak_play.specs.declared.stop.Stop.TheVariants as stop
-use Rattle.ak_play.specs.Blocks.{AreBlocks, IsBlock}
+use Rattle.ak_play.specs.Blocks.{AreBlocks, IsBlock, IsLaunch}
 use Rattle.ak_play.specs.Play.{IsWritten, all_steps, text_of}
 
 -- ---- one statement
@@ -45,7 +45,7 @@ pub record StopsShort (outcomes outcomes' : List Outcome) (r r' : Run) (old new 
 abbrev pub HasStepped : {A : Type 0} → List AppText → Statement → Result A Stop → List Outcome → List Outcome → Run → Run → Option (List ℕ) → Option (List ℕ) → Type 0
 HasStepped apps s (Ok _) outcomes outcomes' r r' old new = StepsOn apps s outcomes outcomes' r r' (Appends old new)
 HasStepped apps s (Err stop.WriteFault) outcomes outcomes' r r' old new = StepsOn apps s outcomes outcomes' r r' (AppendsPart old new)
-HasStepped apps s (Err stop.ThreadFault) outcomes outcomes' r r' old new = StopsShort outcomes outcomes' r r' old new
+HasStepped apps s (Err stop.ThreadFault) outcomes outcomes' r r' old new = IsLaunch s × StopsShort outcomes outcomes' r r' old new
 HasStepped apps s (Err stop.NoMemory) outcomes outcomes' r r' old new =
     StopsShort outcomes outcomes' r r' old new ⊎ StepsOn apps s outcomes outcomes' r r' (λ line. Appends old new [])
 
@@ -73,6 +73,7 @@ pub record IsPlayedTo (apps : List AppText) (statements : List Statement) (outco
   pub more : List Step
   pub none_more : length outcomes ≡ length statements → more ≡ []
   pub none_at_a_write : end ≡ ending.WriteFault → more ≡ []
+  pub at_a_launch : end ≡ ending.ThreadFault → IsSomeAnd (slice_get statements (length outcomes)) IsLaunch
   pub done : HasDoneSoFar (all_steps blocks ++ more) r
   pub written : IsWritten end tolds old new
 

@@ -3,7 +3,7 @@ ghost use Rattle.std.specs.Prelude.{◌≡◌, ◌≤◌, ◌+◌, [], length, v
 ghost use Rattle.ak_outside.specs.Faults.{Rose};
 ghost use Rattle.ak_run.specs.Running.{IsRunning};
 ghost use Rattle.ak_run.specs.Doing.{DoesSo, HasDoneSoFar};
-ghost use Rattle.ak_play.specs.Blocks.{IsBlock};
+ghost use Rattle.ak_play.specs.Blocks.{IsBlock, IsLaunch};
 ghost use Rattle.ak_play.specs.Came.{MayCome};
 ghost use Rattle.ak_play.specs.Steps.{HasStepped, IsPlayedTo, stopped_as};
 
@@ -33,6 +33,7 @@ fn carry_out<W: Spawner, G: Gate + 'static, R: Threads + Wait + Copy + Send + 's
     requires running { IsRunning run.old }
     ensures did { DoesSo (MayCome (IsBlock run.old.apps.items statement.now) result) run.old run.new }
     ensures not_written { IsErrOf result Stop.WriteFault → ⊥ }
+    ensures at_a_launch { IsErrOf result Stop.ThreadFault → IsLaunch statement.now }
     ensures cause { IsErrOf result Stop.ThreadFault → Rose (W.faults spawner.old) (W.faults spawner.new) }
     ensures kept { ¬ (IsErrOf result Stop.ThreadFault) → W.faults spawner.new ≡ W.faults spawner.old }
     ensures never_falls { W.faults spawner.old ≤ W.faults spawner.new }
