@@ -1,7 +1,7 @@
 -- Of the items that owe a slot one was asked, by the thread that opened the slot; each other one came from a looper that sent it on, and is the same message.
 use Rattle.std.proofs.Common.{◌≡◌, ◌⊎◌, ℕ, zero, suc, ◌<◌, ◌≤◌, ◌==◌, Bool, true, false, cond, List, [], ◌∷◌, ◌++◌, length, filter, All, Contains, Some, slice_get, refl, sym, ap, ◌∙◌, subst, inl, inr, ⊎_elim, arith, eq-eqb, eqb-true}
 use Rattle.std.proofs.lemmas.List.Elements.{All-contains}
-use Rattle.ak_base.specs.Thread.{looper_thread, main_thread}
+use Rattle.ak_base.specs.Thread.{looper_thread}
 use Rattle.ak_flatten.specs.declared.item.Duty.{Duty}
 use Rattle.ak_flatten.specs.declared.item.Duty.TheVariants as duty
 use Rattle.ak_flatten.specs.declared.item.Taken.{Taken}
@@ -20,15 +20,16 @@ use Rattle.ak_diary.specs.declared.histories.Histories.{Histories}
 use Rattle.ak_diary.specs.Step.{Step, port_entries}
 use Rattle.ak_diary.specs.Wants.{forwarded_item}
 use Rattle.ak_headline.specs.Answers.{CameFrom, IsAccepted, IsSameMessage, WasWrittenBy, WentOn, doing, opens, owes}
-use Rattle.ak_headline.specs.Run.{IsOfRun, desk_list, port_list}
-use Rattle.ak_headline.specs.Sends.{HasAsk, SendsOn, SendsSo}
+use Rattle.ak_headline.specs.Run.{desk_list, port_list}
+use Rattle.ak_headline.specs.Sends.{HasAsk, SendsOn}
 use Rattle.ak_headline.specs.Tally.{at_slot, how_many, writes_owing}
-use Rattle.ak_headline.proofs.Accounts.{Account, IsToldBy}
+use Rattle.ak_headline.proofs.Accounts.{Account}
 use Rattle.ak_headline.proofs.Asking.{ask_there, none_in}
+use Rattle.ak_headline.proofs.Clients.{Client, IsToldBy}
 use Rattle.ak_headline.proofs.Counts.{filter_both, one_among}
 use Rattle.ak_headline.proofs.Replies.{HasGone}
 use Rattle.ak_headline.proofs.Senders.{ask_opens, accepted_there, noted_behind, noted_by, noted_there, one_ask, parted_in, writes_item, written_at}
-use Rattle.ak_headline.proofs.Shares.{made_is_noted, steps_at_book}
+use Rattle.ak_headline.proofs.Shares.{IsClientOrLooper, made_is_noted, steps_at_book}
 
 slot_owes : (n : ℕ) (d : Duty) → d ≡ duty.Slot n → owes n d ≡ true
 slot_owes n d e = ap (owes n) e ∙ eq-eqb n n refl
@@ -95,7 +96,7 @@ module _ (h : Histories) (short : List ℕ) (n : ℕ) (accounts : (k : ℕ) → 
         };
       }
 
-  module _ (main : List Step) (main_told : IsToldBy h main_thread main) (main_sends : SendsSo n 0 [] main) (port_makers : (looper : ℕ) → All (λ (entry : PortEntry). IsOfRun h entry.by.0) (port_list h looper))
+  module _ (count : ℕ) (few_clients : count ≤ looper_thread 0) (clients : (k : ℕ) → Client h n count k) (port_makers : (looper : ℕ) → All (λ (entry : PortEntry). IsClientOrLooper h count entry.by.0) (port_list h looper))
       (opened : ReplyEntry) (opened_once : doing (opens n) h.book ≡ opened ∷ []) where
     -- the thread asked it
     pub record AskIn (steps : List Step) (number at : ℕ) (other : ItemData) : Type 0 where
@@ -104,7 +105,7 @@ module _ (h : Histories) (short : List ℕ) (n : ℕ) (accounts : (k : ℕ) → 
       pub event_is : x.entry.event ≡ event.Written at other
 
     abbrev pub IsAskedAt : ℕ → ℕ → ItemData → Type 0
-    IsAskedAt number at other = AskIn main number at other ⊎ ((k : ℕ) × AskIn (accounts k).steps number at other)
+    IsAskedAt number at other = ((k : ℕ) × (k < count) × AskIn (clients k).steps number at other) ⊎ ((k : ℕ) × AskIn (accounts k).steps number at other)
 
     -- ---- who opened the slot
     abbrev opens_it : ReplyEntry → Bool
@@ -137,15 +138,20 @@ module _ (h : Histories) (short : List ℕ) (n : ℕ) (accounts : (k : ℕ) → 
         let both : event.Written at other ≡ event.Written at' other' = sym a.event_is ∙ ap (λ (x : Noted PortEntry). x.entry.event) one.1 ∙ b.event_is in
         (one.0, cc both)
 
+    by_client : (number at : ℕ) (other : ItemData) (a : (k : ℕ) × (k < count) × AskIn (clients k).steps number at other) → opened.by.0 ≡ a.0
+    by_client number at other (k, within, ask) = by_opener k (clients k).steps ((clients k).told within) number at other ask
+
+    by_looper : (number at : ℕ) (other : ItemData) (a : (k : ℕ) × AskIn (accounts k).steps number at other) → opened.by.0 ≡ looper_thread a.0
+    by_looper number at other (k, ask) = by_opener (looper_thread k) (accounts k).steps (accounts k).told number at other ask
+
     one_place : (number at number' at' : ℕ) (other other' : ItemData) → IsAskedAt number at other → IsAskedAt number' at' other' → (number ≡ number') × (at ≡ at')
-    one_place number at number' at' other other' (inl a) (inl b) = in_one main_thread main main_told number at number' at' other other' a b
-    one_place number at number' at' other other' (inl a) (inr b) =
-        absurd (omega (arith, by_opener main_thread main main_told number at other a, by_opener (looper_thread b.0) (accounts b.0).steps (accounts b.0).told number' at' other' b.1))
-    one_place number at number' at' other other' (inr a) (inl b) =
-        absurd (omega (arith, by_opener main_thread main main_told number' at' other' b, by_opener (looper_thread a.0) (accounts a.0).steps (accounts a.0).told number at other a.1))
+    one_place number at number' at' other other' (inl a) (inl b) =
+        let same : b.0 ≡ a.0 = omega (arith, by_client number at other a, by_client number' at' other' b) in
+        in_one a.0 (clients a.0).steps ((clients a.0).told a.1) number at number' at' other other' a.2 (subst (λ (k : ℕ). AskIn (clients k).steps number' at' other') same b.2)
+    one_place number at number' at' other other' (inl a) (inr b) = absurd (omega (arith, a.1, few_clients, by_client number at other a, by_looper number' at' other' b))
+    one_place number at number' at' other other' (inr a) (inl b) = absurd (omega (arith, b.1, few_clients, by_client number' at' other' b, by_looper number at other a))
     one_place number at number' at' other other' (inr a) (inr b) =
-        let same : b.0 ≡ a.0 =
-        omega (arith, by_opener (looper_thread a.0) (accounts a.0).steps (accounts a.0).told number at other a.1, by_opener (looper_thread b.0) (accounts b.0).steps (accounts b.0).told number' at' other' b.1) in
+        let same : b.0 ≡ a.0 = omega (arith, by_looper number at other a, by_looper number' at' other' b) in
         in_one (looper_thread a.0) (accounts a.0).steps (accounts a.0).told number at number' at' other other' a.1 (subst (λ (k : ℕ). AskIn (accounts k).steps number' at' other') same b.1)
 
     -- ---- where each item is from
@@ -179,14 +185,16 @@ module _ (h : Histories) (short : List ℕ) (n : ℕ) (accounts : (k : ℕ) → 
     is_from : (number at : ℕ) (other : ItemData) → IsAccepted h n number at other → IsAskedAt number at other ⊎ CameFrom h n number at other
     is_from number at other is =
         let w = written_at (port_list h number) at (record { position = at; item = other }) is.accepted in
-        let of : IsOfRun h w.entry.by.0 = All-contains (λ (entry : PortEntry). IsOfRun h entry.by.0) (port_list h number) w.entry (port_makers number) (parted_in (port_list h number) w.entry w.before w.behind w.there) in
+        let of : IsClientOrLooper h count w.entry.by.0 =
+        All-contains (λ (entry : PortEntry). IsClientOrLooper h count entry.by.0) (port_list h number) w.entry (port_makers number) (parted_in (port_list h number) w.entry w.before w.behind w.there) in
         ⊎_elim
-        (λ (by_main : w.entry.by.0 ≡ main_thread).
-        let m = step_of h main_thread main main_told number w.before w.entry w.behind w.there by_main in
+        (λ (within : w.entry.by.0 < count).
+        let client = clients w.entry.by.0 in
+        let m = step_of h w.entry.by.0 client.steps (client.told within) number w.before w.entry w.behind w.there refl in
         let event_is : m.0.entry.event ≡ event.Written at other = ap (λ (k : PortEntry). k.event) m.2 ∙ w.event_is in
-        ⊎_elim (λ (ask : HasAsk n number m.0 main). inl (inl (record { x = m.0; ask = ask; event_is = event_is })))
+        ⊎_elim (λ (ask : HasAsk n number m.0 client.steps). inl (inl (w.entry.by.0, within, record { x = m.0; ask = ask; event_is = event_is })))
         (λ (none : (entry : EntryData) × Contains [] entry × SendsOn n 0 entry number m.0). absurd (none_in none.0 none.1))
-        (main_sends.wrote number m.0 m.1 (owes_so number at other is w.entry m.0 m.2 w.event_is)))
+        (client.sends.wrote number m.0 m.1 (owes_so number at other is w.entry m.0 m.2 w.event_is)))
         (λ (one : (k : ℕ) × (k < length h.ports.items) × (w.entry.by.0 ≡ looper_thread k)).
         let account = accounts one.0 in
         let m = step_of h (looper_thread one.0) account.steps account.told number w.before w.entry w.behind w.there one.2 in
@@ -221,8 +229,8 @@ module _ (h : Histories) (short : List ℕ) (n : ℕ) (accounts : (k : ℕ) → 
           written = subst (WasWrittenBy h looper w.position w.item) (sym by) written;
         }
 
-    pub the_ask : (1 ≤ how_many (at_slot (takes n)) main) ⊎ ((k : ℕ) × (1 ≤ how_many (at_slot (takes n)) (accounts k).steps)) → TheAsk
-    the_ask (inl some) = ask_of main_thread main main_told (λ number at item a. inl a) (main_sends.took some)
+    pub the_ask : ((k : ℕ) × (k < count) × (1 ≤ how_many (at_slot (takes n)) (clients k).steps)) ⊎ ((k : ℕ) × (1 ≤ how_many (at_slot (takes n)) (accounts k).steps)) → TheAsk
+    the_ask (inl (k, within, some)) = ask_of k (clients k).steps ((clients k).told within) (λ number at item a. inl (k, within, a)) ((clients k).sends.took some)
     the_ask (inr (k, some)) = ask_of (looper_thread k) (accounts k).steps (accounts k).told (λ number at item a. inr (k, a)) ((accounts k).sends.took some)
 
     module _ (ask : TheAsk) where

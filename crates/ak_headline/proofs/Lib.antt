@@ -1,6 +1,8 @@
 pub mod Accounts
+pub mod ActsTold
 pub mod Asked
 pub mod Asking
+pub mod Clients
 pub mod Counting
 pub mod Counts
 pub mod Filling
@@ -9,7 +11,6 @@ pub mod Later
 pub mod Lists
 pub mod Loopers
 pub mod LoopersTold
-pub mod MainTold
 pub mod Once
 pub mod OneReply
 pub mod Owing

@@ -1,7 +1,8 @@
 -- Each accepted waiting send got one reply.
-use Rattle.std.proofs.Common.{◌≡◌, ◌⊎◌, ℕ, ◌<◌, ◌≤◌, ◌==◌, Bool, true, cond, List, [], ◌∷◌, length, map, filter, All, Contains, slice_get, refl, sym, ap, ◌∙◌, subst, inl, inr, ⊎_elim, arith, eq-eqb, eqb-true}
+use Rattle.std.proofs.Common.{◌≡◌, ◌⊎◌, ℕ, suc, ◌<◌, ◌≤◌, ◌==◌, Bool, true, cond, List, [], ◌∷◌, length, map, filter, All, Contains, slice_get, refl, sym, ap, ◌∙◌, subst, inl, inr, ⊎_elim, arith, eq-eqb, eqb-true}
 use Rattle.std.proofs.lemmas.Bool.{cases_lt}
-use Rattle.ak_base.specs.Thread.{looper_thread, main_thread}
+use Rattle.std.proofs.lemmas.List.Elements.{All-weaker}
+use Rattle.ak_base.specs.Thread.{looper_thread}
 use Rattle.ak_flatten.specs.declared.item.Taken.{Taken}
 use Rattle.ak_flatten.specs.Item.{ItemData}
 use Rattle.ak_turn.specs.Entries.{made_by}
@@ -19,18 +20,20 @@ use Rattle.ak_desk.specs.Laws.{ForwardTellsReply, StateIsOne}
 use Rattle.ak_diary.specs.declared.histories.Histories.{Histories}
 use Rattle.ak_diary.specs.Laws.{AcceptedIsDispatchedThenLeft, EachIsDispatchedByRule, left_in}
 use Rattle.ak_diary.specs.Looper.{thread_of}
-use Rattle.ak_diary.specs.Step.{Step, book_entries}
+use Rattle.ak_diary.specs.Step.{book_entries}
 use Rattle.ak_headline.specs.Answers.{GotOneReply, IsAccepted, WasSentOn, WentOn, cancels, doing, opens, owes}
 use Rattle.ak_headline.specs.Headline.{RunsAnswer}
-use Rattle.ak_headline.specs.Run.{HasDone, HasLooper, IsOfRun, IsRun, desk_list, port_list}
-use Rattle.ak_headline.specs.Diaries.{LoopersPay, LoopersSendSo, LoopersSendUp, LoopersTally, MainAsksSo, MainTallies}
+use Rattle.ak_headline.specs.Run.{ActsIn, HasDone, HasLooper, IsRun, desk_list, port_list}
+use Rattle.ak_headline.specs.Diaries.{LoopersPay, LoopersSendSo, LoopersSendUp, LoopersTally, MainAsksSo, MainTallies, SessionsAskSo, SessionsTally}
 use Rattle.ak_headline.specs.Sends.{SendsSo}
 use Rattle.ak_headline.specs.Tally.{SendsUp, at_slot, how_many, writes_owing}
-use Rattle.ak_headline.proofs.Accounts.{Account, IsEachOnce, IsToldBy, account_none, each_once, no_port, who_took}
+use Rattle.ak_headline.proofs.Accounts.{Account, IsEachOnce, account_none, each_once, no_port, who_took}
 use Rattle.ak_headline.proofs.Asked.{TheAsk, came, least, same, the_ask, went_on}
+use Rattle.ak_headline.proofs.Clients.{Client, client, told_by}
 use Rattle.ak_headline.proofs.Counts.{filter_both, first_meets, found_of, none_of, one_among, one_of, there_counts}
 use Rattle.ak_headline.proofs.Replies.{HasGone, IsPaid, became, off, paid}
 use Rattle.ak_headline.proofs.Resting.{RestsAt, rests_counts, rests_once}
+use Rattle.ak_headline.proofs.Shares.{IsClientOrLooper, client_or_looper}
 use Rattle.ak_headline.proofs.Written.{accepted_owing, written_owing}
 
 form_of_fill : (n : ℕ) (e : ReplyEvent) → fills n e ≡ true → (text : List ℕ) × (e ≡ slot.Filled n text)
@@ -40,9 +43,9 @@ form_of_fill n (slot.Cancelled m) is = absurd (cc is)
 form_of_fill n (slot.Taken m) is = absurd (cc is)
 
 -- ---- from the accounts of all threads
-module _ (h : Histories) (short : List ℕ) (n : ℕ) (accounts : (k : ℕ) → Account h short n k) (once : IsEachOnce h short n accounts) (main : List Step) (main_told : IsToldBy h main_thread main) (main_sends : SendsSo n 0 [] main)
-    (port_makers : (looper : ℕ) → All (λ (entry : PortEntry). IsOfRun h entry.by.0) (port_list h looper))
-    (took : (1 ≤ how_many (at_slot (takes n)) main) ⊎ ((k : ℕ) × (1 ≤ how_many (at_slot (takes n)) (accounts k).steps))) where
+module _ (h : Histories) (short : List ℕ) (n : ℕ) (accounts : (k : ℕ) → Account h short n k) (once : IsEachOnce h short n accounts) (count : ℕ) (few_clients : count ≤ looper_thread 0)
+    (clients : (k : ℕ) → Client h n count k) (port_makers : (looper : ℕ) → All (λ (entry : PortEntry). IsClientOrLooper h count entry.by.0) (port_list h looper))
+    (took : ((k : ℕ) × (k < count) × (1 ≤ how_many (at_slot (takes n)) (clients k).steps)) ⊎ ((k : ℕ) × (1 ≤ how_many (at_slot (takes n)) (accounts k).steps))) where
   abbrev looper : ℕ
   looper = once.looper
 
@@ -114,10 +117,10 @@ module _ (h : Histories) (short : List ℕ) (n : ℕ) (accounts : (k : ℕ) → 
 
   -- the ask
   abbrev Asked : Type 0
-  Asked = TheAsk h short n accounts main main_told main_sends port_makers opened.0 opened.1
+  Asked = TheAsk h short n accounts count few_clients clients port_makers opened.0 opened.1
 
   ask : Asked
-  ask = the_ask h short n accounts main main_told main_sends port_makers opened.0 opened.1 took
+  ask = the_ask h short n accounts count few_clients clients port_makers opened.0 opened.1 took
 
   pub got_one_reply : GotOneReply h short n
   got_one_reply = record {
@@ -144,17 +147,15 @@ module _ (h : Histories) (short : List ℕ) (n : ℕ) (accounts : (k : ℕ) → 
     asked = ask.item;
     first = ask.accepted;
     by_asker = ask.written;
-    came = came h short n accounts main main_told main_sends port_makers opened.0 opened.1 ask;
-    least = least h short n accounts main main_told main_sends port_makers opened.0 opened.1 ask;
-    same = same h short n accounts main main_told main_sends port_makers opened.0 opened.1 ask;
+    came = came h short n accounts count few_clients clients port_makers opened.0 opened.1 ask;
+    least = least h short n accounts count few_clients clients port_makers opened.0 opened.1 ask;
+    same = same h short n accounts count few_clients clients port_makers opened.0 opened.1 ask;
   }
 
 -- ---- of a run
-module _ (all : AcceptedIsDispatchedThenLeft) (law : EachIsDispatchedByRule) (one : StateIsOne) (forward : ForwardTellsReply) (tally : LoopersTally) (up : LoopersSendUp) (pay : LoopersPay) (of_main : MainTallies) (so : LoopersSendSo) (main_so : MainAsksSo) where
+module _ (all : AcceptedIsDispatchedThenLeft) (law : EachIsDispatchedByRule) (one : StateIsOne) (forward : ForwardTellsReply) (tally : LoopersTally) (up : LoopersSendUp) (pay : LoopersPay) (of_main : MainTallies) (of_sessions : SessionsTally) (so : LoopersSendSo) (main_so : MainAsksSo)
+    (sessions_so : SessionsAskSo) where
   module _ (heads : List AppHead) (short : List ℕ) (h : Histories) (run : IsRun heads short h) (n : ℕ) where
-    told_by : (thread : ℕ) (steps : List Step) → HasDone h thread steps → IsToldBy h thread steps
-    told_by thread steps done = record { at_book = done.at_book; at_ports = done.at_ports; book_seen = done.book_seen }
-
     account_of : (k : ℕ) → HasLooper heads short h k → Account h short n k
     account_of k has =
         let l = has.facts in
@@ -162,7 +163,7 @@ module _ (all : AcceptedIsDispatchedThenLeft) (law : EachIsDispatchedByRule) (on
         record {
           steps = has.steps;
           left = left;
-          told = told_by (looper_thread k) has.steps (subst (λ (number : ℕ). HasDone h (looper_thread number) has.steps) has.number_is has.done);
+          told = told_by h (looper_thread k) has.steps (subst (λ (number : ℕ). HasDone h (looper_thread number) has.steps) has.number_is has.done);
           tally = tally l has.steps (port_list h k) (desk_list h k) has.diary n;
           accepted = accepted_owing n (port_list h k) (desk_list h k) left (all l has.steps (port_list h k) (desk_list h k) has.diary).accepted;
           up = subst (λ (number : ℕ). SendsUp n number (desk_list h k) has.steps) has.number_is (up l has.steps (port_list h k) (desk_list h k) has.diary n);
@@ -173,10 +174,30 @@ module _ (all : AcceptedIsDispatchedThenLeft) (law : EachIsDispatchedByRule) (on
           paid = paid all law one forward pay heads short h k has n;
         }
 
+    -- main and the sessions
+    abbrev count : ℕ
+    count = suc run.sessions
+
+    few_clients : count ≤ looper_thread 0
+    few_clients = omega (arith, run.few_sessions)
+
+    clients : (k : ℕ) → Client h n count k
+    clients = client of_main main_so of_sessions sessions_so heads short h run n
+
+    book_makers : All (λ (entry : ReplyEntry). IsClientOrLooper h count entry.by.0) h.book
+    book_makers =
+        All-weaker (λ (entry : ReplyEntry). ActsIn h run.sessions entry.by.0) (λ (entry : ReplyEntry). IsClientOrLooper h count entry.by.0)
+        (λ entry of. client_or_looper h run.sessions entry.by.0 of) h.book run.book_makers
+
+    port_makers : (looper : ℕ) → All (λ (entry : PortEntry). IsClientOrLooper h count entry.by.0) (port_list h looper)
+    port_makers looper =
+        All-weaker (λ (entry : PortEntry). ActsIn h run.sessions entry.by.0) (λ (entry : PortEntry). IsClientOrLooper h count entry.by.0)
+        (λ entry of. client_or_looper h run.sessions entry.by.0 of) (port_list h looper) (run.port_makers looper)
+
     accounts : (k : ℕ) → Account h short n k
     accounts k =
         ⊎_elim (λ (lt : k < length h.ports.items). account_of k (run.loopers k lt))
-        (λ (past : length h.ports.items ≤ k). account_none h k past short n run.histories.each run.book_makers run.port_makers) (cases_lt k (length h.ports.items))
+        (λ (past : length h.ports.items ≤ k). account_none h k past short n run.histories.each count few_clients book_makers port_makers) (cases_lt k (length h.ports.items))
 
     some_written : (k at : ℕ) (item : ItemData) → IsAccepted h n k at item → 1 ≤ how_many (λ (entry : PortEntry). writes_owing n entry.event) (port_list h k)
     some_written k at item is =
@@ -189,11 +210,9 @@ module _ (all : AcceptedIsDispatchedThenLeft) (law : EachIsDispatchedByRule) (on
 
     pub one_reply : (k at : ℕ) (item : ItemData) → IsAccepted h n k at item → GotOneReply h short n
     one_reply k at item is =
-        let told = told_by main_thread run.main run.main_done in
         let some = some_written k at item is in
-        let tally_of_main = of_main run.main run.main_diary n in
-        got_one_reply h short n accounts (each_once h short n accounts run.main told tally_of_main run.book_makers run.port_makers run.histories.book k some) run.main told
-        (main_so run.main run.main_diary n) run.port_makers (who_took h short n accounts run.main told tally_of_main run.book_makers run.port_makers run.histories.book k some)
+        got_one_reply h short n accounts (each_once h short n accounts count few_clients clients book_makers port_makers run.histories.book k some) count few_clients clients port_makers
+        (who_took h short n accounts count few_clients clients book_makers port_makers run.histories.book k some)
 
   pub runs_answer : RunsAnswer
   runs_answer heads short h run n looper position item is = one_reply heads short h run n looper position item is

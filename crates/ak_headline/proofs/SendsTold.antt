@@ -18,14 +18,14 @@ use Rattle.ak_diary.specs.Looper.{LooperFacts, desk_list}
 use Rattle.ak_diary.specs.Step.{Step, at_port, port_entries}
 use Rattle.ak_diary.specs.Turns.{IsDispatch, IsTake}
 use Rattle.ak_headline.specs.Answers.{owes}
-use Rattle.ak_headline.specs.Diaries.{LoopersSendSo, MainAsksSo}
+use Rattle.ak_headline.specs.Diaries.{LoopersSendSo, MainAsksSo, SessionsAskSo}
 use Rattle.ak_headline.specs.Sends.{HasAsk, SendsOn, SendsSo}
 use Rattle.ak_headline.specs.Tally.{owes_entry, owing_in, sent_on_event, was_sent_on, writes_owing}
+use Rattle.ak_headline.proofs.ActsTold.{NoLooper, main_adds, session_adds}
 use Rattle.ak_headline.proofs.Asking.{ask_left, ask_right, first_if, first_in, later_if, none_in, only_if, only_in, port_cases, port_here, port_left, port_right}
 use Rattle.ak_headline.proofs.Counting.{Adds, add_none, add_port, asked_both, bit, count_one}
 use Rattle.ak_headline.proofs.LoopersTold as told
 use Rattle.ak_headline.proofs.LoopersTold.{IsOwn, is_own, list_both, own_list}
-use Rattle.ak_headline.proofs.MainTold as main
 use Rattle.ak_headline.proofs.Owing.{settles_none, settles_owed}
 use Rattle.ak_headline.proofs.SentOn.{Goes, WroteOn, comes_goes, entry_has_item, entry_is_of, on, stays}
 
@@ -228,4 +228,7 @@ loopers_send_so later law l steps port desk has n =
     told_all
 
 pub main_asks_so : MainAsksSo
-main_asks_so steps diary n = sends_nothing n 0 (λ looper. ⊥) 0 steps (main.diary_adds n steps diary)
+main_asks_so steps diary n = sends_nothing n 0 NoLooper 0 steps (main_adds n steps diary)
+
+pub sessions_ask_so : SessionsAskSo
+sessions_ask_so steps diary n = sends_nothing n 0 NoLooper 0 steps (session_adds n steps diary)

@@ -1,8 +1,8 @@
--- An object's list is parted among those who made its entries: so much of it is main's, and so much each looper's.
-use Rattle.std.proofs.Common.{◌≡◌, ◌≢◌, ℕ, ◌+◌, ◌<◌, ◌≤◌, ◌==◌, ◌&&◌, Bool, true, false, cond, List, [], ◌∷◌, ◌++◌, length, All, refl, sym, ap, ◌∙◌, ⊎_elim, arith, eq-eqb, ne_eqb}
+-- An object's list is parted among those who made its entries: so much of it is main's, so much each session's, and so much each looper's.
+use Rattle.std.proofs.Common.{◌≡◌, ◌≢◌, ◌⊎◌, ℕ, suc, ◌+◌, ◌<◌, ◌≤◌, ◌==◌, ◌&&◌, Bool, true, false, cond, List, [], ◌∷◌, ◌++◌, length, All, refl, sym, ap, ◌∙◌, inl, inr, ⊎_elim, arith, eq-eqb, ne_eqb}
 use Rattle.std.proofs.lemmas.Bool.{cases_lt}
 use Rattle.std.proofs.lemmas.List.Elements.{All-head, All-tail}
-use Rattle.ak_base.specs.Thread.{looper_thread, main_thread}
+use Rattle.ak_base.specs.Thread.{looper_thread}
 use Rattle.ak_turn.specs.Entries.{made_by}
 use Rattle.ak_turn.specs.Noted.{Noted, entry_of, noted}
 use Rattle.ak_turn.proofs.Surface.{noted_is_made}
@@ -11,12 +11,21 @@ use Rattle.ak_port.specs.declared.reply_entry.ReplyEntry.{ReplyEntry}
 use Rattle.ak_port.specs.declared.reply_entry.ReplyEvent.{ReplyEvent}
 use Rattle.ak_diary.specs.declared.histories.Histories.{Histories}
 use Rattle.ak_diary.specs.Step.{Step, at_roster, at_book, at_port, at_desk, saw_roster, saw_book, saw_port, lacked, book_entries, port_entries}
-use Rattle.ak_headline.specs.Run.{IsOfRun}
+use Rattle.ak_headline.specs.Run.{ActsIn}
 use Rattle.ak_headline.specs.Tally.{at_slot, how_many, sends, sends_to, writes_owing}
 use Rattle.ak_headline.proofs.Counts.{how_many-cons, how_many-map, one_if}
 use Rattle.ak_headline.proofs.Sums.{total, total_none, total_only, total_same, total_sum}
 
 -- ---- entries and their makers
+-- a thread that acts: one of so many clients, or that of a looper
+abbrev pub IsClientOrLooper : Histories → ℕ → ℕ → Type 0
+IsClientOrLooper h count thread = (thread < count) ⊎ ((looper : ℕ) × (looper < length h.ports.items) × (thread ≡ looper_thread looper))
+
+pub client_or_looper : (h : Histories) (sessions thread : ℕ) → ActsIn h sessions thread → IsClientOrLooper h (suc sessions) thread
+client_or_looper h sessions thread (inl (inl main)) = inl (omega (arith, main))
+client_or_looper h sessions thread (inl (inr one)) = inr one
+client_or_looper h sessions thread (inr session) = inl (omega (arith, session.1))
+
 module _ {L : Type 0} (by : L → ℕ) (test : L → Bool) where
   -- of those that a thread made
   abbrev pub made_so : ℕ → List L → ℕ
@@ -35,42 +44,51 @@ module _ {L : Type 0} (by : L → ℕ) (test : L → Bool) where
   not_its : (thread : ℕ) (x : L) → by x ≢ thread → cond (by x == thread) (one_if (test x)) 0 ≡ 0
   not_its thread x ne = ap (λ b. cond b (one_if (test x)) 0) (ne_eqb (by x) thread ne)
 
-  module _ (h : Histories) where
+  module _ (h : Histories) (count : ℕ) (few : count ≤ looper_thread 0) where
+    abbrev of_clients : (ℕ → ℕ) → ℕ
+    of_clients f = total f count
+
     abbrev of_loopers : (ℕ → ℕ) → ℕ
     of_loopers f = total f (length h.ports.items)
 
+    abbrev by_client : L → ℕ → ℕ
+    by_client x k = cond (by x == k) (one_if (test x)) 0
+
+    abbrev by_looper : L → ℕ → ℕ
+    by_looper x k = cond (by x == looper_thread k) (one_if (test x)) 0
+
     -- one entry is of one of them
-    one_maker : (x : L) → IsOfRun h (by x) → cond (by x == main_thread) (one_if (test x)) 0 + of_loopers (λ k. cond (by x == looper_thread k) (one_if (test x)) 0) ≡ one_if (test x)
+    one_maker : (x : L) → IsClientOrLooper h count (by x) → of_clients (by_client x) + of_loopers (by_looper x) ≡ one_if (test x)
     one_maker x of =
         ⊎_elim
-        (λ (main : by x ≡ main_thread).
+        (λ (within : by x < count).
         omega (
           arith,
-          its_own main_thread x main,
-          total_none (λ k. cond (by x == looper_thread k) (one_if (test x)) 0) (length h.ports.items) (λ k lt. not_its (looper_thread k) x (λ e. absurd (omega (arith, e, main)))),
+          total_only (by_client x) (count) (by x) within (λ k lt other. not_its k x (λ e. other (sym e))),
+          its_own (by x) x refl,
+          total_none (by_looper x) (length h.ports.items) (λ k lt. not_its (looper_thread k) x (λ e. absurd (omega (arith, e, within, few)))),
         ))
         (λ (one : (looper : ℕ) × (looper < length h.ports.items) × (by x ≡ looper_thread looper)).
         omega (
           arith,
-          not_its main_thread x (λ e. absurd (omega (arith, e, one.2))),
+          total_none (by_client x) (count) (λ k lt. not_its k x (λ e. absurd (omega (arith, e, lt, one.2, few)))),
           its_own (looper_thread one.0) x one.2,
-          total_only (λ k. cond (by x == looper_thread k) (one_if (test x)) 0) (length h.ports.items) one.0 one.1
-              (λ k lt other. not_its (looper_thread k) x (λ e. other (omega (arith, e, one.2)))),
+          total_only (by_looper x) (length h.ports.items) one.0 one.1 (λ k lt other. not_its (looper_thread k) x (λ e. other (omega (arith, e, one.2)))),
         ))
         of
 
-    pub parted : (xs : List L) → All (λ x. IsOfRun h (by x)) xs → how_many test xs ≡ made_so main_thread xs + of_loopers (λ k. made_so (looper_thread k) xs)
-    parted [] all = omega (arith, total_none (λ k. 0) (length h.ports.items) (λ k lt. refl))
+    pub parted : (xs : List L) → All (λ x. IsClientOrLooper h count (by x)) xs → how_many test xs ≡ of_clients (λ k. made_so k xs) + of_loopers (λ k. made_so (looper_thread k) xs)
+    parted [] all = omega (arith, total_none (λ k. 0) (count) (λ k lt. refl), total_none (λ k. 0) (length h.ports.items) (λ k lt. refl))
     parted (x ∷ xs) all =
         omega (
           arith,
           how_many-cons test x xs,
-          made_more main_thread x xs,
-          one_maker x (All-head (λ e. IsOfRun h (by e)) x xs all),
-          parted xs (All-tail (λ e. IsOfRun h (by e)) x xs all),
-          total_same (λ k. made_so (looper_thread k) (x ∷ xs)) (λ k. cond (by x == looper_thread k) (one_if (test x)) 0 + made_so (looper_thread k) xs) (length h.ports.items)
-              (λ k lt. made_more (looper_thread k) x xs),
-          total_sum (λ k. cond (by x == looper_thread k) (one_if (test x)) 0) (λ k. made_so (looper_thread k) xs) (length h.ports.items),
+          one_maker x (All-head (λ e. IsClientOrLooper h count (by e)) x xs all),
+          parted xs (All-tail (λ e. IsClientOrLooper h count (by e)) x xs all),
+          total_same (λ k. made_so k (x ∷ xs)) (λ k. by_client x k + made_so k xs) (count) (λ k lt. made_more k x xs),
+          total_sum (by_client x) (λ k. made_so k xs) (count),
+          total_same (λ k. made_so (looper_thread k) (x ∷ xs)) (λ k. by_looper x k + made_so (looper_thread k) xs) (length h.ports.items) (λ k lt. made_more (looper_thread k) x xs),
+          total_sum (by_looper x) (λ k. made_so (looper_thread k) xs) (length h.ports.items),
         )
 
   -- what a thread noted are its entries

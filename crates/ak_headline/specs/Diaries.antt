@@ -5,7 +5,7 @@ use Rattle.ak_desk.specs.Entry.{EntryData}
 use Rattle.ak_diary.specs.Laws.{HasDiary, left_in}
 use Rattle.ak_diary.specs.Looper.{LooperFacts}
 use Rattle.ak_diary.specs.Step.{Step}
-use Rattle.ak_headline.specs.Main.{IsMainDiary}
+use Rattle.ak_headline.specs.Main.{IsMainDiary, IsSessionDiary}
 use Rattle.ak_headline.specs.Sends.{SendsSo}
 use Rattle.ak_headline.specs.Tally.{PaysByRule, SendsUp, Tally}
 
@@ -32,3 +32,10 @@ MainTallies = (steps : List Step) → IsMainDiary steps → (n : ℕ) → Tally 
 -- each item that it wrote for which someone waits it asked
 abbrev pub MainAsksSo : Type 0
 MainAsksSo = (steps : List Step) → IsMainDiary steps → (n : ℕ) → SendsSo n 0 [] steps
+
+-- and so did each session
+abbrev pub SessionsTally : Type 0
+SessionsTally = (steps : List Step) → IsSessionDiary steps → (n : ℕ) → Tally n [] [] steps
+
+abbrev pub SessionsAskSo : Type 0
+SessionsAskSo = (steps : List Step) → IsSessionDiary steps → (n : ℕ) → SendsSo n 0 [] steps

@@ -15,7 +15,7 @@ use Rattle.ak_diary.specs.Looper.{LooperFacts}
 use Rattle.ak_diary.specs.Step.{Step}
 use Rattle.ak_headline.specs.Answers.{GotOneReply, IsAccepted}
 use Rattle.ak_headline.specs.Run.{IsRun}
-use Rattle.ak_headline.specs.Diaries.{LoopersPay, LoopersSendSo, LoopersSendUp, LoopersTally, MainAsksSo, MainTallies}
+use Rattle.ak_headline.specs.Diaries.{LoopersPay, LoopersSendSo, LoopersSendUp, LoopersTally, MainAsksSo, MainTallies, SessionsAskSo, SessionsTally}
 
 -- of each looper, by their numbers from that one on, its port and its desk are so
 abbrev pub Each : (ℕ → PortData → DeskData → Type 0) → ℕ → List PortData → List DeskData → Type 0
@@ -53,4 +53,4 @@ RunsAnswer = (heads : List AppHead) (short : List ℕ) (h : Histories) → IsRun
 
 -- the last one, by what the diaries tell of a slot
 abbrev pub TalliesTellReplies : Type 0
-TalliesTellReplies = LoopersTally → LoopersSendUp → LoopersPay → MainTallies → LoopersSendSo → MainAsksSo → RunsAnswer
+TalliesTellReplies = LoopersTally → LoopersSendUp → LoopersPay → MainTallies → SessionsTally → LoopersSendSo → MainAsksSo → SessionsAskSo → RunsAnswer

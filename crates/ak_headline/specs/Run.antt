@@ -1,5 +1,5 @@
 -- A run that ended: its lists, and the diaries of all threads that made them.
-use Rattle.std.specs.Prelude.{◌≡◌, ◌<◌, ◌==◌, ◌⊎◌, ℕ, List, [], length, All, Any, Some, option_map, slice_get, unwrap_or}
+use Rattle.std.specs.Prelude.{◌≡◌, ◌<◌, ◌≤◌, ◌==◌, ◌⊎◌, ℕ, List, [], length, All, Any, Some, option_map, slice_get, unwrap_or}
 use Rattle.std.specs.List.{list_any}
 use Rattle.ak_base.specs.Thread.{looper_thread, main_thread}
 use Rattle.ak_base.specs.declared.app_word.AppWord.{AppWord}
@@ -22,7 +22,7 @@ use Rattle.ak_diary.specs.Histories.{AreHistories}
 use Rattle.ak_diary.specs.Laws.{HasDiary}
 use Rattle.ak_diary.specs.Looper.{LooperFacts, thread_of}
 use Rattle.ak_diary.specs.Step.{Step, book_entries, book_sights, port_entries, ran_short, roster_entries}
-use Rattle.ak_headline.specs.Main.{IsMainDiary}
+use Rattle.ak_headline.specs.Main.{IsMainDiary, IsSessionDiary}
 
 -- ---- the lists of a run
 -- those of the port and of the desk of the looper with that number; empty where there is none
@@ -62,13 +62,28 @@ pub record HasLooper (heads : List AppHead) (short : List ℕ) (h : Histories) (
   pub done : HasDone h (thread_of facts) steps
   pub short_is : ran_short steps ≡ list_any (λ number. number == looper) short
 
+-- The session of that number: its diary has all that its thread did
+pub record HasSession (h : Histories) (number : ℕ) : Type 0 where
+  pub steps : List Step
+  pub diary : IsSessionDiary steps
+  pub done : HasDone h number steps
+
 -- ---- the run
 -- a thread of the run: main, or that of a looper
 abbrev pub IsOfRun : Histories → ℕ → Type 0
 IsOfRun h thread = (thread ≡ main_thread) ⊎ ((looper : ℕ) × (looper < length h.ports.items) × (thread ≡ looper_thread looper))
 
+-- that of one of so many sessions, which are numbered from 1 on
+abbrev pub IsSession : ℕ → ℕ → Type 0
+IsSession sessions thread = (0 < thread) × (thread ≤ sessions)
+
+-- any of them
+abbrev pub ActsIn : Histories → ℕ → ℕ → Type 0
+ActsIn h sessions thread = IsOfRun h thread ⊎ IsSession sessions thread
+
 -- Each list is one that its object's machine allows; there are a port and a desk for each looper that was started, and no others. Each
--- looper has its diary, and so has main; no other thread made an entry at the reply book or at a port
+-- looper has its diary, and so have main and each session, whose numbers are below those of the loopers' threads; no other thread made an
+-- entry at the reply book or at a port
 pub record IsRun (heads : List AppHead) (short : List ℕ) (h : Histories) : Type 0 where
   pub histories : AreHistories heads h
   pub all : length h.ports.items ≡ length (state_of heads h.roster.items).loopers
@@ -76,5 +91,8 @@ pub record IsRun (heads : List AppHead) (short : List ℕ) (h : Histories) : Typ
   pub main : List Step
   pub main_diary : IsMainDiary main
   pub main_done : HasDone h main_thread main
-  pub book_makers : All (λ (entry : ReplyEntry). IsOfRun h entry.by.0) h.book
-  pub port_makers : (looper : ℕ) → All (λ (entry : PortEntry). IsOfRun h entry.by.0) (port_list h looper)
+  pub sessions : ℕ
+  pub few_sessions : sessions < looper_thread 0
+  pub each_session : (number : ℕ) → IsSession sessions number → HasSession h number
+  pub book_makers : All (λ (entry : ReplyEntry). ActsIn h sessions entry.by.0) h.book
+  pub port_makers : (looper : ℕ) → All (λ (entry : PortEntry). ActsIn h sessions entry.by.0) (port_list h looper)

@@ -4,6 +4,7 @@ ghost use Rattle.ak_headline.specs.Headline as headline;
 
 use crate::tallies::{
     loopers_pay, loopers_send_so, loopers_send_up, loopers_tally, main_asks_so, main_tallies,
+    sessions_ask_so, sessions_tally,
 };
 
 /// The messages that each looper dispatched, followed by those that it left, are exactly what its port accepted, in
@@ -41,6 +42,8 @@ pub fn each_waiting_send_got_one_reply()
     loopers_send_up();
     loopers_pay();
     main_tallies();
+    sessions_tally();
     loopers_send_so();
     main_asks_so();
+    sessions_ask_so();
 }

@@ -1,7 +1,7 @@
 //! What holds of every run that ended, whatever the schedule. A run is told by the lists of its objects, and by the
 //! diaries of the threads that made them. Three laws say what the lists tell: what each port accepted is what its looper
 //! dispatched, and then what it left; each message was dispatched as the rules say; and each accepted waiting send got
-//! one reply, the one that the rules make for it, and it is the same message all the way. Six more say what the diaries
+//! one reply, the one that the rules make for it, and it is the same message all the way. Eight more say what the diaries
 //! tell of each slot: who opened it, asked, sent on, filled it and took from it. There is no thread here, and no lock.
 #![tactic(auto)]
 
@@ -11,4 +11,5 @@ mod tallies;
 pub use laws::{each_waiting_send_got_one_reply, runs_are_accounted, runs_go_by_rule};
 pub use tallies::{
     loopers_pay, loopers_send_so, loopers_send_up, loopers_tally, main_asks_so, main_tallies,
+    sessions_ask_so, sessions_tally,
 };

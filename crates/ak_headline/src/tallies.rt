@@ -7,6 +7,12 @@ pub fn main_tallies()
     ensures { diaries.MainTallies }
 {}
 
+/// What a session's diary tells of a slot: the same as main's, each ask that was written opened it and took from it, and
+/// the session filled none.
+pub fn sessions_tally()
+    ensures { diaries.SessionsTally }
+{}
+
 /// What a looper's diary tells of a slot: each ask that was written opened it and took from it; and each item that owes
 /// it was sent on, or the slot was filled or found to be settled.
 pub fn loopers_tally()
@@ -42,4 +48,9 @@ pub fn loopers_send_so()
 /// Each item that main wrote for which someone waits it asked.
 pub fn main_asks_so()
     ensures { diaries.MainAsksSo }
+{}
+
+/// Each item that a session wrote for which someone waits it asked.
+pub fn sessions_ask_so()
+    ensures { diaries.SessionsAskSo }
 {}

@@ -1,5 +1,5 @@
 -- By what each act adds.
-use Rattle.ak_headline.proofs.MainTold.{main_tallies}
+use Rattle.ak_headline.proofs.ActsTold.{main_tallies}
 use Rattle.ak_headline.proofs.tallies.main_tallies.Goals as goal
 
 pub returns : goal.returns
