@@ -258,7 +258,7 @@ module _ (looper : ℕ) where
           elsewhere = λ other differ. ap (λ (same : Bool). cond same (b.front ∷ []) [] ++ []) (ne_eqb looper other (λ same. differ (sym same)));
           no_roster = refl;
         };
-        acts = one_act steps (finds_shut looper finds);
+        acts = one_act steps (finds_shut looper tt finds);
         goes = sees_port k l a b book main looked;
       }
 

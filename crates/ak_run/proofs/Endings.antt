@@ -1,7 +1,8 @@
 -- A run that went on to its end and was gathered.
-use Rattle.std.proofs.Common.{◌≡◌, ℕ, List, length, map, All, Option, None, Some, refl, sym, ap, ◌∙◌, subst}
+use Rattle.std.proofs.Common.{◌≡◌, ℕ, List, length, map, All, Option, None, Some, refl, sym, ap, ◌∙◌, subst, inl, arith}
 use Rattle.std.specs.List.{range_with_len}
 use Rattle.std.proofs.lemmas.List.{length-map}
+use Rattle.std.proofs.lemmas.List.Elements.{All-weaker}
 use Rattle.ak_base.specs.Thread.{main_thread}
 use Rattle.ak_turn.specs.Entries.{made_by}
 use Rattle.ak_turn.specs.Seats.{SeatData}
@@ -12,10 +13,12 @@ use Rattle.ak_describe.specs.Whole.{heads_of}
 use Rattle.ak_diary.specs.declared.histories.Histories.{Histories}
 use Rattle.ak_diary.specs.Step.{Step}
 use Rattle.ak_headline.specs.Main.{IsMainDiary}
-use Rattle.ak_headline.specs.Run.{HasDone, IsRun}
+use Rattle.ak_headline.specs.Run.{ActsIn, HasDone, HasSession, IsOfRun, IsRun, IsSession, port_list}
 use Rattle.ak_looper.specs.declared.kept_door.KeptDoor.{KeptDoor}
 use Rattle.ak_looper.specs.Rosters as rosters
 use Rattle.ak_looper.specs.Rosters.{Object, RosterSeat}
+use Rattle.ak_port.specs.declared.port_entry.PortEntry.{PortEntry}
+use Rattle.ak_port.specs.declared.reply_entry.ReplyEntry.{ReplyEntry}
 use Rattle.ak_port.specs.ReplySeats.{ReplySeat}
 use Rattle.ak_run.specs.declared.gathering.Joined.{Joined}
 use Rattle.ak_run.specs.declared.member.Member.{Member}
@@ -56,7 +59,10 @@ module _ (r : Run) (runs : IsRunning r) (main : RosterSeat) (on : GoesOnKnowing 
   pub book_below : (at_book : ReplySeat) → GoesOnKnowing r.hands.book_seat at_book → AreBelow (length js) at_book.names
   book_below at_book on_book = still_below (length js) r.hands.book_seat at_book on_book (subst (λ (n : ℕ). AreBelow n r.hands.book_seat.names) (sym as_many) runs.stands.book_names)
 
--- ---- the whole run: what is known of the loopers, with main's diary
+-- ---- the whole run: what is known of the loopers, with main's diary; there are no sessions
+no_session : (h : Histories) (number : ℕ) → IsSession 0 number → HasSession h number
+no_session h number within = absurd (omega (arith, within.0, within.1))
+
 pub whole : (heads : List AppHead) (short : List ℕ) (h : Histories) → IsRunOfLoopers heads short h → (main : List Step) → IsMainDiary main → HasDone h main_thread main → IsRun heads short h
 whole heads short h run main diary done = record {
   histories = run.histories;
@@ -65,8 +71,13 @@ whole heads short h run main diary done = record {
   main = main;
   main_diary = diary;
   main_done = done;
-  book_makers = run.book_makers;
-  port_makers = run.port_makers;
+  sessions = 0;
+  few_sessions = omega arith;
+  each_session = λ number within. no_session h number within;
+  book_makers =
+      All-weaker (λ (entry : ReplyEntry). IsOfRun h entry.by.0) (λ (entry : ReplyEntry). ActsIn h 0 entry.by.0) (λ entry of. inl of) h.book run.book_makers;
+  port_makers = λ looper.
+      All-weaker (λ (entry : PortEntry). IsOfRun h entry.by.0) (λ (entry : PortEntry). ActsIn h 0 entry.by.0) (λ entry of. inl of) (port_list h looper) (run.port_makers looper);
 }
 
 -- a run that went on, and started nothing

@@ -229,7 +229,7 @@ module _ (r r' : Run) (is : IsRunning r) (keeps : KeepsRest r r') (members : r'.
       let heads : book.heads ≡ heads_of r.apps.items = heads_same ∙ is.stands.heads_are in
       let quiet : GoesBy [] (fronts_of r) (fronts_of r') = subst (λ (l : List (EntryWithObjects Object)). GoesBy (map (turn_step book.entries) l) (fronts_of r) (fronts_of r')) none (turn_beside None 0 entered []) in
       let goes : GoesBy steps (fronts_of r) (fronts_of r') =
-      record { acts = one_act steps (finds_gone seen refl); roster = quiet.roster; book = quiet.book; book_on = quiet.book_on; book_seen = quiet.book_seen; ports = quiet.ports } in
+      record { acts = one_act steps (finds_gone team tt seen refl); roster = quiet.roster; book = quiet.book; book_on = quiet.book_on; book_seen = quiet.book_seen; ports = quiet.ports } in
       closes (FindsGone (heads_of r.apps.items) team) None entered steps
       (record { seen = seen; gone = ap (λ (l : List RosterEntry). find (runs_team team) (state_of (heads_of r.apps.items) l).running) list ∙ ap (λ hs. find (runs_team team) (state_of hs (plain_entries book.entries)).running) (sym heads) ∙ left.0; is = refl })
       goes (All-cons (StartsWith seen) seen [] ([], sym (append-nil seen)) (All-nil (StartsWith seen))) (λ looper. refl)
