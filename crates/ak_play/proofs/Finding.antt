@@ -18,7 +18,8 @@ use Rattle.ak_play.specs.declared.outcome.Outcome.{Outcome}
 use Rattle.ak_play.specs.declared.outcome.Outcome.TheVariants as came
 use Rattle.ak_play.specs.Blocks.{FindingLooper, FindingNone, IsAnswered, IsEdited, IsHeyBlock, IsLockBlock, IsPostBlock, IsPostRefused, IsPosted, IsRefused, hey_item, post_item}
 use Rattle.ak_play.specs.Came.{IsAsked, IsLocked, IsSent, MayCome}
-use Rattle.ak_play.proofs.Doing.{both_do, does_as}
+use Rattle.ak_run.proofs.Surface.{does_so_then}
+use Rattle.ak_play.proofs.Doing.{does_as}
 
 module _ (heads : List AppHead) (word : AppWord) (team first loopers place n : ℕ) (xs : List Step) (finds : FoundSo heads word (found.Team team first loopers place) xs) where
   -- it has a looper of that place, at which that is done
@@ -49,7 +50,7 @@ module _ (heads : List AppHead) (h : Hey) (team first loopers place : ℕ) (some
   hey_so (Err e) xs ys finds asked = tt
 
   pub hey_came : (result : Result Came NoMemory) (a b c : Run) → DoesSo (FoundSo heads h.app (found.Team team first loopers place)) a b → DoesSo (MayCome (IsAsked h first) result) b c → DoesSo (MayCome (IsHeyBlock heads h) result) a c
-  hey_came result a b c = both_do (FoundSo heads h.app (found.Team team first loopers place)) (MayCome (IsAsked h first) result) (MayCome (IsHeyBlock heads h) result) a b c (hey_so result)
+  hey_came result a b c = does_so_then (FoundSo heads h.app (found.Team team first loopers place)) (MayCome (IsAsked h first) result) (MayCome (IsHeyBlock heads h) result) a b c (hey_so result)
 
 -- ---- posts
 module _ (heads : List AppHead) (p : Post) (team first loopers place : ℕ) where
@@ -64,7 +65,7 @@ module _ (heads : List AppHead) (p : Post) (team first loopers place : ℕ) wher
     post_so (Err e) xs ys finds sent = tt
 
     pub post_came : (result : Result Came NoMemory) (a b c : Run) → DoesSo (FoundSo heads p.app (found.Team team first loopers place)) a b → DoesSo (MayCome (IsSent p looper) result) b c → DoesSo (MayCome (IsPostBlock heads p) result) a c
-    post_came result a b c = both_do (FoundSo heads p.app (found.Team team first loopers place)) (MayCome (IsSent p looper) result) (MayCome (IsPostBlock heads p) result) a b c (post_so result)
+    post_came result a b c = does_so_then (FoundSo heads p.app (found.Team team first loopers place)) (MayCome (IsSent p looper) result) (MayCome (IsPostBlock heads p) result) a b c (post_so result)
 
   pub post_none : (c : Came) (a b : Run) → loopers ≤ p.looper → c.outcome ≡ came.NoLooper place → c.told ≡ told.NoLooper → DoesSo (FoundSo heads p.app (found.Team team first loopers place)) a b → DoesSo (MayCome {E = NoMemory} (IsPostBlock heads p) (Ok c)) a b
   post_none c a b past outcome_is told_is =
@@ -83,7 +84,7 @@ module _ (heads : List AppHead) (l : Lock) (team first loopers place : ℕ) wher
     lock_so (Err e) xs ys finds locked = tt
 
     pub lock_came : (result : Result Came NoMemory) (a b c : Run) → DoesSo (FoundSo heads l.app (found.Team team first loopers place)) a b → DoesSo (MayCome (IsLocked l looper) result) b c → DoesSo (MayCome (IsLockBlock heads l) result) a c
-    lock_came result a b c = both_do (FoundSo heads l.app (found.Team team first loopers place)) (MayCome (IsLocked l looper) result) (MayCome (IsLockBlock heads l) result) a b c (lock_so result)
+    lock_came result a b c = does_so_then (FoundSo heads l.app (found.Team team first loopers place)) (MayCome (IsLocked l looper) result) (MayCome (IsLockBlock heads l) result) a b c (lock_so result)
 
   pub lock_none : (c : Came) (a b : Run) → loopers ≤ l.looper → c.outcome ≡ came.NoLooper place → c.told ≡ told.NoLooper → DoesSo (FoundSo heads l.app (found.Team team first loopers place)) a b → DoesSo (MayCome {E = NoMemory} (IsLockBlock heads l) (Ok c)) a b
   lock_none c a b past outcome_is told_is =

@@ -21,7 +21,7 @@ use Rattle.ak_play.specs.declared.stop.Stop.TheVariants as stop
 use Rattle.ak_play.specs.Blocks.{AreBlocks, IsBlock, IsLaunch}
 use Rattle.ak_play.specs.Play.{IsStopped, IsWritten, all_steps, text_of}
 use Rattle.ak_play.specs.Steps.{HasStepped, IsPlayedSoFar, IsPlayedTo, StepsOn, StopsShort, ended_as, stopped_as}
-use Rattle.ak_play.proofs.Doing.{done_then}
+use Rattle.ak_run.proofs.Surface.{done_then}
 use Rattle.ak_play.proofs.Lists.{gathered_push}
 
 -- ---- blocks

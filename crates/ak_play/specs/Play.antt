@@ -29,15 +29,14 @@ abbrev pub all_steps : List (List Step) → List Step
 all_steps blocks = flat_map (λ (block : List Step). block) blocks
 
 -- Main's diary is the blocks of the first statements, in order, then what it did for the statement at which it stopped, which is nothing where each
--- was carried out, and then the end of the run. The diary has all that main made at the roster, at the reply book and at each port, and its edits
--- stand at the desks
+-- was carried out, and then the end of the run. The diary has all that main made at the roster, at the reply book, at each port and at each desk
 pub record HasPlayed (apps : List AppText) (statements : List Statement) (outcomes : List Outcome) (tolds : List Told) (h : Histories) : Type 0 where
   pub blocks : List (List Step)
   pub are : AreBlocks apps statements outcomes tolds blocks
   pub stopped : List Step
   pub none_stopped : length outcomes ≡ length statements → stopped ≡ []
   pub closing : List Step
-  pub closes : IsClosing (heads_of apps) h closing
+  pub closes : IsClosing (heads_of apps) (all_steps blocks ++ stopped) h closing
   pub diary : IsMainDiary (all_steps blocks ++ (stopped ++ closing))
   pub done : HasDone h main_thread (all_steps blocks ++ (stopped ++ closing))
   pub edits : (looper : ℕ) → All (StandsIn (desk_list h looper)) (desk_entries looper (all_steps blocks))
