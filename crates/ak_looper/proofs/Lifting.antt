@@ -94,7 +94,7 @@ module _ (looper : ℕ) where
   at_one numbers there lacked on = tt
 
 -- a projection of steps behind others, of which it has nothing
-more_none : {B : Type 0} (f : Step → List B) (xs ys : List Step) → flat_map f ys ≡ [] → flat_map f (xs ++ ys) ≡ flat_map f xs
+pub more_none : {B : Type 0} (f : Step → List B) (xs ys : List Step) → flat_map f ys ≡ [] → flat_map f (xs ++ ys) ≡ flat_map f xs
 more_none f xs ys none = flat_map-append f xs ys ∙ ap (λ l. flat_map f xs ++ l) none ∙ append-nil (flat_map f xs)
 
 -- ---- each object
@@ -159,7 +159,7 @@ same_numbers doors place door door' within read number =
     map-set f doors place door' ∙ ap (λ (n : ℕ). set (map f doors) place n) (number ∙ ap f read ∙ sym (get_or-map f doors place door 0 within)) ∙ set-get_or (map f doors) place 0
 
 -- what holds of each when one is another
-all_set : {X : Type 0} (P : X → Type 0) (xs : List X) (place : ℕ) (x : X) → place < length xs → P x → ((k : ℕ) (d : X) → (k ≡ place → ⊥) → k < length xs → P (get_or xs k d)) → All P (set xs place x)
+pub all_set : {X : Type 0} (P : X → Type 0) (xs : List X) (place : ℕ) (x : X) → place < length xs → P x → ((k : ℕ) (d : X) → (k ≡ place → ⊥) → k < length xs → P (get_or xs k d)) → All P (set xs place x)
 all_set P xs place x within holds others k d lt =
     ⊎_elim
     (λ same. subst (λ (n : ℕ). P (get_or (set xs place x) n d)) (sym same) (subst P (sym (get_or-set_same xs place x d within)) holds))

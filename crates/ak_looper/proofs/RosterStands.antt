@@ -25,7 +25,7 @@ use Rattle.ak_looper.proofs.RosterSteps.{DoesNoDoor, any_still}
 use Rattle.ak_looper.proofs.RosterTurns.{leads_on}
 
 -- ---- lists that go on
-plain_starts : (front front' : List (EntryWithObjects Object)) → StartsWith front' front → StartsWith (plain_entries front') (plain_entries front)
+pub plain_starts : (front front' : List (EntryWithObjects Object)) → StartsWith front' front → StartsWith (plain_entries front') (plain_entries front)
 plain_starts front front' on =
     let plain : EntryWithObjects Object → RosterEntry = λ e. e.plain in
     (plain_entries on.0, ap plain_entries on.1 ∙ map-append plain front on.0)

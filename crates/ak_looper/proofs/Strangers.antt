@@ -40,7 +40,7 @@ one_not_of_door looper (saw_book list) none = All-nil (λ (m : Noted RosterEntry
 one_not_of_door looper (saw_port number list) none = All-nil (λ (m : Noted RosterEntry). m.entry.event ≢ event.Door looper)
 one_not_of_door looper lacked none = All-nil (λ (m : Noted RosterEntry). m.entry.event ≢ event.Door looper)
 
-none_of_door : (looper : ℕ) (steps : List Step) → All (λ number. number ≢ looper) (doors_got steps) → All (λ (n : Noted RosterEntry). n.entry.event ≢ event.Door looper) (roster_entries steps)
+pub none_of_door : (looper : ℕ) (steps : List Step) → All (λ number. number ≢ looper) (doors_got steps) → All (λ (n : Noted RosterEntry). n.entry.event ≢ event.Door looper) (roster_entries steps)
 none_of_door looper [] none = All-nil (λ (n : Noted RosterEntry). n.entry.event ≢ event.Door looper)
 none_of_door looper (step ∷ steps) none =
     All-append (λ (n : Noted RosterEntry). n.entry.event ≢ event.Door looper) (roster_entry step) (roster_entries steps)
@@ -48,7 +48,7 @@ none_of_door looper (step ∷ steps) none =
     (none_of_door looper steps (All-right (λ number. number ≢ looper) (door_got step) (doors_got steps) none))
 
 -- as the journal shows them, however the list went on by others
-own_entries : EntriesTellPlain Object → (looper : ℕ) (seat : RosterSeat) (front : List (EntryWithObjects Object)) (notes : List (Noted RosterEntry)) → noted maker_of seat.thread (plain_of seat) ≡ notes
+pub own_entries : EntriesTellPlain Object → (looper : ℕ) (seat : RosterSeat) (front : List (EntryWithObjects Object)) (notes : List (Noted RosterEntry)) → noted maker_of seat.thread (plain_of seat) ≡ notes
     → made_by by_number seat.thread front ≡ made_by by_number seat.thread seat.front → All (λ (n : Noted RosterEntry). n.entry.event ≢ event.Door looper) notes
     → All (λ (e : RosterEntry). e.event ≢ event.Door looper) (made_by maker_of seat.thread (plain_entries front))
 own_entries tell looper seat front notes are made none =

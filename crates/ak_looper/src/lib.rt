@@ -23,4 +23,4 @@ pub use door::Door;
 pub use job::{EndKind, LooperEnd, LooperJob};
 pub use kept_door::KeptDoor;
 pub use life::run_looper;
-pub use roster::Roster;
+pub use roster::{Roster, get_door};

@@ -100,9 +100,10 @@ fn try_door<R: Wait>(
     door
 }
 
-// Gets the looper's door, which the thread has not. Where the looper is not started yet it gives its turn back, and tries
-// again once there is a new entry.
-pub(crate) fn get_door<R: Wait>(
+/// Gets the looper's door, which the thread has not, by one entry at the roster. It waits for its turn. Where the looper is
+/// not started yet it gives its turn back, and tries again once there is a new entry. The seat is one at this roster,
+/// without a turn, and of the clock's thread. `NoMemory` makes no entry.
+pub fn get_door<R: Wait>(
     roster: &Roster,
     rt: &R,
     seat: &mut Seat<RosterBook<KeptDoor>>,
