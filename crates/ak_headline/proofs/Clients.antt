@@ -9,7 +9,7 @@ use Rattle.ak_port.specs.ReplySeats as books
 use Rattle.ak_diary.specs.declared.histories.Histories.{Histories}
 use Rattle.ak_diary.specs.Step.{Step, book_entries, book_sights, port_entries}
 use Rattle.ak_headline.specs.Diaries.{MainAsksSo, MainTallies, SessionsAskSo, SessionsTally}
-use Rattle.ak_headline.specs.Run.{HasDone, HasSession, IsRun, port_list}
+use Rattle.ak_headline.specs.Run.{HasDone, HasSession, IsRunWith, port_list}
 use Rattle.ak_headline.specs.Sends.{SendsSo}
 use Rattle.ak_headline.specs.Tally.{Tally}
 use Rattle.ak_headline.proofs.ActsTold.{NoLooper}
@@ -35,8 +35,8 @@ pub record Client (h : Histories) (n count k : ℕ) : Type 0 where
   pub told : k < count → IsToldBy h k steps
 
 module _ (of_main : MainTallies) (main_so : MainAsksSo) (of_sessions : SessionsTally) (sessions_so : SessionsAskSo) where
-  module _ (heads : List AppHead) (short : List ℕ) (h : Histories) (run : IsRun heads short h) (n : ℕ) where
-    main_client : Client h n (suc run.sessions) zero
+  module _ (sessions : ℕ) (heads : List AppHead) (short : List ℕ) (h : Histories) (run : IsRunWith sessions heads short h) (n : ℕ) where
+    main_client : Client h n (suc sessions) zero
     main_client = record {
       steps = run.main;
       tally = of_main run.main run.main_diary n;
@@ -44,7 +44,7 @@ module _ (of_main : MainTallies) (main_so : MainAsksSo) (of_sessions : SessionsT
       told = λ within. told_by h zero run.main run.main_done;
     }
 
-    session_client : (number : ℕ) → HasSession h number → Client h n (suc run.sessions) number
+    session_client : (number : ℕ) → HasSession h number → Client h n (suc sessions) number
     session_client number has = record {
       steps = has.steps;
       tally = of_sessions has.steps has.diary n;
@@ -52,7 +52,7 @@ module _ (of_main : MainTallies) (main_so : MainAsksSo) (of_sessions : SessionsT
       told = λ within. told_by h number has.steps has.done;
     }
 
-    no_client : (number : ℕ) → suc run.sessions ≤ number → Client h n (suc run.sessions) number
+    no_client : (number : ℕ) → suc sessions ≤ number → Client h n (suc sessions) number
     no_client number past = record {
       steps = [];
       tally = record { asks = 0; sent = refl; opened = omega arith; took = refl; filled = omega arith; settled = inl refl };
@@ -60,8 +60,8 @@ module _ (of_main : MainTallies) (main_so : MainAsksSo) (of_sessions : SessionsT
       told = λ within. absurd (omega (arith, within, past));
     }
 
-    pub client : (k : ℕ) → Client h n (suc run.sessions) k
+    pub client : (k : ℕ) → Client h n (suc sessions) k
     client zero = main_client
     client (suc k) =
-        ⊎_elim (λ (within : k < run.sessions). session_client (suc k) (run.each_session (suc k) (omega arith, omega (arith, within))))
-        (λ (past : run.sessions ≤ k). no_client (suc k) (omega (arith, past))) (cases_lt k run.sessions)
+        ⊎_elim (λ (within : k < sessions). session_client (suc k) (run.each_session (suc k) (omega arith, omega (arith, within))))
+        (λ (past : sessions ≤ k). no_client (suc k) (omega (arith, past))) (cases_lt k sessions)

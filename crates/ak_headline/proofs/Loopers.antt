@@ -67,14 +67,14 @@ module _ (heads : List AppHead) (short : List ℕ) (h : Histories) (k : ℕ) (ha
 
 -- ---- of all
 pub runs_are_accounted : AcceptedIsDispatchedThenLeft → RunsAreAccounted
-runs_are_accounted law heads short h run =
+runs_are_accounted law sessions heads short h run =
     each_at IsAccounted 0 h.ports.items h.desks.items run.histories.each
     (λ k port desk at_port at_desk.
     let same : k ≡ 0 + k = omega arith in
     subst (λ (m : ℕ). IsAccounted m port desk) same (one_accounted heads short h k (run.loopers k (slice_get_within h.ports.items k port at_port)) port desk at_port at_desk law))
 
 pub runs_go_by_rule : EachIsDispatchedByRule → RunsGoByRule
-runs_go_by_rule law heads short h run =
+runs_go_by_rule law sessions heads short h run =
     each_at IsByRule 0 h.ports.items h.desks.items run.histories.each
     (λ k port desk at_port at_desk.
     let same : k ≡ 0 + k = omega arith in

@@ -23,7 +23,7 @@ use Rattle.ak_diary.specs.Looper.{thread_of}
 use Rattle.ak_diary.specs.Step.{book_entries}
 use Rattle.ak_headline.specs.Answers.{GotOneReply, IsAccepted, WasSentOn, WentOn, cancels, doing, opens, owes}
 use Rattle.ak_headline.specs.Headline.{RunsAnswer}
-use Rattle.ak_headline.specs.Run.{ActsIn, HasDone, HasLooper, IsRun, desk_list, port_list}
+use Rattle.ak_headline.specs.Run.{ActsIn, HasDone, HasLooper, IsRunWith, desk_list, port_list}
 use Rattle.ak_headline.specs.Diaries.{LoopersPay, LoopersSendSo, LoopersSendUp, LoopersTally, MainAsksSo, MainTallies, SessionsAskSo, SessionsTally}
 use Rattle.ak_headline.specs.Sends.{SendsSo}
 use Rattle.ak_headline.specs.Tally.{SendsUp, at_slot, how_many, writes_owing}
@@ -155,7 +155,7 @@ module _ (h : Histories) (short : List ℕ) (n : ℕ) (accounts : (k : ℕ) → 
 -- ---- of a run
 module _ (all : AcceptedIsDispatchedThenLeft) (law : EachIsDispatchedByRule) (one : StateIsOne) (forward : ForwardTellsReply) (tally : LoopersTally) (up : LoopersSendUp) (pay : LoopersPay) (of_main : MainTallies) (of_sessions : SessionsTally) (so : LoopersSendSo) (main_so : MainAsksSo)
     (sessions_so : SessionsAskSo) where
-  module _ (heads : List AppHead) (short : List ℕ) (h : Histories) (run : IsRun heads short h) (n : ℕ) where
+  module _ (sessions : ℕ) (heads : List AppHead) (short : List ℕ) (h : Histories) (run : IsRunWith sessions heads short h) (n : ℕ) where
     account_of : (k : ℕ) → HasLooper heads short h k → Account h short n k
     account_of k has =
         let l = has.facts in
@@ -176,23 +176,23 @@ module _ (all : AcceptedIsDispatchedThenLeft) (law : EachIsDispatchedByRule) (on
 
     -- main and the sessions
     abbrev count : ℕ
-    count = suc run.sessions
+    count = suc sessions
 
     few_clients : count ≤ looper_thread 0
     few_clients = omega (arith, run.few_sessions)
 
     clients : (k : ℕ) → Client h n count k
-    clients = client of_main main_so of_sessions sessions_so heads short h run n
+    clients = client of_main main_so of_sessions sessions_so sessions heads short h run n
 
     book_makers : All (λ (entry : ReplyEntry). IsClientOrLooper h count entry.by.0) h.book
     book_makers =
-        All-weaker (λ (entry : ReplyEntry). ActsIn h run.sessions entry.by.0) (λ (entry : ReplyEntry). IsClientOrLooper h count entry.by.0)
-        (λ entry of. client_or_looper h run.sessions entry.by.0 of) h.book run.book_makers
+        All-weaker (λ (entry : ReplyEntry). ActsIn h sessions entry.by.0) (λ (entry : ReplyEntry). IsClientOrLooper h count entry.by.0)
+        (λ entry of. client_or_looper h sessions entry.by.0 of) h.book run.book_makers
 
     port_makers : (looper : ℕ) → All (λ (entry : PortEntry). IsClientOrLooper h count entry.by.0) (port_list h looper)
     port_makers looper =
-        All-weaker (λ (entry : PortEntry). ActsIn h run.sessions entry.by.0) (λ (entry : PortEntry). IsClientOrLooper h count entry.by.0)
-        (λ entry of. client_or_looper h run.sessions entry.by.0 of) (port_list h looper) (run.port_makers looper)
+        All-weaker (λ (entry : PortEntry). ActsIn h sessions entry.by.0) (λ (entry : PortEntry). IsClientOrLooper h count entry.by.0)
+        (λ entry of. client_or_looper h sessions entry.by.0 of) (port_list h looper) (run.port_makers looper)
 
     accounts : (k : ℕ) → Account h short n k
     accounts k =
@@ -215,4 +215,4 @@ module _ (all : AcceptedIsDispatchedThenLeft) (law : EachIsDispatchedByRule) (on
         (who_took h short n accounts count few_clients clients book_makers port_makers run.histories.book k some)
 
   pub runs_answer : RunsAnswer
-  runs_answer heads short h run n looper position item is = one_reply heads short h run n looper position item is
+  runs_answer sessions heads short h run n looper position item is = one_reply sessions heads short h run n looper position item is

@@ -14,7 +14,7 @@ use Rattle.ak_diary.specs.Laws.{IsAccountedFor, IsDispatchedSo}
 use Rattle.ak_diary.specs.Looper.{LooperFacts}
 use Rattle.ak_diary.specs.Step.{Step}
 use Rattle.ak_headline.specs.Answers.{GotOneReply, IsAccepted}
-use Rattle.ak_headline.specs.Run.{IsRun}
+use Rattle.ak_headline.specs.Run.{IsRunWith}
 use Rattle.ak_headline.specs.Diaries.{LoopersPay, LoopersSendSo, LoopersSendUp, LoopersTally, MainAsksSo, MainTallies, SessionsAskSo, SessionsTally}
 
 -- of each looper, by their numbers from that one on, its port and its desk are so
@@ -43,13 +43,13 @@ EachGotOneReply short h = (n looper position : ℕ) (item : ItemData) → IsAcce
 
 -- ---- the laws
 abbrev pub RunsAreAccounted : Type 0
-RunsAreAccounted = (heads : List AppHead) (short : List ℕ) (h : Histories) → IsRun heads short h → EachLooper h IsAccounted
+RunsAreAccounted = (sessions : ℕ) (heads : List AppHead) (short : List ℕ) (h : Histories) → IsRunWith sessions heads short h → EachLooper h IsAccounted
 
 abbrev pub RunsGoByRule : Type 0
-RunsGoByRule = (heads : List AppHead) (short : List ℕ) (h : Histories) → IsRun heads short h → EachLooper h IsByRule
+RunsGoByRule = (sessions : ℕ) (heads : List AppHead) (short : List ℕ) (h : Histories) → IsRunWith sessions heads short h → EachLooper h IsByRule
 
 abbrev pub RunsAnswer : Type 0
-RunsAnswer = (heads : List AppHead) (short : List ℕ) (h : Histories) → IsRun heads short h → EachGotOneReply short h
+RunsAnswer = (sessions : ℕ) (heads : List AppHead) (short : List ℕ) (h : Histories) → IsRunWith sessions heads short h → EachGotOneReply short h
 
 -- the last one, by what the diaries tell of a slot
 abbrev pub TalliesTellReplies : Type 0

@@ -1,5 +1,5 @@
 -- A run that ended: its lists, and the diaries of all threads that made them.
-use Rattle.std.specs.Prelude.{◌≡◌, ◌<◌, ◌≤◌, ◌==◌, ◌⊎◌, ℕ, List, [], length, All, Any, Some, option_map, slice_get, unwrap_or}
+use Rattle.std.specs.Prelude.{◌≡◌, ◌<◌, ◌≤◌, ◌==◌, ◌⊎◌, ℕ, List, [], length, All, Any, Some, option_map, slice_get, unwrap_or, true, AllPairs}
 use Rattle.std.specs.List.{list_any}
 use Rattle.ak_base.specs.Thread.{looper_thread, main_thread}
 use Rattle.ak_base.specs.declared.app_word.AppWord.{AppWord}
@@ -20,8 +20,8 @@ use Rattle.ak_desk.specs.Entry.{EntryData}
 use Rattle.ak_diary.specs.declared.histories.Histories.{Histories}
 use Rattle.ak_diary.specs.Histories.{AreHistories}
 use Rattle.ak_diary.specs.Laws.{HasDiary}
-use Rattle.ak_diary.specs.Looper.{LooperFacts, thread_of}
-use Rattle.ak_diary.specs.Step.{Step, book_entries, book_sights, port_entries, ran_short, roster_entries}
+use Rattle.ak_diary.specs.Looper.{LooperFacts, thread_of, is_of_team}
+use Rattle.ak_diary.specs.Step.{Step, book_entries, book_sights, port_entries, ran_short, roster_entries, desk_entries}
 use Rattle.ak_headline.specs.Main.{IsMainDiary, IsSessionDiary}
 
 -- ---- the lists of a run
@@ -35,13 +35,17 @@ desk_list h looper = unwrap_or (option_map (λ (desk : DeskData). desk.entries) 
 abbrev pub roster_maker : RosterEntry → ℕ
 roster_maker entry = entry.by.0
 
+abbrev pub desk_maker : EntryData → ℕ
+desk_maker entry = entry.plain.by.0
+
 -- ---- what a thread did
--- its steps have all that it made at the roster, at the reply book and at each port; what it saw of the book without an entry is a
--- beginning of the book's list
+-- its steps have all that it made at the roster, at the reply book, at each port and at each desk; what it saw of the book without an entry
+-- is a beginning of the book's list
 pub record HasDone (h : Histories) (thread : ℕ) (steps : List Step) : Type 0 where
   pub at_roster : noted roster_maker thread h.roster.items ≡ roster_entries steps
   pub at_book : noted books.maker_of thread h.book ≡ book_entries steps
   pub at_ports : (looper : ℕ) → noted ports.by_number thread (port_list h looper) ≡ port_entries looper steps
+  pub at_desks : (looper : ℕ) → noted desk_maker thread (desk_list h looper) ≡ desk_entries looper steps
   pub book_seen : All (StartsWith h.book) (book_sights steps)
 
 -- a team was started with these numbers
@@ -49,11 +53,12 @@ abbrev pub StartedTeam : LooperFacts → RosterEntry → Type 0
 StartedTeam l entry =
     (word : AppWord) × (place : ℕ) × (entry.event ≡ roster_event.Launch word (launch.Started place l.team l.first)) × (loopers_at l.heads place ≡ l.loopers)
 
--- The looper of that number: its team was started, and the diary of its thread has all that the thread did; it is among those that found
+-- The looper of that number: it is one of its team, which was started, and the diary of its thread has all that the thread did; it is among those that found
 -- no memory exactly where a step says so
 pub record HasLooper (heads : List AppHead) (short : List ℕ) (h : Histories) (looper : ℕ) : Type 0 where
   pub facts : LooperFacts
   pub number_is : facts.number ≡ looper
+  pub of_team : is_of_team facts looper ≡ true
   pub heads_are : facts.heads ≡ heads
   pub opened : option_map (λ (desk : DeskData). desk.opening) (slice_get h.desks.items looper) ≡ Some facts.desk
   pub started : Any (StartedTeam facts) h.roster.items
@@ -83,16 +88,22 @@ ActsIn h sessions thread = IsOfRun h thread ⊎ IsSession sessions thread
 
 -- Each list is one that its object's machine allows; there are a port and a desk for each looper that was started, and no others. Each
 -- looper has its diary, and so have main and each session, whose numbers are below those of the loopers' threads; no other thread made an
--- entry at the reply book or at a port
-pub record IsRun (heads : List AppHead) (short : List ℕ) (h : Histories) : Type 0 where
+-- entry at the roster, at the reply book or at a port. Those that found no memory are loopers of the run, in order, and each once
+pub record IsRunWith (sessions : ℕ) (heads : List AppHead) (short : List ℕ) (h : Histories) : Type 0 where
   pub histories : AreHistories heads h
   pub all : length h.ports.items ≡ length (state_of heads h.roster.items).loopers
   pub loopers : (looper : ℕ) → looper < length h.ports.items → HasLooper heads short h looper
+  pub short_are : All (λ (number : ℕ). number < length h.ports.items) short
+  pub short_once : AllPairs (λ (a b : ℕ). a < b) short
   pub main : List Step
   pub main_diary : IsMainDiary main
   pub main_done : HasDone h main_thread main
-  pub sessions : ℕ
   pub few_sessions : sessions < looper_thread 0
   pub each_session : (number : ℕ) → IsSession sessions number → HasSession h number
+  pub roster_makers : All (λ (entry : RosterEntry). ActsIn h sessions entry.by.0) h.roster.items
   pub book_makers : All (λ (entry : ReplyEntry). ActsIn h sessions entry.by.0) h.book
   pub port_makers : (looper : ℕ) → All (λ (entry : PortEntry). ActsIn h sessions entry.by.0) (port_list h looper)
+
+-- without a session
+abbrev pub IsRun : List AppHead → List ℕ → Histories → Type 0
+IsRun heads short h = IsRunWith 0 heads short h

@@ -50,10 +50,10 @@ use Rattle.ak_run.proofs.Acts.{GoesAtBoth, May, adds_there, both_then, no_book, 
 
 -- ---- main's seat goes on
 module _ {O L : Type 0} (by : L → ℕ) (a b : SeatData O L) (main : a.thread ≡ main_thread) where
-  seen_none : HasSeen by a b → noted by main_thread b.front ≡ noted by main_thread a.front
+  pub seen_none : HasSeen by a b → noted by main_thread b.front ≡ noted by main_thread a.front
   seen_none seen = ap (λ t. noted by t b.front) (sym (ap (λ s. s.thread) seen.after ∙ main)) ∙ seen_notes_nothing by a b seen ∙ ap (λ t. noted by t a.front) main
 
-  called_one : (entry : L) (before : List L) → HasCalled by entry a b → b.front ≡ before ++ entry ∷ [] → noted by main_thread b.front ≡ noted by main_thread a.front ++ note before entry ∷ []
+  pub called_one : (entry : L) (before : List L) → HasCalled by entry a b → b.front ≡ before ++ entry ∷ [] → noted by main_thread b.front ≡ noted by main_thread a.front ++ note before entry ∷ []
   called_one entry before call front =
       ap (λ t. noted by t b.front) (sym (ap (λ s. s.thread) call.after ∙ main)) ∙ called_notes_one by entry before a b call front ∙ ap (λ t. noted by t a.front ++ note before entry ∷ []) main
 

@@ -29,7 +29,7 @@ pub one_act : (act : List Step) → IsAct act → IsMainDiary act
 one_act act is = went_on [] act begun is
 
 -- what was noted before, then by these steps, and then by those
-then_those : {X : Type 0} (f : Step → List X) (xs ys : List Step) (a b c : List X) → b ≡ a ++ flat_map f xs → c ≡ b ++ flat_map f ys → c ≡ a ++ flat_map f (xs ++ ys)
+pub then_those : {X : Type 0} (f : Step → List X) (xs ys : List Step) (a b c : List X) → b ≡ a ++ flat_map f xs → c ≡ b ++ flat_map f ys → c ≡ a ++ flat_map f (xs ++ ys)
 then_those f xs ys a b c one two = two ∙ ap (λ l. l ++ flat_map f ys) one ∙ append_assoc a (flat_map f xs) (flat_map f ys) ∙ ap (λ l. a ++ l) (sym (flat_map-append f xs ys))
 
 pub nothing_after : {X : Type 0} (f : Step → List X) (xs ys : List Step) → flat_map f xs ≡ [] → flat_map f ys ≡ [] → flat_map f (xs ++ ys) ≡ []

@@ -8,7 +8,7 @@ use Rattle.ak_base.specs.Thread.{main_thread}
 use Rattle.ak_turn.specs.Called.{KeepsSeat}
 use Rattle.ak_turn.specs.Entries.{StartsWith}
 use Rattle.ak_turn.specs.declared.clock.Clock.{Clock}
-use Rattle.ak_turn.proofs.Surface.{answered_keeps, answered_starts, keeps_same, starts_itself}
+use Rattle.ak_turn.proofs.Surface.{answered_keeps, answered_starts, keeps_same}
 use Rattle.ak_roster.specs.declared.head.AppHead.{AppHead}
 use Rattle.ak_port.specs.declared.port_entry.PortEntry.{PortEntry}
 use Rattle.ak_port.specs.declared.port_entry.PortEvent.{PortEvent}
@@ -27,19 +27,20 @@ use Rattle.ak_headline.specs.Main.{MayEnterPort}
 use Rattle.ak_looper.specs.declared.door.Door.{Door}
 use Rattle.ak_run.specs.declared.member.Member.{Member}
 use Rattle.ak_run.specs.declared.run.Run.{Run}
-use Rattle.ak_run.specs.Doing.{AskedSo, DoesSo, EnteredSo}
+use Rattle.ak_run.specs.Counting.{started_by_main}
+use Rattle.ak_run.specs.Doing.{AskedSo, DoesSo, EnteredSo, desk_front}
 use Rattle.ak_run.specs.Doors.{KeepsDoor, KeepsSeats}
 use Rattle.ak_run.specs.Entering.{AreAtPorts}
 use Rattle.ak_run.specs.Recording.{AddsAtPort, fronts_of}
-use Rattle.ak_run.specs.Running.{IsMember, IsStanding, KeepsRest, Stands}
+use Rattle.ak_run.specs.Running.{IsMember, IsRunning, IsStanding, KeepsRest, Stands}
 use Rattle.ak_run.specs.Sending.{desk_seat_of, port_seat_of}
 use Rattle.ak_run.specs.Starting.{GoesOn}
 use Rattle.ak_run.proofs.Acting.{ActsAtBoth, answers_so, ask_acts, port_acts}
 use Rattle.ak_run.proofs.Acts.{same_goes}
 use Rattle.ak_run.proofs.Doing.{does_so}
 use Rattle.ak_run.proofs.GoingOn.{goes_beside, plain_on, same_desks, set_desks}
-use Rattle.ak_run.proofs.Recorded.{beside_same, call_goes, fronts_same, sees_front}
-use Rattle.ak_run.proofs.Standing.{BookOn, nothing_entered, one_called, same_book, same_loopers}
+use Rattle.ak_run.proofs.Recorded.{beside_same, call_goes, fronts_same, record_by, sees_front}
+use Rattle.ak_run.proofs.Standing.{BookOn, nothing_entered, one_called, same_book, same_loopers, stands_on}
 
 -- ---- seats
 -- what a call at the port leaves of the door
@@ -47,12 +48,8 @@ pub seats_of : (door door' : Door) → KeepsDoor door door' → KeepsSeats door 
 seats_of door door' keeps = record {
   port = keeps.port_seat;
   desk = keeps_same door.desk_seat door'.desk_seat keeps.desk_seat;
-  desk_on = ([], ap (λ (s : DeskSeat). s.front) keeps.desk_seat ∙ sym (append-nil door.desk_seat.front));
+  desk_front = ap (λ (s : DeskSeat). s.front) keeps.desk_seat;
 }
-
--- nothing was called at the desk
-pub desk_same : (d : Door) → StartsWith d.desk_seat.front d.desk_seat.front
-desk_same d = starts_itself d.desk_seat.front
 
 -- a call at a desk changes the seat's front and its own entries alone, and of the clock the time; the front goes on
 pub desk_keeps : (e : Option DeskEvent) (k l : Clock) (a b : DeskSeat) → desks.HasAnswered e k l a b → KeepsSeat a b × StartsWith b.front a.front × (l.thread ≡ k.thread)
@@ -79,16 +76,30 @@ module _ (r r' : Run) (place : ℕ) (m : Member) (door : Door) (within : place <
   pub one_goes : (P : List Step → Type 0) → KeepsSeats m.door door → vec_capacity r'.members ≡ vec_capacity r.members → KeepsRest r r' → BookOn r r' → Acts P → GoesOn r r'
   one_goes P keeps capacity rest book acts =
       goes_beside r r' rest (λ heads next stands. nothing_entered heads r.roster_seat r'.roster_seat roster stands.roster_known) roster_front book
-      (λ next heads stands. one_called next heads r r' place m door within there keeps is capacity stands)
+      (λ next heads stands. one_called next heads r r' place m door within there keeps.port keeps.desk is capacity stands)
       (ap length is ∙ length-set r.members.items place (record m { door = door }))
       (λ new. record { steps = acts.steps; goes = call_goes r r' place m door within there is acts.steps roster acts.acts acts.goes new; no_edits = acts.goes.no_edits })
-      (set_desks r r' place m (record m { door = door }) within there is keeps.desk_on)
+      (set_desks r r' place m (record m { door = door }) within there is keeps.desk_front)
 
   -- and what main did by it
-  pub one_does : (P : List Step → Type 0) → StartsWith door.desk_seat.front m.door.desk_seat.front → Acts P → DoesSo P r r'
-  one_does P desk_on acts =
+  pub one_does : (P : List Step → Type 0) → door.desk_seat.front ≡ m.door.desk_seat.front → Acts P → DoesSo P r r'
+  one_does P same acts =
       does_so P acts.steps r r' acts.so (call_goes r r' place m door within there is acts.steps roster acts.acts acts.goes []) (plain_on r.roster_seat r'.roster_seat roster_front)
-      (set_desks r r' place m (record m { door = door }) within there is desk_on) acts.goes.no_edits
+      (set_desks r r' place m (record m { door = door }) within there is same) acts.goes.no_edits
+
+  -- so the run runs on
+  pub one_runs : (P : List Step → Type 0) → KeepsSeat m.door.port_seat door.port_seat → KeepsSeat m.door.desk_seat door.desk_seat → vec_capacity r'.members ≡ vec_capacity r.members → KeepsRest r r' → BookOn r r' → DoesSo P r r' → IsRunning r → IsRunning r'
+  one_runs P port desk capacity rest book did running =
+      let here = length r.members.items in
+      let heads = running.heads in
+      let count : length r'.members.items ≡ here = ap length is ∙ length-set r.members.items place (record m { door = door }) in
+      record {
+        heads = heads;
+        stands = subst (λ n. Stands n heads r') (sym count)
+            (stands_on here heads 0 r r' rest (nothing_entered heads r.roster_seat r'.roster_seat roster running.stands.roster_known) book (one_called here heads r r' place m door within there port desk is capacity running.stands) running.stands);
+        all = ap (started_by_main heads) roster ∙ running.all ∙ sym count;
+        recorded = record_by (fronts_of r) (fronts_of r') (desk_front r) (desk_front r') did.steps did.does.goes did.does.desks running.recorded;
+      }
 
   -- by one entry at its port, or none, by what it answers
   pub post_acts : (e : Option PortEvent) (k l : Clock) → m.door.port_seat.thread ≡ main_thread → IfSome e MayEnterPort → at_ports.HasAnswered e k l m.door.port_seat door.port_seat → r'.hands.book_seat ≡ r.hands.book_seat → Acts (λ steps. EnteredSo place r' steps e)
@@ -133,7 +144,7 @@ stands_further r r' goes is = record { next = is.next; heads = is.heads; stands 
 
 -- ---- its seats in the list, before and after
 module _ (ms : List Member) (place : ℕ) (m : Member) (within : place < length ms) where
-  there_before : get_or ms place m ≡ m → slice_get ms place ≡ Some m
+  pub there_before : get_or ms place m ≡ m → slice_get ms place ≡ Some m
   there_before there = slice_get_read ms (length ms) place m refl within (sym there)
 
   pub there_after : (m' : Member) → slice_get (set ms place m') place ≡ Some m'

@@ -1,20 +1,22 @@
 -- What main did by one call, and by one after another.
-use Rattle.std.proofs.Common.{◌≡◌, ℕ, List, [], ◌∷◌, ◌++◌, All, sym, subst}
+use Rattle.std.proofs.Common.{◌≡◌, ℕ, List, [], ◌∷◌, ◌++◌, All, sym, ap, ◌∙◌, subst, append-nil}
 use Rattle.std.proofs.lemmas.List.Concat.{flat_map-append}
 use Rattle.std.proofs.lemmas.List.Elements.{All-append, All-nil, All-weaker}
+use Rattle.ak_base.specs.Thread.{main_thread}
 use Rattle.ak_turn.specs.Entries.{StartsWith}
-use Rattle.ak_turn.specs.Noted.{Noted, StandsIn}
+use Rattle.ak_turn.specs.Noted.{Noted, StandsIn, noted}
 use Rattle.ak_turn.proofs.Surface.{starts_then_starts}
 use Rattle.ak_desk.specs.Entry.{EntryData}
+use Rattle.ak_desk.specs.Shared as at_desks
 use Rattle.ak_diary.specs.Step.{Step, desk_entries, desk_entry}
 use Rattle.ak_looper.specs.Rosters.{plain_of}
 use Rattle.ak_port.specs.declared.port_entry.PortEntry.{PortEntry}
 use Rattle.ak_run.specs.declared.run.Run.{Run}
-use Rattle.ak_run.specs.Doing.{Does, DoesSo, HasDoneSoFar, desk_front}
+use Rattle.ak_run.specs.Doing.{Does, DoesSo, HasDoneSoFar, IsQuietAtDesks, desk_front}
 use Rattle.ak_run.specs.Entering.{DoesWith}
 use Rattle.ak_run.specs.Recording.{GoesBy, Records, fronts_of, fronts_with}
-use Rattle.ak_run.proofs.Acts.{goes_then, nothing_after, recorded_on}
-use Rattle.ak_run.proofs.GoingOn.{DesksOn, desks_then, plain_on}
+use Rattle.ak_run.proofs.Acts.{goes_then, nothing_after, recorded_on, then_those}
+use Rattle.ak_run.proofs.GoingOn.{desks_then, plain_on}
 
 -- what stood at a desk stands there still
 pub edits_still : (before after : List EntryData) (notes : List (Noted EntryData)) → StartsWith after before → All (StandsIn before) notes → All (StandsIn after) notes
@@ -25,12 +27,17 @@ edits_then before after looper xs ys on one two =
     subst (All (StandsIn after)) (sym (flat_map-append (desk_entry looper) xs ys))
     (All-append (StandsIn after) (desk_entries looper xs) (desk_entries looper ys) (edits_still before after (desk_entries looper xs) on one) two)
 
+-- what main made at that desk, of what it has seen
+abbrev made_there : Run → ℕ → List (Noted EntryData)
+made_there r looper = noted at_desks.by_number main_thread (desk_front r looper)
+
 -- some steps and then others
 pub does_then : (xs ys : List Step) (r s t : Run) → Does xs r s → Does ys s t → Does (xs ++ ys) r t
 does_then xs ys r s t one two = record {
   goes = goes_then xs ys (fronts_of r) (fronts_of s) (fronts_of t) one.goes two.goes;
   roster_on = starts_then_starts (plain_of r.roster_seat) (plain_of s.roster_seat) (plain_of t.roster_seat) one.roster_on two.roster_on;
-  desks_on = desks_then r s t one.desks_on two.desks_on;
+  desks = λ looper. then_those (desk_entry looper) xs ys (made_there r looper) (made_there s looper) (made_there t looper) (one.desks looper) (two.desks looper);
+  desks_on = λ looper. starts_then_starts (desk_front r looper) (desk_front s looper) (desk_front t looper) (one.desks_on looper) (two.desks_on looper);
   edits = λ looper. edits_then (desk_front s looper) (desk_front t looper) looper xs ys (two.desks_on looper) (one.edits looper) (two.edits looper);
 }
 
@@ -38,15 +45,22 @@ does_then xs ys r s t one two = record {
 pub done_then : (steps more : List Step) (r r' : Run) → HasDoneSoFar steps r → Does more r r' → HasDoneSoFar (steps ++ more) r'
 done_then steps more r r' done does = record {
   recorded = recorded_on steps more (fronts_of r) (fronts_of r') does.goes done.recorded;
+  desks = λ looper. then_those (desk_entry looper) steps more [] (made_there r looper) (made_there r' looper) (done.desks looper) (does.desks looper);
   edits = λ looper. edits_then (desk_front r looper) (desk_front r' looper) looper steps more (does.desks_on looper) (done.edits looper) (does.edits looper);
 }
 
 -- steps without an edit
-pub does_so : (P : List Step → Type 0) (steps : List Step) (r r' : Run) → P steps → GoesBy steps (fronts_of r) (fronts_of r') → StartsWith (plain_of r'.roster_seat) (plain_of r.roster_seat) → DesksOn r r' → ((looper : ℕ) → desk_entries looper steps ≡ []) → DoesSo P r r'
+pub does_so : (P : List Step → Type 0) (steps : List Step) (r r' : Run) → P steps → GoesBy steps (fronts_of r) (fronts_of r') → StartsWith (plain_of r'.roster_seat) (plain_of r.roster_seat) → IsQuietAtDesks r r' → ((looper : ℕ) → desk_entries looper steps ≡ []) → DoesSo P r r'
 does_so P steps r r' so goes roster desks none = record {
   steps = steps;
   so = so;
-  does = record { goes = goes; roster_on = roster; desks_on = desks; edits = λ looper. subst (All (StandsIn (desk_front r' looper))) (sym (none looper)) (All-nil (StandsIn (desk_front r' looper))) };
+  does = record {
+    goes = goes;
+    roster_on = roster;
+    desks = λ looper. desks.same looper ∙ sym (ap (λ l. made_there r looper ++ l) (none looper) ∙ append-nil (made_there r looper));
+    desks_on = desks.on;
+    edits = λ looper. subst (All (StandsIn (desk_front r' looper))) (sym (none looper)) (All-nil (StandsIn (desk_front r' looper)));
+  };
 }
 
 pub does_with : (P Q : List Step → Type 0) (r r' : Run) → ((steps : List Step) → P steps → Q steps) → DoesWith P [] r r' → DoesSo Q r r'
@@ -57,7 +71,7 @@ pub does_so_then : (P Q S : List Step → Type 0) (r s t : Run) → ((xs ys : Li
 does_so_then P Q S r s t tells one two = record { steps = one.steps ++ two.steps; so = tells one.steps two.steps one.so two.so; does = does_then one.steps two.steps r s t one.does two.does }
 
 -- then a team starts, whose ports were new: without a step, or by some
-module _ (P : List Step → Type 0) (new : List (List PortEntry)) (r s t : Run) (does : DoesWith P new r s) (on : StartsWith t.roster_seat.front s.roster_seat.front) (desks : DesksOn s t) where
+module _ (P : List Step → Type 0) (new : List (List PortEntry)) (r s t : Run) (does : DoesWith P new r s) (on : StartsWith t.roster_seat.front s.roster_seat.front) (desks : IsQuietAtDesks s t) where
   roster_then : StartsWith (plain_of t.roster_seat) (plain_of r.roster_seat)
   roster_then = starts_then_starts (plain_of r.roster_seat) (plain_of s.roster_seat) (plain_of t.roster_seat) does.roster_on (plain_on s.roster_seat t.roster_seat on)
 

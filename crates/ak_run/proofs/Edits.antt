@@ -1,5 +1,5 @@
 -- Main edits the handlers of a looper: one entry at its desk, or none.
-use Rattle.std.proofs.Common.{◌≡◌, ℕ, ◌<◌, ◌+◌, cond, List, [], ◌∷◌, ◌++◌, length, All, Some, None, refl, sym, ap, ◌∙◌, subst, append-nil, eq-eqb, ne_eqb}
+use Rattle.std.proofs.Common.{◌≡◌, ◌≢◌, ℕ, ◌<◌, ◌+◌, cond, List, [], ◌∷◌, ◌++◌, length, All, Option, Some, None, refl, sym, ap, ◌∙◌, subst, append-nil, eq-eqb, ne_eqb}
 use Rattle.std.specs.Prelude.{get_or, option_map, set, slice_get, unwrap_or}
 use Rattle.std.proofs.lemmas.List.Elements.{All-cons, All-nil}
 use mathlib.Core.Logic.{dite}
@@ -7,9 +7,11 @@ use native.Mathlib.Decide.{ℕ_discrete}
 use Rattle.ak_turn.specs.declared.clock.Clock.{Clock}
 use Rattle.ak_base.specs.Thread.{main_thread}
 use Rattle.ak_turn.specs.Called.{entry_now}
+use Rattle.ak_turn.specs.Entries.{StartsWith}
 use Rattle.ak_turn.specs.Noted.{Noted, StandsIn, note, noted}
 use Rattle.ak_port.specs.PortCalls as at_ports
 use Rattle.ak_port.specs.ReplySeats.{ReplySeat}
+use Rattle.ak_desk.specs.declared.entry.DeskEvent.{DeskEvent}
 use Rattle.ak_desk.specs.declared.entry.DeskEvent.TheVariants as event
 use Rattle.ak_desk.specs.declared.entry.Edit.{Edit}
 use Rattle.ak_desk.specs.declared.entry.EditAnswer.{EditAnswer}
@@ -27,11 +29,13 @@ use Rattle.ak_run.specs.declared.run.Run.{Run}
 use Rattle.ak_run.specs.Doing.{DoesSo, EditedSo, desk_front}
 use Rattle.ak_run.specs.Recording.{Fronts, GoesBy, fronts_of, member_desk_front}
 use Rattle.ak_run.specs.Sending.{IsAtPlace, edited_event}
+use Rattle.ak_run.proofs.Acting.{called_one, seen_none}
 use Rattle.ak_run.proofs.Acts.{GoesAtBoth, adds_there, one_act}
-use Rattle.ak_run.proofs.Calls.{desk_keeps, roster_front, there_after}
+use Rattle.ak_run.proofs.Calls.{desk_keeps, roster_front, there_after, there_before}
 use Rattle.ak_run.proofs.Doing.{does_so}
-use Rattle.ak_run.proofs.GoingOn.{last_of, plain_on, set_desks}
+use Rattle.ak_run.proofs.GoingOn.{desk_in, last_of, plain_on, same_list}
 use Rattle.ak_run.proofs.Recorded.{call_goes}
+use Rattle.ak_run.proofs.Taking.{beside_set}
 
 -- what is not for want of memory is an entry
 pub entry_is : (e : Edit) (a : EditAnswer) → (a ≡ answer.NoMemory → ⊥) → edit_entry e a ≡ edited_event e (edited.Entered a 0)
@@ -52,7 +56,7 @@ edit_goes looper n e came a b is goes = record {
 }
 
 module _ (r r' : Run) (place : ℕ) (m : Member) (door : Door) (within : place < length r.members.items) (there : get_or r.members.items place m ≡ m) (is : r'.members.items ≡ set r.members.items place (record m { door = door })) (roster : r'.roster_seat ≡ r.roster_seat)
-    (book : r'.hands.book_seat ≡ r.hands.book_seat) (port : door.port_seat.front ≡ m.door.port_seat.front) (e : Edit) (k l : Clock) where
+    (book : r'.hands.book_seat ≡ r.hands.book_seat) (port : door.port_seat.front ≡ m.door.port_seat.front) (main : m.door.desk_seat.thread ≡ main_thread) (e : Edit) (k l : Clock) where
   quiet : GoesBy [] (fronts_of r) (fronts_of r')
   quiet =
       let same : noted at_ports.by_number main_thread door.port_seat.front ≡ noted at_ports.by_number main_thread m.door.port_seat.front ++ [] =
@@ -61,30 +65,53 @@ module _ (r r' : Run) (place : ℕ) (m : Member) (door : Door) (within : place <
       subst (λ (b : ReplySeat). GoesAtBoth place [] r.hands.book_seat.front b.front m.door.port_seat.front door.port_seat.front) (sym book) (adds_there place [] r.hands.book_seat.front m.door.port_seat.front door.port_seat.front same) in
       call_goes r r' place m door within there is [] roster begun goes []
 
-  -- what main has seen of its desk
+  -- what main had seen of its desk, and what it has; each other one is as it was
+  desk_was : desk_front r place ≡ m.door.desk_seat.front
+  desk_was = ap (λ o. unwrap_or (option_map member_desk_front o) []) (there_before r.members.items place m within there)
+
   desk_at : desk_front r' place ≡ door.desk_seat.front
-  desk_at =
-      ap (λ (ms : List Member). unwrap_or (option_map member_desk_front (slice_get ms place)) []) is
-      ∙ ap (λ o. unwrap_or (option_map member_desk_front o) []) (there_after r.members.items place m within (record m { door = door }))
+  desk_at = ap (λ (ms : List Member). desk_in ms place) is ∙ ap (λ o. unwrap_or (option_map member_desk_front o) []) (there_after r.members.items place m within (record m { door = door }))
+
+  desk_beside : (looper : ℕ) → looper ≢ place → desk_front r' looper ≡ desk_front r looper
+  desk_beside looper differ =
+      ap (λ (ms : List Member). desk_in ms looper) is ∙ ap (λ o. unwrap_or (option_map member_desk_front o) []) (beside_set r.members.items place looper (record m { door = door }) differ)
+
+  -- so what is true of both, and of each list with itself, is true at each desk
+  at_desks : (P : ℕ → List EntryData → List EntryData → Type 0) → P place m.door.desk_seat.front door.desk_seat.front → ((looper : ℕ) (l : List EntryData) → place ≢ looper → P looper l l) → (looper : ℕ) → P looper (desk_front r looper) (desk_front r' looper)
+  at_desks P here beside looper =
+      dite (ℕ_discrete place looper)
+      (λ same. subst (λ (n : ℕ). P n (desk_front r n) (desk_front r' n)) same (subst (λ l. P place l (desk_front r' place)) (sym desk_was) (subst (λ l. P place m.door.desk_seat.front l) (sym desk_at) here)))
+      (λ differ. subst (λ l. P looper (desk_front r looper) l) (sym (desk_beside looper (λ same. differ (sym same)))) (beside looper (desk_front r looper) differ))
+
+  goes_on : (e' : Option DeskEvent) → desks.HasAnswered e' k l m.door.desk_seat door.desk_seat → (looper : ℕ) → StartsWith (desk_front r' looper) (desk_front r looper)
+  goes_on e' answered = at_desks (λ looper xs ys. StartsWith ys xs) (desk_keeps e' k l m.door.desk_seat door.desk_seat answered).1 (λ looper l differ. same_list l l refl)
 
   pub edited_does : (result : Edited) → desks.HasAnswered (edited_event e result) k l m.door.desk_seat door.desk_seat → IsAtPlace result (length door.desk_seat.front) → DoesSo (EditedSo place e result) r r'
   edited_does edited.NoMemory looked at =
       does_so (EditedSo place e edited.NoMemory) [] r r' refl quiet (plain_on r.roster_seat r'.roster_seat (roster_front r r' place m door within there is roster))
-      (set_desks r r' place m (record m { door = door }) within there is (desk_keeps None k l m.door.desk_seat door.desk_seat looked).1) (λ looper. refl)
+      (record {
+        on = goes_on None looked;
+        same = at_desks (λ looper xs ys. noted desks.by_number main_thread ys ≡ noted desks.by_number main_thread xs) (seen_none desks.by_number m.door.desk_seat door.desk_seat main looked.seen) (λ looper l differ. refl);
+      })
+      (λ looper. refl)
   edited_does (edited.Entered came at_place) entered at =
-      let n : Noted EntryData = note entered.before (entry_now stamp_number (entry_with None) k entered.before (event.Edited e came)) in
+      let entry : EntryData = entry_now stamp_number (entry_with None) k entered.before (event.Edited e came) in
+      let n : Noted EntryData = note entered.before entry in
       let steps = at_desk place n ∷ [] in
-      let stands : StandsIn (desk_front r' place) n = ([], desk_at ∙ entered.front ∙ sym (append-nil (n.before ++ n.entry ∷ []))) in
+      let own : desk_entries place steps ≡ n ∷ [] = ap (λ b. cond b (n ∷ []) [] ++ []) (eq-eqb place place refl) in
+      let none : (looper : ℕ) → place ≢ looper → desk_entries looper steps ≡ [] = λ looper differ. ap (λ b. cond b (n ∷ []) [] ++ []) (ne_eqb place looper differ) in
       record {
         steps = steps;
-        so = record { noted = n; event_is = refl; place_is = last_of door.desk_seat.front entered.before n.entry at_place entered.front at; is = refl };
+        so = record { noted = n; event_is = refl; place_is = last_of door.desk_seat.front entered.before entry at_place entered.front at; is = refl };
         does = record {
           goes = edit_goes place n e came (fronts_of r) (fronts_of r') refl quiet;
           roster_on = plain_on r.roster_seat r'.roster_seat (roster_front r r' place m door within there is roster);
-          desks_on = set_desks r r' place m (record m { door = door }) within there is (desk_keeps (Some (event.Edited e came)) k l m.door.desk_seat door.desk_seat entered).1;
-          edits = λ looper. dite (ℕ_discrete place looper)
-              (λ same. subst (λ (x : ℕ). All (StandsIn (desk_front r' x)) (desk_entries x steps)) same
-              (subst (λ b. All (StandsIn (desk_front r' place)) (cond b (n ∷ []) [] ++ [])) (sym (eq-eqb place place refl)) (All-cons (StandsIn (desk_front r' place)) n [] stands (All-nil (StandsIn (desk_front r' place))))))
-              (λ differ. subst (λ b. All (StandsIn (desk_front r' looper)) (cond b (n ∷ []) [] ++ [])) (sym (ne_eqb place looper differ)) (All-nil (StandsIn (desk_front r' looper))));
+          desks = at_desks (λ looper xs ys. noted desks.by_number main_thread ys ≡ noted desks.by_number main_thread xs ++ desk_entries looper steps)
+              (called_one desks.by_number m.door.desk_seat door.desk_seat main entry entered.before entered.called entered.front ∙ ap (λ ns. noted desks.by_number main_thread m.door.desk_seat.front ++ ns) (sym own))
+              (λ looper l differ. sym (ap (λ ns. noted desks.by_number main_thread l ++ ns) (none looper differ) ∙ append-nil (noted desks.by_number main_thread l)));
+          desks_on = goes_on (Some (event.Edited e came)) entered;
+          edits = at_desks (λ looper xs ys. All (StandsIn ys) (desk_entries looper steps))
+              (subst (All (StandsIn door.desk_seat.front)) (sym own) (All-cons (StandsIn door.desk_seat.front) n [] ([], entered.front ∙ sym (append-nil (n.before ++ n.entry ∷ []))) (All-nil (StandsIn door.desk_seat.front))))
+              (λ looper l differ. subst (All (StandsIn l)) (sym (none looper differ)) (All-nil (StandsIn l)));
         };
       }

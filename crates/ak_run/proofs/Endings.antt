@@ -7,6 +7,7 @@ use Rattle.ak_base.specs.Thread.{main_thread}
 use Rattle.ak_turn.specs.Entries.{made_by}
 use Rattle.ak_turn.specs.Seats.{SeatData}
 use Rattle.ak_roster.specs.declared.entry.EntryWithObjects.{EntryWithObjects}
+use Rattle.ak_roster.specs.declared.entry.RosterEntry.{RosterEntry}
 use Rattle.ak_roster.specs.declared.head.AppHead.{AppHead}
 use Rattle.ak_roster.specs.Roster.{RosterData, plain_entries}
 use Rattle.ak_describe.specs.Whole.{heads_of}
@@ -68,12 +69,15 @@ whole heads short h run main diary done = record {
   histories = run.histories;
   all = run.all;
   loopers = run.loopers;
+  short_are = run.short_are;
+  short_once = run.short_once;
   main = main;
   main_diary = diary;
   main_done = done;
-  sessions = 0;
   few_sessions = omega arith;
   each_session = λ number within. no_session h number within;
+  roster_makers =
+      All-weaker (λ (entry : RosterEntry). IsOfRun h entry.by.0) (λ (entry : RosterEntry). ActsIn h 0 entry.by.0) (λ entry of. inl of) h.roster.items run.roster_makers;
   book_makers =
       All-weaker (λ (entry : ReplyEntry). IsOfRun h entry.by.0) (λ (entry : ReplyEntry). ActsIn h 0 entry.by.0) (λ entry of. inl of) h.book run.book_makers;
   port_makers = λ looper.

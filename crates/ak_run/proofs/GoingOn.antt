@@ -1,18 +1,21 @@
 -- A run goes on, call after call.
 use Rattle.std.proofs.Common.{◌≡◌, ℕ, zero, suc, ◌+◌, ◌<◌, List, length, ◌∷◌, ◌++◌, Some, refl, ap, sym, subst, [], ◌∙◌, arith, append-nil, length-append}
 use Rattle.std.specs.Prelude.{get_or, option_map, set, slice_get, unwrap_or}
+use Rattle.ak_base.specs.Thread.{main_thread}
 use Rattle.ak_turn.specs.Entries.{StartsWith}
+use Rattle.ak_turn.specs.Noted.{noted}
 use Rattle.ak_turn.proofs.Surface.{starts_then_starts}
 use Rattle.ak_roster.specs.declared.entry.EntryWithObjects.{EntryWithObjects}
 use Rattle.ak_roster.specs.declared.head.AppHead.{AppHead}
 use Rattle.ak_roster.specs.Roster.{plain_entries}
 use Rattle.ak_port.specs.declared.port_entry.PortEntry.{PortEntry}
 use Rattle.ak_desk.specs.Entry.{EntryData}
+use Rattle.ak_desk.specs.Shared as at_desks
 use Rattle.ak_looper.specs.Rosters.{Object, RosterSeat, plain_of}
 use Rattle.ak_run.specs.declared.member.Member.{Member}
 use Rattle.ak_run.specs.declared.run.Run.{Run}
 use Rattle.ak_run.specs.Counting.{started_by_main}
-use Rattle.ak_run.specs.Doing.{desk_front}
+use Rattle.ak_run.specs.Doing.{IsQuietAtDesks, desk_front}
 use Rattle.ak_run.specs.Recording.{HasRecord, Records, RecordsBeside, fronts_of, fronts_with, member_desk_front}
 use Rattle.ak_run.specs.Running.{IsRunning, KeepsRest, Stands}
 use Rattle.ak_run.specs.Starting.{GoesOn, GoesOnWith}
@@ -29,42 +32,48 @@ pub last_of : {L : Type 0} (front before : List L) (x : L) (place : ℕ) → fro
 last_of front before x place is seen = omega (arith, ap length is, length-append before (x ∷ []), seen)
 
 -- ---- the desks
-abbrev pub DesksOn : Run → Run → Type 0
-DesksOn r r' = (looper : ℕ) → StartsWith (desk_front r' looper) (desk_front r looper)
-
-pub desks_then : (r s t : Run) → DesksOn r s → DesksOn s t → DesksOn r t
-desks_then r s t one two looper = starts_then_starts (desk_front r looper) (desk_front s looper) (desk_front t looper) (one looper) (two looper)
+pub desks_then : (r s t : Run) → IsQuietAtDesks r s → IsQuietAtDesks s t → IsQuietAtDesks r t
+desks_then r s t one two = record {
+  on = λ looper. starts_then_starts (desk_front r looper) (desk_front s looper) (desk_front t looper) (one.on looper) (two.on looper);
+  same = λ looper. two.same looper ∙ one.same looper;
+}
 
 -- what a desk's list goes on from itself
-same_list : {L : Type 0} (xs ys : List L) → ys ≡ xs → StartsWith ys xs
+pub same_list : {L : Type 0} (xs ys : List L) → ys ≡ xs → StartsWith ys xs
 same_list xs ys same = ([], same ∙ sym (append-nil xs))
 
-abbrev desk_in : List Member → ℕ → List EntryData
+abbrev pub desk_in : List Member → ℕ → List EntryData
 desk_in ms looper = unwrap_or (option_map member_desk_front (slice_get ms looper)) []
 
-pub same_desks : (r r' : Run) → r'.members ≡ r.members → DesksOn r r'
-same_desks r r' same looper = same_list (desk_front r looper) (desk_front r' looper) (ap (λ v. desk_in v.items looper) same)
+quiet_by : (r r' : Run) → ((looper : ℕ) → desk_front r' looper ≡ desk_front r looper) → IsQuietAtDesks r r'
+quiet_by r r' fronts = record {
+  on = λ looper. same_list (desk_front r looper) (desk_front r' looper) (fronts looper);
+  same = λ looper. ap (noted at_desks.by_number main_thread) (fronts looper);
+}
 
--- one of them went on
-set_desk : (ms : List Member) (place : ℕ) (m x : Member) (looper : ℕ) → place < length ms → get_or ms place m ≡ m → StartsWith (member_desk_front x) (member_desk_front m) → StartsWith (desk_in (set ms place x) looper) (desk_in ms looper)
-set_desk [] place m x looper within is on = absurd (omega (arith, within))
-set_desk (y ∷ ms) zero m x zero within is on = subst (λ (z : Member). StartsWith (member_desk_front x) (member_desk_front z)) (sym is) on
-set_desk (y ∷ ms) zero m x (suc looper) within is on = same_list (desk_in ms looper) (desk_in ms looper) refl
-set_desk (y ∷ ms) (suc place) m x zero within is on = same_list (member_desk_front y) (member_desk_front y) refl
-set_desk (y ∷ ms) (suc place) m x (suc looper) within is on = set_desk ms place m x looper (omega (arith, within)) is on
+pub same_desks : (r r' : Run) → r'.members ≡ r.members → IsQuietAtDesks r r'
+same_desks r r' same = quiet_by r r' (λ looper. ap (λ v. desk_in v.items looper) same)
 
-pub set_desks : (r r' : Run) (place : ℕ) (m x : Member) → place < length r.members.items → get_or r.members.items place m ≡ m → r'.members.items ≡ set r.members.items place x → StartsWith (member_desk_front x) (member_desk_front m) → DesksOn r r'
-set_desks r r' place m x within there is on looper = subst (λ (ms : List Member). StartsWith (desk_in ms looper) (desk_front r looper)) (sym is) (set_desk r.members.items place m x looper within there on)
+-- one of them was put in its place
+set_desk : (ms : List Member) (place : ℕ) (m x : Member) (looper : ℕ) → place < length ms → get_or ms place m ≡ m → member_desk_front x ≡ member_desk_front m → desk_in (set ms place x) looper ≡ desk_in ms looper
+set_desk [] place m x looper within is front = absurd (omega (arith, within))
+set_desk (y ∷ ms) zero m x zero within is front = front ∙ ap member_desk_front (sym is)
+set_desk (y ∷ ms) zero m x (suc looper) within is front = refl
+set_desk (y ∷ ms) (suc place) m x zero within is front = refl
+set_desk (y ∷ ms) (suc place) m x (suc looper) within is front = set_desk ms place m x looper (omega (arith, within)) is front
 
--- one more was put behind the others
-push_desk : (ms : List Member) (x : Member) (looper : ℕ) → StartsWith (desk_in (ms ++ x ∷ []) looper) (desk_in ms looper)
-push_desk [] x zero = (member_desk_front x, refl)
-push_desk [] x (suc looper) = ([], refl)
-push_desk (y ∷ ms) x zero = same_list (member_desk_front y) (member_desk_front y) refl
-push_desk (y ∷ ms) x (suc looper) = push_desk ms x looper
+pub set_desks : (r r' : Run) (place : ℕ) (m x : Member) → place < length r.members.items → get_or r.members.items place m ≡ m → r'.members.items ≡ set r.members.items place x → member_desk_front x ≡ member_desk_front m → IsQuietAtDesks r r'
+set_desks r r' place m x within there is front = quiet_by r r' (λ looper. ap (λ (ms : List Member). desk_in ms looper) is ∙ set_desk r.members.items place m x looper within there front)
 
-pub push_desks : (r r' : Run) (x : Member) → r'.members.items ≡ r.members.items ++ x ∷ [] → DesksOn r r'
-push_desks r r' x is looper = subst (λ (ms : List Member). StartsWith (desk_in ms looper) (desk_front r looper)) (sym is) (push_desk r.members.items x looper)
+-- one more was put behind the others, whose desk nobody had used
+push_desk : (ms : List Member) (x : Member) (looper : ℕ) → member_desk_front x ≡ [] → desk_in (ms ++ x ∷ []) looper ≡ desk_in ms looper
+push_desk [] x zero none = none
+push_desk [] x (suc looper) none = refl
+push_desk (y ∷ ms) x zero none = refl
+push_desk (y ∷ ms) x (suc looper) none = push_desk ms x looper none
+
+pub push_desks : (r r' : Run) (x : Member) → r'.members.items ≡ r.members.items ++ x ∷ [] → member_desk_front x ≡ [] → IsQuietAtDesks r r'
+push_desks r r' x is none = quiet_by r r' (λ looper. ap (λ (ms : List Member). desk_in ms looper) is ∙ push_desk r.members.items x looper none)
 
 -- ---- calls
 -- one call after another
@@ -113,7 +122,7 @@ goes_by r r' roster_heads keeps opening roster book same count recorded members 
 
 -- a call that leaves the roster alone
 pub goes_beside : (r r' : Run) → KeepsRest r r' → ((heads : List AppHead) → (next : ℕ) → Stands next heads r → RosterOn heads 0 r.roster_seat r'.roster_seat) → StartsWith r'.roster_seat.front r.roster_seat.front → BookOn r r'
-    → ((next : ℕ) (heads : List AppHead) → Stands next heads r → SameLoopers heads r r') → length r'.members.items ≡ length r.members.items → RecordsBeside r r' → DesksOn r r' → GoesOn r r'
+    → ((next : ℕ) (heads : List AppHead) → Stands next heads r → SameLoopers heads r r') → length r'.members.items ≡ length r.members.items → RecordsBeside r r' → IsQuietAtDesks r r' → GoesOn r r'
 goes_beside r r' keeps roster on book same count recorded desks = record {
   stands = λ next heads k. stands_on next heads 0 r r' keeps (roster heads next k) book (same next heads k) k;
   started = λ next heads k. (roster heads next k).started ∙ nothing_more (started_by_main heads r.roster_seat);
@@ -136,17 +145,17 @@ still_running r r' goes is =
       heads = is.heads;
       stands = subst (λ n. Stands n is.heads r') (sym goes.count) (goes.stands here is.heads is.stands);
       all = goes.started here is.heads is.stands ∙ is.all ∙ sym goes.count;
-      recorded = record_on (fronts_of r) (fronts_of r') (goes.recorded []) is.recorded;
+      recorded = record_on (fronts_of r) (fronts_of r') (desk_front r) (desk_front r') (goes.recorded []) goes.desks_on.same is.recorded;
     }
 
 -- once all loopers that were launched have started, the run runs
-pub all_run : (n : ℕ) (r s : Run) (heads : List AppHead) (new : List (List PortEntry)) → Stands (length r.members.items) heads r → started_by_main heads r.roster_seat ≡ length r.members.items + n → HasRecord (fronts_with r new) → GoesOnWith n r s
+pub all_run : (n : ℕ) (r s : Run) (heads : List AppHead) (new : List (List PortEntry)) → Stands (length r.members.items) heads r → started_by_main heads r.roster_seat ≡ length r.members.items + n → HasRecord (fronts_with r new) (desk_front r) → GoesOnWith n r s
     → Records (fronts_with r new) (fronts_of s) → IsRunning s
 all_run n r s heads new stands started has goes more = record {
   heads = heads;
   stands = goes.stands heads stands;
   all = goes.started heads stands ∙ started ∙ sym goes.count;
-  recorded = record_on (fronts_with r new) (fronts_of s) more has;
+  recorded = record_on (fronts_with r new) (fronts_of s) (desk_front r) (desk_front s) more goes.desks_on.same has;
 }
 
 -- ---- what main made before stands

@@ -12,6 +12,7 @@ use Rattle.ak_roster.specs.Roster.{objects_of}
 use Rattle.ak_port.specs.PortCalls.{PortSeat}
 use Rattle.ak_port.specs.ReplySeats.{ReplySeat}
 use Rattle.ak_desk.specs.Shared.{DeskSeat}
+use Rattle.ak_looper.specs.declared.door.Door.{Door}
 use Rattle.ak_looper.specs.declared.job.LooperEnd.{LooperEnd}
 use Rattle.ak_looper.specs.declared.job.LooperJob.{LooperJob}
 use Rattle.ak_looper.specs.Job.{HasLived, IsReady}
@@ -20,6 +21,7 @@ use Rattle.ak_looper.specs.Rosters.{Object, RosterSeat}
 use Rattle.ak_run.specs.declared.gathering.Joined.{Joined}
 use Rattle.ak_run.specs.declared.member.Member.{Member}
 use Rattle.ak_run.specs.declared.new_looper.Shared.{Shared}
+use Rattle.ak_run.specs.Doors.{HasNoNames}
 use Rattle.ak_run.specs.Gathering.{GoesOnKnowing, IsJoined, TookIn}
 use Rattle.ak_run.specs.Running.{IsMember}
 
@@ -137,8 +139,12 @@ is_joined heads shared roster roster' book book' m end j is lived number job gav
       kind = kind ∙ ap (λ (e : LooperEnd). e.kind) (sym gave);
     }
 
--- neither main's seat at its port nor the thread's was the head
-pub still_no_head : (heads : List AppHead) (shared : Shared) (roster : RosterSeat) (m : Member) (end : LooperEnd) (seat : PortSeat) → IsMember heads shared roster m → HasLived m.job.value end
-    → seat ≡ joined_seat m.door.port_seat end.own.port_seat → seat.names ≡ None
-still_no_head heads shared roster m end seat is lived joined =
-    ap (λ (s : PortSeat). s.names) joined ∙ ap (λ (ns : Option (List ℕ)). either_names ns end.own.port_seat.names) is.no_head ∙ lived.port_kept.names ∙ is.own_no_head
+-- neither main's seats at its port and its desk nor the thread's were the heads
+pub still_no_head : (heads : List AppHead) (shared : Shared) (roster : RosterSeat) (m : Member) (end : LooperEnd) (door : Door) → IsMember heads shared roster m → HasLived m.job.value end
+    → door.port_seat ≡ joined_seat m.door.port_seat end.own.port_seat → door.desk_seat ≡ joined_seat m.door.desk_seat end.own.desk_seat → HasNoNames door
+still_no_head heads shared roster m end door is lived at_port at_desk = record {
+  at_port =
+      ap (λ (s : PortSeat). s.names) at_port ∙ ap (λ (ns : Option (List ℕ)). either_names ns end.own.port_seat.names) is.no_head.at_port ∙ lived.port_kept.names ∙ is.own_no_head.at_port;
+  at_desk =
+      ap (λ (s : DeskSeat). s.names) at_desk ∙ ap (λ (ns : Option (List ℕ)). either_names ns end.own.desk_seat.names) is.no_head.at_desk ∙ lived.desk_kept.names ∙ is.own_no_head.at_desk;
+}

@@ -61,8 +61,8 @@ acts_as looper P Q book book' port port' tells acts = record { steps = acts.step
 
 -- a call at one looper's port, by what its entry there tells
 pub does_as : (r r' : Run) (place : ℕ) (m : Member) (door : Door) (within : place < length r.members.items) (there : get_or r.members.items place m ≡ m) (is : r'.members.items ≡ set r.members.items place (record m { door = door })) (roster : r'.roster_seat ≡ r.roster_seat) (Q : List Step → Type 0)
-    (e : Option PortEvent) (k l : Clock) → StartsWith door.desk_seat.front m.door.desk_seat.front → m.door.port_seat.thread ≡ main_thread → IfSome e MayEnterPort → at_ports.HasAnswered e k l m.door.port_seat door.port_seat → r'.hands.book_seat ≡ r.hands.book_seat
+    (e : Option PortEvent) (k l : Clock) → door.desk_seat.front ≡ m.door.desk_seat.front → m.door.port_seat.thread ≡ main_thread → IfSome e MayEnterPort → at_ports.HasAnswered e k l m.door.port_seat door.port_seat → r'.hands.book_seat ≡ r.hands.book_seat
     → ((steps : List Step) → EnteredSo place r' steps e → Q steps) → DoesSo Q r r'
-does_as r r' place m door within there is roster Q e k l desk_on main may answered book tells =
-    one_does r r' place m door within there is roster Q desk_on
+does_as r r' place m door within there is roster Q e k l desk_front main may answered book tells =
+    one_does r r' place m door within there is roster Q desk_front
     (acts_as place (λ (steps : List Step). EnteredSo place r' steps e) Q r.hands.book_seat.front r'.hands.book_seat.front m.door.port_seat.front door.port_seat.front tells (post_acts r r' place m door within there is roster e k l main may answered book))

@@ -7,7 +7,7 @@ use Rattle.std.specs.List.{Any, find}
 use Rattle.ak_base.specs.declared.app_word.AppWord.{AppWord}
 use Rattle.ak_turn.specs.Entries.{StartsWith}
 use Rattle.ak_message.specs.Message.{MessageData}
-use Rattle.ak_turn.specs.Noted.{note}
+use Rattle.ak_turn.specs.Noted.{note, noted}
 use Rattle.ak_base.specs.Thread.{main_thread}
 use Rattle.ak_turn.specs.Seats.{IsGiven, IsNext, KnowsWhole, at_leisure, entered_by}
 use Rattle.ak_roster.specs.declared.answer.FindAnswer.{FindAnswer}
@@ -23,8 +23,9 @@ use Rattle.ak_roster.specs.Heads.{team_for}
 use Rattle.ak_roster.specs.Machine.{outcome_found, runs_team, state_of}
 use Rattle.ak_roster.specs.Roster.{objects_of, plain_entries, state}
 use Rattle.ak_describe.specs.Whole.{heads_of}
-use Rattle.ak_diary.specs.Step.{Step, at_roster, desk_entry, port_sights, roster_sights, saw_roster}
+use Rattle.ak_diary.specs.Step.{Step, at_roster, desk_entries, desk_entry, port_sights, roster_sights, saw_roster}
 use Rattle.ak_headline.specs.Main.{finds_gone}
+use Rattle.ak_headline.specs.Run.{roster_maker}
 use Rattle.ak_describe.specs.declared.described.AppText.{AppText}
 use Rattle.ak_port.specs.declared.port_entry.PortEntry.{PortEntry}
 use Rattle.ak_looper.specs.Rosters.{Object, RosterSeat, by_number, plain_of}
@@ -35,9 +36,9 @@ use Rattle.ak_run.specs.declared.launching.Launch.TheVariants as launch
 use Rattle.ak_run.specs.declared.launching.StartedTeam.{StartedTeam}
 use Rattle.ak_run.specs.declared.new_looper.Shared.{Shared}
 use Rattle.ak_run.specs.declared.run.Run.{Run}
-use Rattle.ak_run.specs.Closing.{ClosesSo, EntersGone, FindsGone, LeavesBook, LeavesSo}
+use Rattle.ak_run.specs.Closing.{ClosesSo, EntersGone, FindsGone, IsRecordedAtRoster, LeavesBook, LeavesSo}
 use Rattle.ak_run.specs.Counting.{started_by_main}
-use Rattle.ak_run.specs.Doing.{DoesSo, FindsAt, FoundSo, LaunchesAt}
+use Rattle.ak_run.specs.Doing.{DoesSo, FindsAt, FoundSo, LaunchesAt, desk_front}
 use Rattle.ak_run.specs.Entering.{DoesWith, EntersLaunch, EntersRunning, LaunchesLast}
 use Rattle.ak_run.specs.Finding.{IsFoundAt, LooksUp}
 use Rattle.ak_run.specs.Greeting.{at_looper, capacities_in, made_from, start_entries, told_first, written_from}
@@ -53,7 +54,7 @@ use Rattle.ak_run.proofs.Doing.{does_with}
 use Rattle.ak_run.proofs.GoingOn.{last_of, plain_on, same_desks, some_same}
 use Rattle.ak_run.proofs.Opened.{launch_seen}
 use Rattle.ak_run.proofs.PortsAtStart.{MakesPorts, one_at_least, team_begins}
-use Rattle.ak_run.proofs.Recorded.{no_event, one_event, record_by, turn_goes}
+use Rattle.ak_run.proofs.Recorded.{no_event, one_event, record_on, turn_goes}
 use Rattle.ak_run.proofs.RosterTurn.{RosterOn, goes_on, plain-append, sees_all, started_at_turn}
 use Rattle.ak_run.proofs.Standing.{BookOn, same_loopers, stands_on}
 use Rattle.ak_run.proofs.Ways.{all_paired, object, own_ways}
@@ -151,7 +152,8 @@ module _ (r r' : Run) (is : IsRunning r) (keeps : KeepsRest r r') (members : r'.
     heads = is.heads;
     stands = now what 0 entered;
     all = started what 0 entered ∙ nothing_more (length r'.members.items);
-    recorded = record_by (map (turn_step book.entries) entered.added) (fronts_of r) (fronts_of r') (turn_beside what 0 entered []) is.recorded;
+    recorded = record_on (fronts_of r) (fronts_of r') (desk_front r) (desk_front r') (record { steps = map (turn_step book.entries) entered.added; goes = turn_beside what 0 entered []; no_edits = turn_no_edits book.entries entered.added })
+        (same_desks r r' members).same is.recorded;
   }
     where
       nothing_more : (m : ℕ) → m + 0 ≡ m
@@ -196,19 +198,20 @@ module _ (r r' : Run) (is : IsRunning r) (keeps : KeepsRest r r') (members : r'.
   ports_still looper = ([], ap (λ v. list_at (map member_front v.items ++ []) looper) members ∙ sym (append-nil (list_at (fronts_of r).ports looper)))
 
   -- by such steps, at the roster alone
-  closes : (P : List Step → Type 0) (what : Option RosterEvent) (entered : HasEntered what 0 book book') (steps : List Step) → P steps → GoesBy steps (fronts_of r) (fronts_of r') → All (StartsWith (plain_of r'.roster_seat)) (roster_sights steps)
+  closes : (P : List Step → List Step → Type 0) (what : Option RosterEvent) (entered : HasEntered what 0 book book') (steps : List Step) → ((so_far : List Step) → IsRecordedAtRoster so_far r → P so_far steps) → GoesBy steps (fronts_of r) (fronts_of r') → ((looper : ℕ) → desk_entries looper steps ≡ []) → All (StartsWith (plain_of r'.roster_seat)) (roster_sights steps)
       → ((looper : ℕ) → port_sights looper steps ≡ []) → ClosesSo P r r'
-  closes P what entered steps so goes seen none = record {
+  closes P what entered steps so goes no_edits seen none = record {
     steps = steps;
     so = so;
     goes = goes;
+    no_edits = no_edits;
     roster_on = plain_on r.roster_seat r'.roster_seat (on what 0 entered).on;
     ports_on = ports_still;
     roster_seen = seen;
     ports_seen = λ looper. subst (All (StartsWith (list_at (fronts_of r').ports looper))) (sym (none looper)) (All-nil (StartsWith (list_at (fronts_of r').ports looper)));
   }
 
-  pub leaves : (team : ℕ) (o : Option Running) → LeavesBook team o book book' → ClosesSo (LeavesSo (heads_of r.apps.items) team o) r r'
+  pub leaves : (team : ℕ) (o : Option Running) → LeavesBook team o book book' → ClosesSo (λ so_far. LeavesSo (heads_of r.apps.items) so_far team o) r r'
   leaves team (Some running) left =
       let what = Some (event.Gone team) in
       let entered = left.1 in
@@ -218,8 +221,8 @@ module _ (r r' : Run) (is : IsRunning r) (keeps : KeepsRest r r') (members : r'.
       let n = note before x.0.plain in
       let steps : List Step = at_roster n ∷ [] in
       let goes : GoesBy steps (fronts_of r) (fronts_of r') = subst (λ (l : List (EntryWithObjects Object)). GoesBy (map (turn_step book.entries) l) (fronts_of r) (fronts_of r')) x.1 (turn_beside what 0 entered []) in
-      closes (EntersGone (heads_of r.apps.items) team running) what entered steps (record { noted = n; event_is = x.2; runs = ap (λ hs. find (runs_team team) (state_of hs before).running) (sym heads) ∙ left.0; is = refl }) goes
-      (All-nil (StartsWith (plain_of r'.roster_seat))) (λ looper. refl)
+      closes (λ so_far. EntersGone (heads_of r.apps.items) team running) what entered steps (λ so_far is_told. record { noted = n; event_is = x.2; runs = ap (λ hs. find (runs_team team) (state_of hs before).running) (sym heads) ∙ left.0; is = refl }) goes
+      (λ looper. refl) (All-nil (StartsWith (plain_of r'.roster_seat))) (λ looper. refl)
   leaves team None left =
       let entered = left.1 in
       let seen = plain_of r'.roster_seat in
@@ -230,9 +233,9 @@ module _ (r r' : Run) (is : IsRunning r) (keeps : KeepsRest r r') (members : r'.
       let quiet : GoesBy [] (fronts_of r) (fronts_of r') = subst (λ (l : List (EntryWithObjects Object)). GoesBy (map (turn_step book.entries) l) (fronts_of r) (fronts_of r')) none (turn_beside None 0 entered []) in
       let goes : GoesBy steps (fronts_of r) (fronts_of r') =
       record { acts = one_act steps (finds_gone team tt seen refl); roster = quiet.roster; book = quiet.book; book_on = quiet.book_on; book_seen = quiet.book_seen; ports = quiet.ports } in
-      closes (FindsGone (heads_of r.apps.items) team) None entered steps
-      (record { seen = seen; gone = ap (λ (l : List RosterEntry). find (runs_team team) (state_of (heads_of r.apps.items) l).running) list ∙ ap (λ hs. find (runs_team team) (state_of hs (plain_entries book.entries)).running) (sym heads) ∙ left.0; is = refl })
-      goes (All-cons (StartsWith seen) seen [] ([], sym (append-nil seen)) (All-nil (StartsWith seen))) (λ looper. refl)
+      closes (λ so_far. FindsGone (heads_of r.apps.items) so_far team) None entered steps
+      (λ so_far is_told. record { seen = seen; mine = quiet.roster ∙ append-nil (noted roster_maker main_thread (plain_of r.roster_seat)) ∙ is_told; gone = ap (λ (l : List RosterEntry). find (runs_team team) (state_of (heads_of r.apps.items) l).running) list ∙ ap (λ hs. find (runs_team team) (state_of hs (plain_entries book.entries)).running) (sym heads) ∙ left.0; is = refl })
+      goes (λ looper. refl) (All-cons (StartsWith seen) seen [] ([], sym (append-nil seen)) (All-nil (StartsWith seen))) (λ looper. refl)
 
   -- ---- a launch
   module _ (word : AppWord) where
@@ -334,7 +337,7 @@ module _ (r r' : Run) (is : IsRunning r) (keeps : KeepsRest r r') (members : r'.
             },
             omega (arith, h.count, h.few),
             started what n entered,
-            record_by does.steps (fronts_of r) (fronts_with r' (team_fronts t.new)) does.goes is.recorded,
+            record_on (fronts_of r) (fronts_with r' (team_fronts t.new)) (desk_front r) (desk_front r') (record { steps = does.steps; goes = does.goes; no_edits = does.no_edits }) does.desks_on.same is.recorded,
           )
 
       pub has_entered : (l : Launch) → ComesTo r.apps.items r.shared word book book' l → TellsTeam r.apps.items arguments word book l → HasEnteredLaunch r r' l

@@ -7,6 +7,7 @@ pub mod Crossing
 pub mod Deciding
 pub mod Doing
 pub mod Edits
+pub mod Elsewhere
 pub mod Endings
 pub mod Entering
 pub mod GoingOn

@@ -1,6 +1,7 @@
 -- At the end main's diary has all that main did, and the lists go on from what main had seen.
 use Rattle.std.proofs.Common.{◌≡◌, ◌≢◌, ℕ, zero, suc, List, [], ◌∷◌, ◌++◌, length, map, All, sym, refl, ap, ◌∙◌, subst, append-nil, arith}
 use Rattle.std.proofs.lemmas.List.{length-map, map-append}
+use Rattle.std.proofs.lemmas.List.Concat.{flat_map-append}
 use Rattle.std.proofs.lemmas.List.Elements.{All-cons, All-head, All-map, All-tail, All-weaker}
 use Rattle.std.specs.Prelude.{option_map, slice_get, unwrap_or}
 use Rattle.ak_base.specs.Thread.{main_thread}
@@ -20,8 +21,9 @@ use Rattle.ak_port.specs.ReplySeats as at_books
 use Rattle.ak_port.specs.ReplySeats.{ReplySeat}
 use Rattle.ak_desk.specs.Desk.{DeskData}
 use Rattle.ak_desk.specs.Entry.{EntryData}
+use Rattle.ak_desk.specs.Shared as at_desks
 use Rattle.ak_diary.specs.declared.histories.Histories.{Histories}
-use Rattle.ak_diary.specs.Step.{Step, book_sights, desk_entries, port_entries, port_sights, roster_sights}
+use Rattle.ak_diary.specs.Step.{Step, book_sights, desk_entries, desk_entry, port_entries, port_sights, roster_sights}
 use Rattle.ak_headline.specs.Run.{HasDone, desk_list, port_list}
 use Rattle.ak_looper.specs.declared.kept_door.KeptDoor.{KeptDoor}
 use Rattle.ak_looper.specs.Rosters.{Object, RosterSeat, by_number, maker_of, plain_of}
@@ -30,14 +32,14 @@ use Rattle.ak_run.specs.declared.member.Member.{Member}
 use Rattle.ak_run.specs.declared.run.Run.{Run}
 use Rattle.ak_run.specs.AtEnd.{DoneAtEnd}
 use Rattle.ak_run.specs.Closing.{ClosesSo, EndsAllTeams}
-use Rattle.ak_run.specs.Doing.{HasDoneSoFar, desk_front}
+use Rattle.ak_run.specs.Doing.{HasDoneSoFar, IsQuietAtDesks, IsRecordedAtDesks, desk_front}
 use Rattle.ak_run.specs.Ending.{EndsAs}
 use Rattle.ak_run.specs.Gathering.{AreBooksOf, AreGaining, GoesOnKnowing, IsGaining, IsJoined, IsRosterOf, joined_desk_front, joined_front}
 use Rattle.ak_run.specs.Recording.{EndsByOthers, Fronts, IsRecorded, PortsEndByOthers, fronts_of, list_at, member_desk_front, member_front}
 use Rattle.ak_run.specs.Starting.{GoesOn}
 use Rattle.ak_run.proofs.Acts.{recorded_on}
 use Rattle.ak_run.proofs.Doing.{edits_still}
-use Rattle.ak_run.proofs.GoingOn.{plain_on}
+use Rattle.ak_run.proofs.GoingOn.{desk_in, plain_on}
 
 -- what main did is in what its seat has seen
 module _ {L : Type 0} (by : L → ℕ) where
@@ -71,11 +73,13 @@ ports_go_on (front ∷ fronts) (port ∷ ports) ends (suc looper) = ports_go_on 
 ports_go_on [] (port ∷ ports) ends looper = absurd ends
 ports_go_on (front ∷ fronts) [] ends looper = absurd ends
 
-pub main_done : (steps : List Step) (f : Fronts) (h : Histories) → IsRecorded steps f → EndsByOthers maker_of f.roster h.roster.items → EndsByOthers at_books.maker_of f.book h.book → PortsEndByOthers f.ports h.ports.items → HasDone h main_thread steps
-main_done steps f h is roster book ports = record {
+pub main_done : (steps : List Step) (f : Fronts) (h : Histories) → IsRecorded steps f → EndsByOthers maker_of f.roster h.roster.items → EndsByOthers at_books.maker_of f.book h.book → PortsEndByOthers f.ports h.ports.items
+    → ((looper : ℕ) → noted at_desks.by_number main_thread (desk_list h looper) ≡ desk_entries looper steps) → HasDone h main_thread steps
+main_done steps f h is roster book ports desks = record {
   at_roster = noted_at_end maker_of f.roster h.roster.items roster ∙ is.roster;
   at_book = noted_at_end at_books.maker_of f.book h.book book ∙ is.book;
   at_ports = λ looper. ports_at_end f.ports h.ports.items ports looper ∙ is.ports looper;
+  at_desks = desks;
   book_seen = seen_still f.book h.book (book_sights steps) (book.between, book.goes_on) is.book_seen;
 }
 
@@ -104,11 +108,11 @@ ports_end [] (port ∷ ports) desks all kept = absurd kept
 ports_end (j ∷ js) [] desks all kept = absurd kept
 ports_end (j ∷ js) (port ∷ ports) [] all kept = absurd kept
 
--- each desk's list goes on
-abbrev pub DesksGoOn : List (List EntryData) → List DeskData → Type 0
-DesksGoOn [] [] = Unit {0}
-DesksGoOn (front ∷ fronts) (desk ∷ desks) = StartsWith desk.entries front × DesksGoOn fronts desks
-DesksGoOn _ _ = ⊥
+-- so it is at each desk
+abbrev pub DesksEndByOthers : List (List EntryData) → List DeskData → Type 0
+DesksEndByOthers [] [] = Unit {0}
+DesksEndByOthers (front ∷ fronts) (desk ∷ desks) = EndsByOthers at_desks.by_number front desk.entries × DesksEndByOthers fronts desks
+DesksEndByOthers _ _ = ⊥
 
 desk_fronts_still : (js js' : List Joined) → AreGaining js js' → map joined_desk_front js' ≡ map joined_desk_front js
 desk_fronts_still [] [] gains = refl
@@ -118,22 +122,23 @@ desk_fronts_still (j ∷ js) (j' ∷ js') gains =
     let first : IsGaining j j' = gains.each 0 j refl in
     ap (λ front. front ∷ map joined_desk_front js') first.desk.front ∙ ap (λ l. joined_desk_front j ∷ l) (desk_fronts_still js js' (gaining_tail j j' js js' gains))
 
-desks_end : (js : List Joined) (ports : List PortData) (desks : List DeskData) → AreBooksOf js ports desks → DesksGoOn (map joined_desk_front js) desks
-desks_end [] [] [] kept = tt
-desks_end (j ∷ js) (port ∷ ports) (desk ∷ desks) kept = (kept.0.1.goes_on, desks_end js ports desks kept.1)
-desks_end [] [] (desk ∷ desks) kept = absurd kept
-desks_end [] (port ∷ ports) desks kept = absurd kept
-desks_end (j ∷ js) [] desks kept = absurd kept
-desks_end (j ∷ js) (port ∷ ports) [] kept = absurd kept
+desks_end : (js : List Joined) (ports : List PortData) (desks : List DeskData) → All IsMains js → AreBooksOf js ports desks → DesksEndByOthers (map joined_desk_front js) desks
+desks_end [] [] [] all kept = tt
+desks_end (j ∷ js) (port ∷ ports) (desk ∷ desks) all kept = (kept.0.1.ends (j.door.thread ∙ All-head IsMains j js all), desks_end js ports desks (All-tail IsMains j js all) kept.1)
+desks_end [] [] (desk ∷ desks) all kept = absurd kept
+desks_end [] (port ∷ ports) desks all kept = absurd kept
+desks_end (j ∷ js) [] desks all kept = absurd kept
+desks_end (j ∷ js) (port ∷ ports) [] all kept = absurd kept
 
-desk_at_end : (ms : List Member) (desks : List DeskData) → DesksGoOn (map member_desk_front ms) desks → (looper : ℕ)
-    → StartsWith (unwrap_or (option_map (λ (desk : DeskData). desk.entries) (slice_get desks looper)) []) (unwrap_or (option_map member_desk_front (slice_get ms looper)) [])
-desk_at_end [] [] on zero = ([], refl)
-desk_at_end [] [] on (suc looper) = ([], refl)
-desk_at_end (m ∷ ms) (desk ∷ desks) on zero = on.0
-desk_at_end (m ∷ ms) (desk ∷ desks) on (suc looper) = desk_at_end ms desks on.1 looper
-desk_at_end [] (desk ∷ desks) on looper = absurd on
-desk_at_end (m ∷ ms) [] on looper = absurd on
+-- the list of a desk, with what main had seen of it
+module _ (P : List EntryData → List EntryData → Type 0) (none : P [] []) (one : (front entries : List EntryData) → EndsByOthers at_desks.by_number front entries → P front entries) where
+  desk_at_end : (ms : List Member) (desks : List DeskData) → DesksEndByOthers (map member_desk_front ms) desks → (looper : ℕ) → P (desk_in ms looper) (unwrap_or (option_map (λ (desk : DeskData). desk.entries) (slice_get desks looper)) [])
+  desk_at_end [] [] ends zero = none
+  desk_at_end [] [] ends (suc looper) = none
+  desk_at_end (m ∷ ms) (desk ∷ desks) ends zero = one (member_desk_front m) desk.entries ends.0
+  desk_at_end (m ∷ ms) (desk ∷ desks) ends (suc looper) = desk_at_end ms desks ends.1 looper
+  desk_at_end [] (desk ∷ desks) ends looper = absurd ends
+  desk_at_end (m ∷ ms) [] ends looper = absurd ends
 
 roster_ends : (seat : RosterSeat) (roster : RosterData KeptDoor Object) → seat.thread ≡ main_thread → IsRosterOf seat roster → EndsByOthers maker_of (plain_of seat) (plain_entries roster.entries)
 roster_ends seat roster main of = record {
@@ -147,7 +152,7 @@ pub record EndsByAllOthers (r : Run) (h : Histories) : Type 0 where
   pub roster : EndsByOthers maker_of (plain_of r.roster_seat) h.roster.items
   pub book : EndsByOthers at_books.maker_of r.hands.book_seat.front h.book
   pub ports : PortsEndByOthers (map member_front r.members.items ++ []) h.ports.items
-  pub desks : DesksGoOn (map member_desk_front r.members.items) h.desks.items
+  pub desks : DesksEndByOthers (map member_desk_front r.members.items) h.desks.items
 
 -- main's seats saw nothing more while the threads were joined
 pub ends_by_others : (r : Run) (heads : List AppHead) (main : RosterSeat) (at_book : ReplySeat) (roster : RosterData KeptDoor Object) (book : List ReplyEntry) (js last : List Joined) (h : Histories) → GoesOnKnowing r.roster_seat main → GoesOnKnowing r.hands.book_seat at_book
@@ -165,11 +170,14 @@ ends_by_others r heads main at_book roster book js last h roster_on book_on join
           subst (EndsByOthers at_books.maker_of r.hands.book_seat.front) (sym h_book)
           (subst (λ (l : List ReplyEntry). EndsByOthers at_books.maker_of l book) book_on.front (ends (book_on.thread ∙ r.hands.thread ∙ r.main)));
       ports = subst (λ (l : List (List PortEntry)). PortsEndByOthers l h.ports.items) (still.0 ∙ same ∙ sym (append-nil (map member_front r.members.items))) (ports_end last h.ports.items h.desks.items mains kept);
-      desks = subst (λ (l : List (List EntryData)). DesksGoOn l h.desks.items) (desk_fronts_still js last gains ∙ same_desks) (desks_end last h.ports.items h.desks.items kept);
+      desks = subst (λ (l : List (List EntryData)). DesksEndByOthers l h.desks.items) (desk_fronts_still js last gains ∙ same_desks) (desks_end last h.ports.items h.desks.items mains kept);
     }
 
-pub run_done : (r : Run) (h : Histories) → EndsByAllOthers r h → (steps : List Step) → IsRecorded steps (fronts_of r) → HasDone h main_thread steps
-run_done r h ends steps is = main_done steps (fronts_of r) h is ends.roster ends.book ends.ports
+pub run_done : (r : Run) (h : Histories) → EndsByAllOthers r h → (steps : List Step) → IsRecorded steps (fronts_of r) → IsRecordedAtDesks steps r → HasDone h main_thread steps
+run_done r h ends steps is edits =
+    let made : List EntryData → List (Noted EntryData) = noted at_desks.by_number main_thread in
+    let at_end = desk_at_end (λ front entries. made entries ≡ made front) refl (noted_at_end at_desks.by_number) r.members.items h.desks.items ends.desks in
+    main_done steps (fronts_of r) h is ends.roster ends.book ends.ports (λ looper. at_end looper ∙ edits looper)
 
 -- ---- the histories are those of this run
 as_many_fronts : (fronts : List (List PortEntry)) (ports : List PortData) → PortsEndByOthers fronts ports → length ports ≡ length fronts
@@ -187,7 +195,7 @@ ends_as r h ends =
       book = (ends.book.between, ends.book.goes_on);
       ports = λ looper. ([], ports_at_end (fronts ++ []) h.ports.items ends.ports looper ∙ sym (append-nil (noted at_ports.by_number main_thread (list_at (fronts ++ []) looper))));
       port_lists = ports_go_on (fronts ++ []) h.ports.items ends.ports;
-      desks = desk_at_end r.members.items h.desks.items ends.desks;
+      desks = desk_at_end (λ front entries. StartsWith entries front) ([], refl) (λ front entries desk. (desk.between, desk.goes_on)) r.members.items h.desks.items ends.desks;
     }
 
 -- so they were the run's before, while it went on to its end
@@ -201,23 +209,25 @@ ends_further r r' h goes ports_on is =
       book = starts_then_starts r.hands.book_seat.front r'.hands.book_seat.front h.book more.goes.book_on is.book;
       ports = λ looper. starts_then_starts (by_main looper r) (by_main looper r') (noted at_ports.by_number main_thread (port_list h looper)) (port_entries looper more.steps, more.goes.ports looper) (is.ports looper);
       port_lists = λ looper. starts_then_starts (list_at (fronts_of r).ports looper) (list_at (fronts_of r').ports looper) (port_list h looper) (ports_on looper) (is.port_lists looper);
-      desks = λ looper. starts_then_starts (desk_front r looper) (desk_front r' looper) (desk_list h looper) (goes.desks_on looper) (is.desks looper);
+      desks = λ looper. starts_then_starts (desk_front r looper) (desk_front r' looper) (desk_list h looper) (goes.desks_on.on looper) (is.desks looper);
     }
 
 -- what main did goes on to the end, and its edits stand
-pub at_end : (heads : List AppHead) (r r' : Run) (h : Histories) (steps : List Step) → ClosesSo (EndsAllTeams heads) r r' → HasDoneSoFar steps r → ((all : List Step) → IsRecorded all (fronts_of r') → HasDone h main_thread all) → EndsAs r' h → EndsAs r h → DoneAtEnd heads steps h
-at_end heads r r' h steps closed done all left ends =
+pub at_end : (heads : List AppHead) (r r' : Run) (h : Histories) (steps : List Step) → ClosesSo (EndsAllTeams heads) r r' → HasDoneSoFar steps r → IsQuietAtDesks r r' → ((all : List Step) → IsRecorded all (fronts_of r') → IsRecordedAtDesks all r' → HasDone h main_thread all) → EndsAs r' h → EndsAs r h → DoneAtEnd heads steps h
+at_end heads r r' h steps closed done quiet all left ends =
     let recorded = recorded_on steps closed.steps (fronts_of r) (fronts_of r') closed.goes done.recorded in
     record {
       closing = closed.steps;
       closes = record {
-        ends = closed.so;
+        ends = closed.so steps done.recorded.roster;
         roster_seen = All-weaker (StartsWith (plain_of r'.roster_seat)) (StartsWith h.roster.items) (λ (seen : List RosterEntry) starts. starts_then_starts seen (plain_of r'.roster_seat) h.roster.items starts left.roster) (roster_sights closed.steps) closed.roster_seen;
         ports_seen = λ looper.
             let list = list_at (fronts_of r').ports looper in
             All-weaker (StartsWith list) (StartsWith (port_list h looper)) (λ (seen : List PortEntry) starts. starts_then_starts seen list (port_list h looper) starts (left.port_lists looper)) (port_sights looper closed.steps) (closed.ports_seen looper);
       };
       diary = recorded.diary;
-      done = all (steps ++ closed.steps) recorded;
+      done = all (steps ++ closed.steps) recorded (λ looper.
+          quiet.same looper ∙ done.desks looper
+          ∙ sym (flat_map-append (desk_entry looper) steps closed.steps ∙ ap (λ l. desk_entries looper steps ++ l) (closed.no_edits looper) ∙ append-nil (desk_entries looper steps)));
       edits = λ looper. edits_still (desk_front r looper) (desk_list h looper) (desk_entries looper steps) (ends.desks looper) (done.edits looper);
     }

@@ -23,15 +23,18 @@ use Rattle.ak_port.specs.PortCalls as ports
 use Rattle.ak_port.specs.PortCalls.{PortData}
 use Rattle.ak_port.specs.ReplySeats as books
 use Rattle.ak_port.specs.ReplySeats.{ReplySeat}
+use Rattle.ak_desk.specs.Desk.{DeskData}
+use Rattle.ak_desk.specs.Entry.{EntryData}
+use Rattle.ak_desk.specs.Shared as desks
 use Rattle.ak_diary.specs.declared.histories.Histories.{Histories}
 use Rattle.ak_headline.specs.Run.{IsOfRun, port_list}
 use Rattle.ak_looper.specs.declared.kept_door.KeptDoor.{KeptDoor}
 use Rattle.ak_looper.specs.Rosters as rosters
 use Rattle.ak_looper.specs.Rosters.{Object, RosterSeat}
 use Rattle.ak_run.specs.declared.gathering.Joined.{Joined}
-use Rattle.ak_run.specs.Gathering.{AreBooksOf, AreGaining, AreHeadsIn, AreTakenIn, IsBookOf, IsHeadFor, IsPortOf}
+use Rattle.ak_run.specs.Gathering.{AreBooksOf, AreGaining, AreHeadsIn, AreTakenIn, IsBookOf, IsDeskOf, IsHeadFor, IsPortOf}
 use Rattle.ak_run.specs.Running.{AreBelow, IsBelow}
-use Rattle.ak_run.proofs.Books.{as_many_ports}
+use Rattle.ak_run.proofs.Books.{as_many_desks, as_many_ports}
 use Rattle.ak_run.proofs.Counting.{threads}
 use Rattle.ak_run.proofs.Knowing.{part_known}
 use Rattle.ak_run.proofs.Launched.{all_launched}
@@ -73,6 +76,13 @@ by_names by next (Some ns) entries below named =
 All-both : {X : Type 0} (P Q R : X → Type 0) → ((x : X) → P x → Q x → R x) → (xs : List X) → All P xs → All Q xs → All R xs
 All-both P Q R tells xs ps qs = λ i d lt. tells (get_or xs i d) (ps i d lt) (qs i d lt)
 
+-- a head's entries are by the threads that hold the door
+by_holders : {L : Type 0} (by : L → ℕ) (entries : List L) (n : ℕ) (its : LooperData) (names : Option (List ℕ)) → is_some names ≡ true → IfSome names (λ ns. AreSame ns (holders n its) × (its.starter ≡ main_thread))
+    → ((ns : List ℕ) → names ≡ Some ns → All (λ entry. Contains ns (by entry)) entries) → All (λ entry. Contains (holders n its) (by entry)) entries
+by_holders by entries n its None some told named = absurd cc
+by_holders by entries n its (Some ns) some told named =
+    All-weaker (λ entry. Contains ns (by entry)) (λ entry. Contains (holders n its) (by entry)) (λ entry there. (told.0 (by entry)).0 there) entries (named ns refl)
+
 module _ (heads : List AppHead) (main : RosterSeat) (at_book : ReplySeat) (js later : List Joined) (roster : RosterData KeptDoor Object) (book : List ReplyEntry) (h : Histories) (all : AllAreJoined heads main at_book js roster)
     (g : IsGathered js later roster at_book book h) where
   pub history : IsHistory heads (plain_entries roster.entries)
@@ -95,6 +105,28 @@ module _ (heads : List AppHead) (main : RosterSeat) (at_book : ReplySeat) (js la
       let same : kept.port ≡ port = (let two : Some kept.port ≡ Some port = sym kept.port_there ∙ at in cc two) in
       record { looper = j.0; there = j.1; is = subst (IsPortOf j.0.door.port_seat) same kept.port_is }
 
+  -- the door to it that the roster kept, in whose place main's seats are the heads
+  record KeeperAt (n : ℕ) (j : Joined) : Type 0 where
+    kept : KeptDoor
+    head : IsHeadFor kept j
+    its : LooperData
+    its_there : slice_get (state_of heads (plain_entries roster.entries)).loopers n ≡ Some its
+    told : IsKept threads n kept its
+
+  keeper_at : (n : ℕ) (j : Joined) → slice_get later n ≡ Some j → KeeperAt n j
+  keeper_at n j there =
+      let within : n < length roster.doors = subst (λ (m : ℕ). n < m) (g.gains.count ∙ sym (door_count heads main at_book js roster all)) (slice_get_within later n j there) in
+      let kept = at_place roster.doors n within in
+      let here : 0 + n ≡ n = omega arith in
+      let told = kept_at threads 0 roster.doors (state_of roster.heads (plain_entries roster.entries)).loopers n kept.0 all.of.kept kept.1 in
+      record {
+        kept = kept.0;
+        head = and_there (IsHeadFor kept.0) (slice_get later n) j there (subst (λ (m : ℕ). IsSomeAnd (slice_get later m) (IsHeadFor kept.0)) here (heads_at later 0 roster.doors n kept.0 g.heads_in kept.1));
+        its = told.0;
+        its_there = ap (λ (hs : List AppHead). slice_get (state_of hs (plain_entries roster.entries)).loopers n) (sym (roster_heads heads main at_book js roster all)) ∙ told.1;
+        told = subst (λ (m : ℕ). IsKept threads m kept.0 told.0) here told.2;
+      }
+
   -- its entries are by those that hold its door; none is the keeper's
   pub record MadeByHolders (n : ℕ) (port : PortData) : Type 0 where
     pub its : LooperData
@@ -105,29 +137,47 @@ module _ (heads : List AppHead) (main : RosterSeat) (at_book : ReplySeat) (js la
   pub made_by_holders : (n : ℕ) (port : PortData) → slice_get h.ports.items n ≡ Some port → MadeByHolders n port
   made_by_holders n port at =
       let of = port_of n port at in
-      let within : n < length roster.doors = subst (λ (m : ℕ). n < m) (as_many ∙ sym (door_count heads main at_book js roster all)) (slice_get_within h.ports.items n port at) in
-      let kept = at_place roster.doors n within in
-      let here : 0 + n ≡ n = omega arith in
-      let head : IsHeadFor kept.0 of.looper =
-      and_there (IsHeadFor kept.0) (slice_get later n) of.looper of.there (subst (λ (m : ℕ). IsSomeAnd (slice_get later m) (IsHeadFor kept.0)) here (heads_at later 0 roster.doors n kept.0 g.heads_in kept.1)) in
-      let told = kept_at threads 0 roster.doors (state_of roster.heads (plain_entries roster.entries)).loopers n kept.0 all.of.kept kept.1 in
-      let seat = kept.0.port_seat in
-      let known = part_known ports.by_number seat of.looper.door.port_seat port.entries of.is.known head.took in
+      let keeper = keeper_at n of.looper of.there in
+      let kept = keeper.kept in
+      let seat = kept.port_seat in
+      let known = part_known ports.by_number seat of.looper.door.port_seat port.entries of.is.known keeper.head.took.at_port in
       record {
-        its = told.0;
-        there = ap (λ (hs : List AppHead). slice_get (state_of hs (plain_entries roster.entries)).loopers n) (sym (roster_heads heads main at_book js roster all)) ∙ told.1;
-        makers = by_told n told.0 kept.0 of.looper port of.is head seat.names kept.0.head refl (subst (λ (m : ℕ). IsKept threads m kept.0 told.0) here told.2);
+        its = keeper.its;
+        there = keeper.its_there;
+        makers = by_holders ports.by_number port.entries n keeper.its seat.names kept.head keeper.told (λ names are. of.is.named names (keeper.head.names ∙ are));
         no_keeper = none_by ports.by_number keeper_thread port.entries
-            (ap (λ (t : ℕ). made_by ports.by_number t port.entries) (sym kept.0.keeper) ∙ known_is_made ports.by_number port.entries (part_of seat) known
-            ∙ ap (λ (t : ℕ). made_by ports.by_number t seat.front) kept.0.keeper ∙ kept.0.keeper_idle);
+            (ap (λ (t : ℕ). made_by ports.by_number t port.entries) (sym kept.keeper) ∙ known_is_made ports.by_number port.entries (part_of seat) known
+            ∙ ap (λ (t : ℕ). made_by ports.by_number t seat.front) kept.keeper ∙ kept.keeper_idle);
       }
-    where
-      by_told : (m : ℕ) (its : LooperData) (kept : KeptDoor) (j : Joined) (p : PortData) → IsPortOf j.door.port_seat p → IsHeadFor kept j → (names : Option (List ℕ)) → is_some names ≡ true → kept.port_seat.names ≡ names
-          → IfSome names (λ ns. AreSame ns (holders m its) × (its.starter ≡ main_thread)) → All (λ (entry : PortEntry). Contains (holders m its) (ports.by_number entry)) p.entries
-      by_told m its kept j p is head None some at told = absurd cc
-      by_told m its kept j p is head (Some ns) some at told =
-          All-weaker (λ (entry : PortEntry). Contains ns (ports.by_number entry)) (λ (entry : PortEntry). Contains (holders m its) (ports.by_number entry)) (λ entry there. (told.0 (ports.by_number entry)).0 there) p.entries
-          (is.named ns (head.names ∙ at))
+
+  -- so are those of its desk
+  pub record DeskOf (n : ℕ) (desk : DeskData) : Type 0 where
+    pub looper : Joined
+    pub there : slice_get later n ≡ Some looper
+    pub is : IsDeskOf looper.door.desk_seat desk
+
+  pub desk_of : (n : ℕ) (desk : DeskData) → slice_get h.desks.items n ≡ Some desk → DeskOf n desk
+  desk_of n desk at =
+      let within : n < length later = subst (λ (m : ℕ). n < m) (as_many_desks later h.ports.items h.desks.items g.kept) (slice_get_within h.desks.items n desk at) in
+      let j = at_place later n within in
+      let kept = books_at later h.ports.items h.desks.items n j.0 g.kept j.1 in
+      let same : kept.desk ≡ desk = (let two : Some kept.desk ≡ Some desk = sym kept.desk_there ∙ at in cc two) in
+      record { looper = j.0; there = j.1; is = subst (IsDeskOf j.0.door.desk_seat) same kept.desk_is }
+
+  pub record EditedByHolders (n : ℕ) (desk : DeskData) : Type 0 where
+    pub its : LooperData
+    pub there : slice_get (state_of heads (plain_entries roster.entries)).loopers n ≡ Some its
+    pub makers : All (λ (entry : EntryData). Contains (holders n its) (desks.by_number entry)) desk.entries
+
+  pub edited_by_holders : (n : ℕ) (desk : DeskData) → slice_get h.desks.items n ≡ Some desk → EditedByHolders n desk
+  edited_by_holders n desk at =
+      let of = desk_of n desk at in
+      let keeper = keeper_at n of.looper of.there in
+      record {
+        its = keeper.its;
+        there = keeper.its_there;
+        makers = by_holders desks.by_number desk.entries n keeper.its keeper.kept.port_seat.names keeper.kept.head keeper.told (λ names are. of.is.named names (keeper.head.desk_names ∙ keeper.kept.names ∙ are));
+      }
 
   -- ---- all entries of the roster are by main and the loopers
   module _ (roster_names : AreBelow (length js) main.names) (told : HoldersAreTold) (launches : LaunchesHaveLoopers) where
@@ -164,6 +214,11 @@ module _ (heads : List AppHead) (main : RosterSeat) (at_book : ReplySeat) (js la
 
     of_run : (thread : ℕ) → IsBelow (length js) thread → IsOfRun h thread
     of_run thread below = subst (λ (n : ℕ). IsBelow n thread) (sym as_many) below
+
+    pub roster_made : All (λ (entry : RosterEntry). IsOfRun h entry.by.0) h.roster.items
+    roster_made =
+        subst (All (λ (entry : RosterEntry). IsOfRun h entry.by.0)) (sym g.h_roster)
+        (All-weaker (λ (entry : RosterEntry). IsBelow (length js) entry.by.0) (λ (entry : RosterEntry). IsOfRun h entry.by.0) (λ entry below. of_run entry.by.0 below) (plain_entries roster.entries) roster_makers)
 
     -- one that holds a looper's door, and is not the keeper
     holder_of_run : (n : ℕ) (its : LooperData) → n < length js → slice_get (state_of heads (plain_entries roster.entries)).loopers n ≡ Some its → (thread : ℕ) → Contains (holders n its) thread → thread ≢ keeper_thread → IsBelow (length js) thread

@@ -11,7 +11,7 @@ use Rattle.ak_desk.specs.Shared as desks
 use Rattle.ak_looper.specs.declared.door.Door.{Door}
 use Rattle.ak_looper.specs.Doors.{IsNewDoor}
 use Rattle.ak_looper.proofs.Surface.{new_door}
-use Rattle.ak_run.specs.Doors.{HasGivenUpNames, HasNames, HasParted, IsNewAt, IsPartOf, KeepsDoor, KnowsBoth}
+use Rattle.ak_run.specs.Doors.{HasGivenUpNames, HasNames, HasNoNames, HasParted, IsNewAt, IsPartOf, KeepsDoor, KnowsBoth}
 use Rattle.ak_run.proofs.Acting.{adds_then}
 use Rattle.ak_run.proofs.Heads.{made_nothing}
 
@@ -51,6 +51,7 @@ pub record LeadsAsBefore (door door' : Door) : Type 0 where
   pub port_opening : door'.port_seat.opening ≡ door.port_seat.opening
   pub port_front : door'.port_seat.front ≡ door.port_seat.front
   pub desk_opening : door'.desk_seat.opening ≡ door.desk_seat.opening
+  pub desk_front : door'.desk_seat.front ≡ door.desk_seat.front
 
 pub leads_parted : (thread : ℕ) (door door' : Door) → HasParted thread door door' → LeadsAsBefore door door'
 leads_parted thread door door' parted = record {
@@ -60,6 +61,7 @@ leads_parted thread door door' parted = record {
   port_opening = ap (λ (s : ports.PortSeat). s.opening) parted.port_seat;
   port_front = ap (λ (s : ports.PortSeat). s.front) parted.port_seat;
   desk_opening = ap (λ (s : desks.DeskSeat). s.opening) parted.desk_seat;
+  desk_front = ap (λ (s : desks.DeskSeat). s.front) parted.desk_seat;
 }
 
 pub leads_without_names : (door door' : Door) → HasGivenUpNames door door' → LeadsAsBefore door door'
@@ -70,7 +72,16 @@ leads_without_names door door' gave = record {
   port_opening = ap (λ (s : ports.PortSeat). s.opening) gave.port_seat;
   port_front = ap (λ (s : ports.PortSeat). s.front) gave.port_seat;
   desk_opening = ap (λ (s : desks.DeskSeat). s.opening) gave.desk_seat;
+  desk_front = ap (λ (s : desks.DeskSeat). s.front) gave.desk_seat;
 }
+
+-- what gave its names up is no head
+pub no_names_left : (door door' : Door) → HasGivenUpNames door door' → HasNoNames door'
+no_names_left door door' gave = record { at_port = ap (λ (s : ports.PortSeat). s.names) gave.port_seat; at_desk = ap (λ (s : desks.DeskSeat). s.names) gave.desk_seat }
+
+-- nor is a part
+pub part_no_head : (thread : ℕ) (door part : Door) → IsPartOf thread door part → HasNoNames part
+part_no_head thread door part is = record { at_port = ap (λ (s : ports.PortSeat). s.names) is.port_seat; at_desk = ap (λ (s : desks.DeskSeat). s.names) is.desk_seat }
 
 pub leads_on : (a b c : Door) → LeadsAsBefore a b → LeadsAsBefore b c → LeadsAsBefore a c
 leads_on a b c one other = record {
@@ -80,6 +91,7 @@ leads_on a b c one other = record {
   port_opening = other.port_opening ∙ one.port_opening;
   port_front = other.port_front ∙ one.port_front;
   desk_opening = other.desk_opening ∙ one.desk_opening;
+  desk_front = other.desk_front ∙ one.desk_front;
 }
 
 -- ---- calls at its port, one after another

@@ -16,12 +16,12 @@ use Rattle.ak_looper.specs.Doors.{IsNewDoor}
 use Rattle.ak_run.specs.declared.new_looper.NewLooper.{NewLooper}
 use Rattle.ak_run.specs.declared.new_looper.Shared.{Shared}
 use Rattle.ak_run.specs.declared.opening.Opened.{Opened}
-use Rattle.ak_run.specs.Doors.{HasNames, IsKeptOf, IsNewAt, IsPartOf, KeepsDoor, KnowsBoth}
+use Rattle.ak_run.specs.Doors.{HasNames, HasNoNames, IsKeptOf, IsNewAt, IsPartOf, KeepsDoor, KnowsBoth}
 use Rattle.ak_run.specs.NewLooper.{AreSame, IsKept, IsNewLooper, IsWay}
 use Rattle.ak_run.specs.Opening.{IsOpenedAt}
 use Rattle.ak_run.specs.Recording.{AddsAtPort}
 use Rattle.ak_run.proofs.Acting.{adds_then}
-use Rattle.ak_run.proofs.NewDoors.{LeadsAsBefore, new_beside, new_part, part_takes}
+use Rattle.ak_run.proofs.NewDoors.{LeadsAsBefore, new_beside, new_part, part_no_head, part_takes}
 use Rattle.ak_run.proofs.Teams.{keeper_is_none, loopers_differ, main_is_none}
 
 -- ---- the names so far
@@ -86,7 +86,7 @@ module _ (plans : List PlanParts) (team first : ℕ) where
     pub first_below : first < looper_limit
     first_below = omega (arith, at.opened.within)
 
-    pub new_looper : (shared : Shared) (n : NewLooper) → n.number ≡ o.number → n.queue ≡ o.queue → AreSame n.shared shared → IsPartOf (looper_thread o.number) o.door n.own → LeadsAsBefore o.door n.door → n.door.port_seat.names ≡ None → IsNewLooper plans team first shared k n
+    pub new_looper : (shared : Shared) (n : NewLooper) → n.number ≡ o.number → n.queue ≡ o.queue → AreSame n.shared shared → IsPartOf (looper_thread o.number) o.door n.own → LeadsAsBefore o.door n.door → HasNoNames n.door → IsNewLooper plans team first shared k n
     new_looper shared n number queue same part leads no_head =
         let p = at.opened in
         record {
@@ -111,7 +111,9 @@ module _ (plans : List PlanParts) (team first : ℕ) where
           port_opening = leads.port_opening ∙ p.takes.taker;
           desk_opening = leads.desk_opening ∙ p.desk_is;
           made = subst (AddsAtPort []) (sym leads.port_front) p.made;
+          desk_front = leads.desk_front ∙ p.desk_front;
           no_head = no_head;
+          own_no_head = part_no_head (looper_thread o.number) o.door n.own part;
         }
 
     -- a call at its port leaves it opened
@@ -141,5 +143,6 @@ module _ (plans : List PlanParts) (team first : ℕ) where
               at_desk = ap (λ (s : desks.DeskSeat). s.names) keeps.desk_seat ∙ p.names_are.at_desk;
             };
             made = adds_then [] o.door.port_seat.front o'.door.port_seat.front p.made (keeps.adds p.by_main);
+            desk_front = ap (λ (s : desks.DeskSeat). s.front) keeps.desk_seat ∙ p.desk_front;
           };
         }

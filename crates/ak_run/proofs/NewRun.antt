@@ -1,12 +1,12 @@
 -- A run in which nothing was done.
 use Rattle.std.specs.List.{range_with_len}
-use Rattle.std.proofs.Common.{◌≡◌, ℕ, ◌+◌, ◌≤◌, ◌<◌, List, [], ◌∷◌, ◌++◌, length, map, take, refl, sym, ap, ◌∙◌, subst, arith, inl, All, vec_capacity, Some}
+use Rattle.std.proofs.Common.{◌≡◌, ℕ, zero, suc, ◌+◌, ◌≤◌, ◌<◌, List, [], ◌∷◌, ◌++◌, length, map, take, refl, sym, ap, ◌∙◌, subst, arith, inl, All, vec_capacity, Some}
 use Rattle.std.specs.Prelude.{get_or}
 use Rattle.std.proofs.lemmas.List.{map_more}
 use Rattle.std.proofs.lemmas.List.Elements.{All-cons, All-nil}
 use Rattle.ak_base.specs.Limits.{looper_limit}
 use Rattle.ak_base.specs.Thread.{main_thread}
-use Rattle.ak_turn.specs.Noted.{StandsIn}
+use Rattle.ak_turn.specs.Noted.{StandsIn, noted}
 use Rattle.ak_turn.specs.Seats.{KnowsWhole, LockId, first_seat}
 use Rattle.ak_turn.proofs.Surface.{first_knows}
 use Rattle.ak_roster.specs.declared.head.AppHead.{AppHead}
@@ -18,10 +18,12 @@ use Rattle.ak_describe.specs.declared.described.AppText.{AppText}
 use Rattle.ak_describe.specs.Whole.{IsWholeApp, head_of, heads_of}
 use Rattle.ak_looper.specs.Rosters as rosters
 use Rattle.ak_looper.specs.Rosters.{Object, RosterSeat}
+use Rattle.ak_desk.specs.Shared as at_desks
 use Rattle.ak_run.specs.declared.member.Member.{Member}
 use Rattle.ak_run.specs.declared.run.Run.{Run}
 use Rattle.ak_run.specs.Counting.{started_by_main}
-use Rattle.ak_run.specs.Doing.{HasDoneSoFar, desk_front}
+use Rattle.ak_run.specs.Doing.{HasDoneSoFar, IsRecordedAtDesks, desk_front}
+use Rattle.ak_run.proofs.GoingOn.{desk_in}
 use Rattle.ak_run.proofs.Recorded.{nothing_yet}
 use Rattle.ak_run.specs.Running.{AreBelow, HasRoomToEnd, IsBelow, IsMember, IsOpenedAs, IsRunning}
 
@@ -32,6 +34,14 @@ heads_more apps index app head heads heads' within is its_head so_far pushed =
     pushed ∙ ap (λ (l : List AppHead). l ++ head ∷ []) so_far
     ∙ ap (λ (h : AppHead). heads_of (take index apps) ++ h ∷ []) (its_head ∙ ap head_of is)
     ∙ sym (map_more head_of apps index app within)
+
+-- no desk, and no edit
+no_edits_yet : (r : Run) → r.members.items ≡ [] → IsRecordedAtDesks [] r
+no_edits_yet r none looper = ap (λ (ms : List Member). noted at_desks.by_number main_thread (desk_in ms looper)) none ∙ none_there looper
+  where
+    none_there : (n : ℕ) → noted at_desks.by_number main_thread (desk_in [] n) ≡ []
+    none_there zero = refl
+    none_there (suc n) = refl
 
 -- the run itself
 pub begins : (heads : List AppHead) (roster book : LockId) (r : Run) → All IsWholeApp r.apps.items → heads ≡ heads_of r.apps.items → r.roster_seat ≡ first_seat roster heads [] [] main_thread → r.hands.book_seat ≡ first_seat book tt [] [] main_thread
@@ -56,7 +66,7 @@ begins heads roster book r whole heads_are roster_is book_is none room ready =
         ready = ready;
       };
       all = ap (started_by_main heads) roster_is ∙ sym few;
-      recorded = record { did = []; recorded = nothing_yet r (ap (λ (s : RosterSeat). s.front) roster_is) (ap (λ (s : ReplySeat). s.front) book_is) none };
+      recorded = record { did = []; recorded = nothing_yet r (ap (λ (s : RosterSeat). s.front) roster_is) (ap (λ (s : ReplySeat). s.front) book_is) none; edits = no_edits_yet r none };
     }
   where
     main_below : (n : ℕ) → AreBelow n (Some (main_thread ∷ []))
@@ -64,4 +74,8 @@ begins heads roster book r whole heads_are roster_is book_is none room ready =
 
 -- and main has done nothing
 pub done_nothing : (r : Run) → r.roster_seat.front ≡ [] → r.hands.book_seat.front ≡ [] → r.members.items ≡ [] → HasDoneSoFar [] r
-done_nothing r roster book none = record { recorded = nothing_yet r roster book none; edits = λ looper. All-nil (StandsIn (desk_front r looper)) }
+done_nothing r roster book none = record {
+  recorded = nothing_yet r roster book none;
+  desks = no_edits_yet r none;
+  edits = λ looper. All-nil (StandsIn (desk_front r looper));
+}

@@ -1,10 +1,11 @@
 -- What stands at a place: loopers in the order of their numbers, their ports and desks, and the doors that the roster kept.
-use Rattle.std.proofs.Common.{◌≡◌, ◌≢◌, ◌⊎◌, ◌<◌, ◌==◌, ◌||◌, ℕ, zero, suc, ◌+◌, Bool, true, false, cond, List, [], ◌∷◌, length, map, All, Contains, Option, Some, inl, inr, refl, sym, ap, ◌∙◌, subst, eq-eqb, eqb-true, ne_eqb, true≢false, arith}
+use Rattle.std.proofs.Common.{◌≡◌, ◌≢◌, ◌⊎◌, ◌<◌, ◌==◌, ◌||◌, ℕ, zero, suc, ◌+◌, Bool, true, false, cond, List, [], ◌∷◌, length, map, All, AllPairs, Contains, Option, Some, inl, inr, refl, sym, ap, ◌∙◌, subst, eq-eqb, eqb-true, ne_eqb, true≢false, arith}
 use Rattle.std.specs.Prelude.{IsSomeAnd, filter, get_or, slice_get}
 use Rattle.std.specs.List.{list_any, range_with_len}
-use Rattle.std.proofs.lemmas.List.{get_or-map}
-use Rattle.std.proofs.lemmas.List.Elements.{All-cons, All-nil}
+use Rattle.std.proofs.lemmas.List.{get_or-map, length-map}
+use Rattle.std.proofs.lemmas.List.Elements.{All-cons, All-filter, All-map, All-nil}
 use Rattle.std.proofs.lemmas.List.FromFn.{get_or-range_with_len}
+use Rattle.std.proofs.lemmas.List.Kept.{AllPairs-filter}
 use Rattle.std.proofs.lemmas.Option.{get_or_from_slice_get, slice_get_within}
 use Rattle.ak_roster.specs.Machine.{LooperData}
 use Rattle.ak_roster.specs.Roster.{AreKept, IsKept}
@@ -90,6 +91,30 @@ pub short_at : (js : List Joined) (k : ℕ) (j : Joined) → map (λ (x : Joined
 short_at js k j numbers there =
     let from_none : 0 + k ≡ k = omega arith in
     ap (λ (m : ℕ). list_any (λ n. n == m) (short_of js)) (sym from_none) ∙ any_tested (λ (x : Joined). is_short x.kind) 0 k js j numbers there
+
+-- a list that rises
+rise_mapped : {X : Type 0} (f : X → ℕ) (xs : List X) → AllPairs (λ (x y : X). f x < f y) xs → AllPairs (λ (a b : ℕ). a < b) (map f xs)
+rise_mapped f [] rise i j d before within = absurd (omega (arith, within))
+rise_mapped f (x ∷ xs) rise i j d before within =
+    let low : j < length (x ∷ xs) = omega (arith, within, length-map (x ∷ xs) f) in
+    let first : i < length (x ∷ xs) = omega (arith, before, low) in
+    subst (λ (n : ℕ). n < get_or (map f (x ∷ xs)) j d) (sym (get_or-map f (x ∷ xs) i x d first)) (subst (λ (n : ℕ). f (get_or (x ∷ xs) i x) < n) (sym (get_or-map f (x ∷ xs) j x d low)) (rise i j x before low))
+
+-- they are of those loopers, in order and each once
+module _ (js : List Joined) (numbers : map (λ (x : Joined). x.number) js ≡ range_with_len 0 (length js)) where
+  number_there : (i : ℕ) (d : Joined) → i < length js → (get_or js i d).number ≡ i
+  number_there i d within = sym (get_or-map (λ (x : Joined). x.number) js i d 0 within) ∙ ap (λ (ns : List ℕ). get_or ns i 0) numbers ∙ get_or-range_with_len 0 (length js) i 0 within ∙ from_zero i
+
+  pub short_below : All (λ (n : ℕ). n < length js) (short_of js)
+  short_below =
+      All-map (λ (n : ℕ). n < length js) (λ (x : Joined). x.number) (filter (λ (x : Joined). is_short x.kind) js)
+      (All-filter (λ (x : Joined). is_short x.kind) (λ (x : Joined). x.number < length js) js (λ i d within. subst (λ (n : ℕ). n < length js) (sym (number_there i d within)) within))
+
+  pub short_rise : AllPairs (λ (a b : ℕ). a < b) (short_of js)
+  short_rise = rise_mapped (λ (x : Joined). x.number) (filter (λ (x : Joined). is_short x.kind) js) (AllPairs-filter (λ (x y : Joined). x.number < y.number) (λ (x : Joined). is_short x.kind) js rise)
+    where
+      rise : AllPairs (λ (x y : Joined). x.number < y.number) js
+      rise i j d before within = omega (arith, before, number_there i d (omega (arith, before, within)), number_there j d within)
 
 -- ---- the port and the desk of a looper
 -- three lists of which each three that stand at the same place are so

@@ -62,4 +62,5 @@ opened_so place plan names o taker capacity thread desk_lock port_lock state ent
         at_desk = ap (λ (s : desks.DeskSeat). s.names) desk ∙ ap (λ (t : ℕ). Some (t ∷ [])) main;
       };
       made = subst (AddsAtPort []) (sym (ap (λ (s : ports.PortSeat). s.front) port)) made;
+      desk_front = ap (λ (s : desks.DeskSeat). s.front) desk;
     }

@@ -1,12 +1,12 @@
 -- A run's calls as acts of main's.
-use Rattle.std.proofs.Common.{◌≡◌, ◌≢◌, ℕ, zero, suc, ◌<◌, false, List, [], ◌∷◌, ◌++◌, length, map, refl, sym, ap, ◌∙◌, subst, append_assoc, arith, Option}
+use Rattle.std.proofs.Common.{◌≡◌, ◌≢◌, ℕ, zero, suc, ◌<◌, false, List, [], ◌∷◌, ◌++◌, length, map, refl, sym, ap, ◌∙◌, subst, append_assoc, append-nil, arith, Option}
 use Rattle.std.specs.Prelude.{get_or, set}
 use Rattle.std.proofs.lemmas.List.{get_or-set_other, get_or-set_same, length-append, length-map, map-append, map-set}
 use Rattle.std.proofs.lemmas.List.Elements.{All-nil}
 use Rattle.std.proofs.Math.Seq.{get_or-append_seam}
 use Rattle.ak_base.specs.Thread.{main_thread}
 use Rattle.ak_turn.specs.Entries.{AreByOthers, StartsWith}
-use Rattle.ak_turn.specs.Noted.{noted}
+use Rattle.ak_turn.specs.Noted.{Noted, noted}
 use Rattle.ak_turn.specs.Seats.{IsGiven, KnowsWhole, at_leisure, entered_by}
 use Rattle.ak_roster.specs.declared.entry.EntryWithObjects.{EntryWithObjects}
 use Rattle.ak_roster.specs.declared.entry.RosterEntry.{RosterEntry}
@@ -15,7 +15,9 @@ use Rattle.ak_roster.specs.Roster.{plain_entries}
 use Rattle.ak_port.specs.declared.port_entry.PortEntry.{PortEntry}
 use Rattle.ak_port.specs.declared.reply_entry.ReplyEntry.{ReplyEntry}
 use Rattle.ak_port.specs.PortCalls as at_ports
-use Rattle.ak_diary.specs.Step.{Step}
+use Rattle.ak_desk.specs.Entry.{EntryData}
+use Rattle.ak_desk.specs.Shared as at_desks
+use Rattle.ak_diary.specs.Step.{Step, desk_entries, desk_entry}
 use Rattle.ak_headline.specs.Main.{IsMainDiary, begun}
 use Rattle.ak_looper.specs.declared.door.Door.{Door}
 use Rattle.ak_looper.specs.Rosters.{Object, RosterSeat, by_number, plain_of}
@@ -24,15 +26,25 @@ use Rattle.ak_run.specs.declared.run.Run.{Run}
 use Rattle.ak_run.specs.Launching.{Book, HasEntered}
 use Rattle.ak_run.specs.Recording.{AddsAtPort, Fronts, GoesBy, HasRecord, IsRecorded, Records, RecordsBeside, RecordsStart, StartsQuietly, fronts, fronts_of, fronts_with, list_at, member_front}
 use Rattle.ak_run.proofs.Acting.{roster_goes, turn_no_edits, turn_step}
-use Rattle.ak_run.proofs.Acts.{GoesAtBoth, both_goes, port_records, recorded_on, records_then, same_fronts, seam_other, set_before}
+use Rattle.ak_run.proofs.Acts.{GoesAtBoth, both_goes, port_records, recorded_on, records_then, same_fronts, seam_other, set_before, then_those}
 use Rattle.ak_run.proofs.RosterTurn.{sees_all}
 
 -- ---- main's diary
-pub record_by : (steps : List Step) (a b : Fronts) → GoesBy steps a b → HasRecord a → HasRecord b
-record_by steps a b goes has = record { did = has.did ++ steps; recorded = recorded_on has.did steps a b goes has.recorded }
+module _ (a b : Fronts) (xs ys : ℕ → List EntryData) where
+  abbrev edits_in : List EntryData → List (Noted EntryData)
+  edits_in entries = noted at_desks.by_number main_thread entries
 
-pub record_on : (a b : Fronts) → Records a b → HasRecord a → HasRecord b
-record_on a b more has = record_by more.steps a b more.goes has
+  pub record_by : (steps : List Step) → GoesBy steps a b → ((looper : ℕ) → edits_in (ys looper) ≡ edits_in (xs looper) ++ desk_entries looper steps) → HasRecord a xs → HasRecord b ys
+  record_by steps goes edits has = record {
+    did = has.did ++ steps;
+    recorded = recorded_on has.did steps a b goes has.recorded;
+    edits = λ looper. then_those (desk_entry looper) has.did steps [] (edits_in (xs looper)) (edits_in (ys looper)) (has.edits looper) (edits looper);
+  }
+
+  -- by acts without an edit
+  pub record_on : Records a b → ((looper : ℕ) → edits_in (ys looper) ≡ edits_in (xs looper)) → HasRecord a xs → HasRecord b ys
+  record_on more same has =
+      record_by more.steps more.goes (λ looper. same looper ∙ sym (ap (λ l. edits_in (xs looper) ++ l) (more.no_edits looper) ∙ append-nil (edits_in (xs looper)))) has
 
 -- nothing was done
 pub nothing_yet : (r : Run) → r.roster_seat.front ≡ [] → r.hands.book_seat.front ≡ [] → r.members.items ≡ [] → IsRecorded [] (fronts_of r)

@@ -20,6 +20,7 @@ use Rattle.ak_port.specs.ReplySeats as books
 use Rattle.ak_port.specs.ReplySeats.{ReplySeat}
 use Rattle.ak_action.specs.declared.plan.PlanParts.{PlanParts}
 use Rattle.ak_action.specs.Opening.{Opens}
+use Rattle.ak_desk.specs.Shared.{DeskSeat}
 use Rattle.ak_describe.specs.Whole.{IsWholeApp, heads_of, looper_names}
 use Rattle.ak_looper.specs.declared.door.Door.{Door}
 use Rattle.ak_looper.specs.declared.job.LooperJob.{LooperJob}
@@ -32,12 +33,14 @@ use Rattle.ak_run.specs.declared.new_looper.NewLooper.{NewLooper}
 use Rattle.ak_run.specs.declared.new_looper.Shared.{Shared}
 use Rattle.ak_run.specs.declared.run.Run.{Run}
 use Rattle.ak_run.specs.Counting.{started_by_main}
+use Rattle.ak_run.specs.Doors.{HasNoNames}
 use Rattle.ak_run.specs.Gathering.{HasRoomFor, HoldsNothing}
 use Rattle.ak_run.specs.Jobs.{CanStart, IsJobOf}
 use Rattle.ak_run.specs.Members.{IsLifeOf, StillLeads}
 use Rattle.ak_run.specs.NewLooper.{IsNewLooper}
 use Rattle.ak_run.specs.Opened.{IsLaunchOf}
 use Rattle.ak_run.specs.Opening.{names_in}
+use Rattle.ak_run.specs.Recording.{member_desk_front}
 use Rattle.ak_run.specs.Running.{AreBelow, IsBelow, IsMember, IsOpenedAs, KeepsRest, Stands}
 use Rattle.ak_run.specs.Starting.{GoesOn, GoesOnWith, HasSplit, MayStart}
 use Rattle.ak_run.proofs.GoingOn.{desks_then, push_desks, same_desks, some_same}
@@ -123,7 +126,9 @@ module _ (heads : List AppHead) (plans : List PlanParts) (k : ℕ) (t : Team) (n
     port_opening = m.new.port_opening;
     desk_opening = m.new.desk_opening;
     made = m.new.made;
+    desk_front = m.new.desk_front;
     no_head = m.new.no_head;
+    own_no_head = m.new.own_no_head;
   }
 
   ready_seats : CanStart heads plans k t n ways book_seat roster_seat
@@ -213,8 +218,11 @@ module _ (heads : List AppHead) (plans : List PlanParts) (k : ℕ) (t : Team) (n
         at_port = ap (λ (d : Door). d.port_seat.lock) own_is ∙ n.own.port_of ∙ m.new.port_is ∙ sym n.door.port_of ∙ sym leads.port_kept.lock ∙ ap (λ (d : Door). d.port_seat.lock) (sym x_door);
         at_desk = ap (λ (d : Door). d.desk_seat.lock) own_is ∙ n.own.desk_of ∙ m.new.desk_is ∙ sym n.door.desk_of ∙ ap (λ s. s.lock) (sym leads.desk_seat) ∙ ap (λ (d : Door). d.desk_seat.lock) (sym x_door);
         leads = leads_there;
-        no_head = ap (λ (d : Door). d.port_seat.names) x_door ∙ leads.port_kept.names ∙ m.new.no_head;
-        own_no_head = ap (λ (d : Door). d.port_seat.names) own_is ∙ m.new.new.no_head;
+        no_head = record {
+          at_port = ap (λ (d : Door). d.port_seat.names) x_door ∙ leads.port_kept.names ∙ m.new.no_head.at_port;
+          at_desk = ap (λ (d : Door). d.desk_seat.names) x_door ∙ ap (λ (s : DeskSeat). s.names) leads.desk_seat ∙ m.new.no_head.at_desk;
+        };
+        own_no_head = subst HasNoNames (sym own_is) m.new.own_no_head;
         at_book = ap (λ (j : LooperJob). j.hands.book_seat.lock) x_job ∙ ap (λ (b : ReplySeat). b.lock) (job_is.book_seat ∙ book_so) ∙ r.hands.of ∙ r.book ∙ ap (λ (h : Shared). arc_value h.book) (sym split.rest.shared ∙ sym goes.shared);
         at_roster = ap (λ (j : LooperJob). j.roster_seat.lock) x_job ∙ ap (λ (b : RosterSeat). b.lock) (job_is.roster_seat ∙ roster_so) ∙ r.roster_of ∙ ap (λ (h : Shared). arc_value h.roster) (sym split.rest.shared ∙ sym goes.shared);
         heads_are = ap (λ (j : LooperJob). j.roster_seat.opening) x_job ∙ ap (λ (b : RosterSeat). b.opening) (job_is.roster_seat ∙ roster_so) ∙ m.stands.opening;
@@ -300,6 +308,10 @@ module _ (heads : List AppHead) (plans : List PlanParts) (k : ℕ) (t : Team) (n
           numbers_on : (xs : List Member) (y : Member) (total : ℕ) → map (λ (z : Member). z.number) xs ≡ range_with_len 0 (length xs) → y.number ≡ length xs → total ≡ length xs + 1 → map (λ (z : Member). z.number) xs ++ y.number ∷ [] ≡ range_with_len 0 total
           numbers_on xs y total are number all = ap (λ l. l ++ y.number ∷ []) are ∙ ap (λ c. range_with_len 0 (length xs) ++ c ∷ []) number ∙ sym (range_more (length xs)) ∙ ap (range_with_len 0) (sym all)
 
+      -- nothing was done at its desk
+      untouched : member_desk_front x ≡ []
+      untouched = ap (λ (d : Door). d.desk_seat.front) x_door ∙ ap (λ (s : DeskSeat). s.front) leads.desk_seat ∙ m.new.desk_front
+
       pub goes_with : GoesOnWith 1 r v
       goes_with = record {
         stands = λ other k. subst (λ h. Stands (length v.members.items) h v) (some_same heads other (sym m.stands.opening ∙ k.opening)) stands_now;
@@ -308,5 +320,5 @@ module _ (heads : List AppHead) (plans : List PlanParts) (k : ℕ) (t : Team) (n
         on = subst (λ (y : RosterSeat). StartsWith y.front r.roster_seat.front) (sym v_roster) (starts_then_starts r.roster_seat.front s.roster_seat.front u.roster_seat.front on goes.on);
         apps = kept.apps ∙ goes.apps ∙ split.rest.apps;
         shared = kept.shared ∙ goes.shared ∙ split.rest.shared;
-        desks_on = desks_then r s v (same_desks r s split.members) (desks_then s u v goes.desks_on (push_desks u v x v_items));
+        desks_on = desks_then r s v (same_desks r s split.members) (desks_then s u v goes.desks_on (push_desks u v x v_items untouched));
       }

@@ -24,7 +24,6 @@ use Rattle.ak_run.specs.declared.member.Member.{Member}
 use Rattle.ak_run.specs.declared.new_looper.Shared.{Shared}
 use Rattle.ak_run.specs.declared.run.Run.{Run}
 use Rattle.ak_run.specs.Counting.{started_by_main}
-use Rattle.ak_run.specs.Doors.{KeepsSeats}
 use Rattle.ak_run.specs.Gathering.{HasRoomFor, HoldsNothing}
 use Rattle.ak_run.specs.Running.{AreBelow, HasRoomToEnd, IsMember, IsOpenedAs, KeepsRest, Stands}
 use Rattle.ak_run.proofs.RosterTurn.{RosterOn}
@@ -63,27 +62,27 @@ member_sees heads shared seat seat' on m is = record {
 abbrev with_door : Member → Door → Member
 with_door m door = record m { door = door }
 
-pub member_calls : (heads : List AppHead) (shared : Shared) (seat : RosterSeat) (m : Member) (door : Door) → KeepsSeats m.door door → IsMember heads shared seat m → IsMember heads shared seat (with_door m door)
-member_calls heads shared seat m door keeps is = record {
+pub member_calls : (heads : List AppHead) (shared : Shared) (seat : RosterSeat) (m : Member) (door : Door) → KeepsSeat m.door.port_seat door.port_seat → KeepsSeat m.door.desk_seat door.desk_seat → IsMember heads shared seat m → IsMember heads shared seat (with_door m door)
+member_calls heads shared seat m door port desk is = record {
   number = is.number;
   ready = is.ready;
-  at_port = is.at_port ∙ sym keeps.port.lock;
-  at_desk = is.at_desk ∙ sym keeps.desk.lock;
+  at_port = is.at_port ∙ sym port.lock;
+  at_desk = is.at_desk ∙ sym desk.lock;
   leads =
-      is.leads ∙ ap (λ (lock : LockId). Some (door_object lock m.door.desk_seat.lock)) (sym keeps.port.lock)
-      ∙ ap (λ (lock : LockId). Some (door_object door.port_seat.lock lock)) (sym keeps.desk.lock);
-  no_head = keeps.port.names ∙ is.no_head;
+      is.leads ∙ ap (λ (lock : LockId). Some (door_object lock m.door.desk_seat.lock)) (sym port.lock)
+      ∙ ap (λ (lock : LockId). Some (door_object door.port_seat.lock lock)) (sym desk.lock);
+  no_head = record { at_port = port.names ∙ is.no_head.at_port; at_desk = desk.names ∙ is.no_head.at_desk };
   own_no_head = is.own_no_head;
   at_book = is.at_book;
   at_roster = is.at_roster;
   heads_are = is.heads_are;
   seen = is.seen;
-  by_main = keeps.port.thread ∙ is.by_main;
+  by_main = port.thread ∙ is.by_main;
   taker = is.taker;
   taker_is = is.taker_is;
-  port_opening = keeps.port.opening ∙ is.port_opening;
+  port_opening = port.opening ∙ is.port_opening;
   desk = is.desk;
-  desk_opening = keeps.desk.opening ∙ is.desk_opening;
+  desk_opening = desk.opening ∙ is.desk_opening;
   job_desk = is.job_desk;
   life = is.life;
 }
@@ -154,9 +153,9 @@ same_loopers next heads r r' same stands = record {
 }
 
 -- one looper's door was used
-pub one_called : (next : ℕ) (heads : List AppHead) (r r' : Run) (place : ℕ) (m : Member) (door : Door) → place < length r.members.items → get_or r.members.items place m ≡ m → KeepsSeats m.door door
+pub one_called : (next : ℕ) (heads : List AppHead) (r r' : Run) (place : ℕ) (m : Member) (door : Door) → place < length r.members.items → get_or r.members.items place m ≡ m → KeepsSeat m.door.port_seat door.port_seat → KeepsSeat m.door.desk_seat door.desk_seat
     → r'.members.items ≡ set r.members.items place (with_door m door) → vec_capacity r'.members ≡ vec_capacity r.members → Stands next heads r → SameLoopers heads r r'
-one_called next heads r r' place m door within there keeps is capacity stands =
+one_called next heads r r' place m door within there port desk is capacity stands =
     let number = λ (x : Member). x.number in
     let old = r.members.items in
     let each = IsMember heads r.shared r.roster_seat in
@@ -169,5 +168,5 @@ one_called next heads r r' place m door within there keeps is capacity stands =
       count = ap length is ∙ length-set old place (with_door m door);
       capacity = capacity;
       opened = subst (All opens) (sym is) (All-set opens old place (with_door m door) opened stands.opened);
-      each = subst (All each) (sym is) (All-set each old place (with_door m door) (member_calls heads r.shared r.roster_seat m door keeps was) stands.each);
+      each = subst (All each) (sym is) (All-set each old place (with_door m door) (member_calls heads r.shared r.roster_seat m door port desk was) stands.each);
     }

@@ -6,14 +6,15 @@ use Rattle.std.specs.declared.alloc.Global.{Global}
 use Rattle.std.proofs.lemmas.List.Elements.{All-map, All-weaker, filter-append}
 use Rattle.std.proofs.lemmas.List.{get_or-map, length-map, map-append}
 use Rattle.std.proofs.lemmas.Option.{get_or_from_slice_get, slice_get_within}
-use Rattle.ak_turn.specs.Seats.{LockId, part_of}
+use Rattle.ak_turn.specs.Seats.{LockId, SeatData, part_of}
 use Rattle.ak_turn.specs.Steps.{either_names}
 use Rattle.ak_port.specs.PortCalls.{PortSeat}
 use Rattle.ak_desk.specs.Shared.{DeskSeat}
 use Rattle.ak_looper.specs.declared.door.Door.{Door}
 use Rattle.ak_looper.specs.declared.kept_door.KeptDoor.{KeptDoor}
 use Rattle.ak_run.specs.declared.gathering.Joined.{Joined}
-use Rattle.ak_run.specs.Gathering.{AreGaining, AreHeadsIn, AreKeptIn, AreTakenIn, AreWaysIn, GoesOnKnowing, HasTakenAt, IsAt, IsGaining, IsHeadFor, IsTakenIn, IsWayIn, TookIn, is_short, short_of}
+use Rattle.ak_run.specs.Doors.{HasNoNames}
+use Rattle.ak_run.specs.Gathering.{AreGaining, AreHeadsIn, AreKeptIn, AreTakenIn, AreWaysIn, GoesOnKnowing, HasTakenAt, IsAt, IsGaining, IsHeadFor, IsTakenIn, IsWayIn, TookBothIn, is_short, short_of}
 use Rattle.ak_run.proofs.GoingOn.{some_same}
 use Rattle.ak_run.proofs.Joining.{goes_on_knowing, knows_as_before, knows_further, took}
 
@@ -116,17 +117,24 @@ module _ (place : ℕ) (port : PortSeat) (desk : DeskSeat) (js js' : List Joined
         (place_or_beside js place k taken.after);
   }
 
-  pub took_there : IsSomeAnd (slice_get js' place) (λ (j : Joined). TookIn port j.door.port_seat)
-  took_there = there_and (λ (j : Joined). TookIn port j.door.port_seat) (slice_get js' place) taken.after there_after (took taken.before.door.port_seat port taken.after.door.port_seat taken.at_port)
+  took_both : TookBothIn port desk taken.after
+  took_both = record {
+    at_port = took taken.before.door.port_seat port taken.after.door.port_seat taken.at_port;
+    at_desk = took taken.before.door.desk_seat desk taken.after.door.desk_seat taken.at_desk;
+  }
+
+  pub took_there : IsSomeAnd (slice_get js' place) (TookBothIn port desk)
+  took_there = there_and (TookBothIn port desk) (slice_get js' place) taken.after there_after took_both
 
   pub beside_taken : (k : ℕ) → k ≢ place → slice_get js' k ≡ slice_get js k
   beside_taken k other = ap (λ (l : List Joined). slice_get l k) taken.is ∙ beside_set js place k taken.after other
 
-  -- where main's seat was no head, it is one as the other was
-  pub head_there : (kept : KeptDoor) → kept.port_seat ≡ port → taken.before.door.port_seat.names ≡ None → IsSomeAnd (slice_get js' place) (IsHeadFor kept)
-  head_there kept same none = there_and (IsHeadFor kept) (slice_get js' place) taken.after there_after (record {
-    names = ap (λ (s : PortSeat). s.names) taken.at_port ∙ ap (λ (ns : Option (List ℕ)). either_names ns port.names) none ∙ ap (λ (s : PortSeat). s.names) (sym same);
-    took = subst (λ (s : PortSeat). TookIn s taken.after.door.port_seat) (sym same) (took taken.before.door.port_seat port taken.after.door.port_seat taken.at_port);
+  -- where main's seats were no heads, they are as the others were
+  pub head_there : (kept : KeptDoor) → kept.port_seat ≡ port → kept.desk_seat ≡ desk → HasNoNames taken.before.door → IsSomeAnd (slice_get js' place) (IsHeadFor kept)
+  head_there kept same same_desk none = there_and (IsHeadFor kept) (slice_get js' place) taken.after there_after (record {
+    names = ap (λ (s : PortSeat). s.names) taken.at_port ∙ ap (λ (ns : Option (List ℕ)). either_names ns port.names) none.at_port ∙ ap (λ (s : PortSeat). s.names) (sym same);
+    desk_names = ap (λ (s : DeskSeat). s.names) taken.at_desk ∙ ap (λ (ns : Option (List ℕ)). either_names ns desk.names) none.at_desk ∙ ap (λ (s : DeskSeat). s.names) (sym same_desk);
+    took = subst (λ (s : PortSeat). TookBothIn s kept.desk_seat taken.after) (sym same) (subst (λ (s : DeskSeat). TookBothIn port s taken.after) (sym same_desk) took_both);
   })
 
 -- ---- what is said of places, while doors take in more
@@ -138,12 +146,15 @@ at_still js js' place port desk gains at =
 pub way_still : (js js' : List Joined) (way : ℕ × Door) → AreGaining js js' → IsWayIn js way → IsWayIn js' way
 way_still js js' way gains at = at_still js js' way.0 way.1.port_seat.lock way.1.desk_seat.lock gains at
 
+both_still : (port : PortSeat) (desk : DeskSeat) (j j' : Joined) → IsGaining j j' → TookBothIn port desk j → TookBothIn port desk j'
+both_still port desk j j' gains took = record { at_port = gains.port.parts (part_of port) took.at_port; at_desk = gains.desk.parts (part_of desk) took.at_desk }
+
 pub taken_still : (js js' : List Joined) (way : ℕ × Door) → AreGaining js js' → IsTakenIn js way → IsTakenIn js' way
 taken_still js js' way gains taken =
-    let P : Joined → Type 0 = λ (j : Joined). TookIn way.1.port_seat j.door.port_seat in
+    let P : Joined → Type 0 = TookBothIn way.1.port_seat way.1.desk_seat in
     let was = some_and P (slice_get js way.0) taken in
     let now = some_and (IsGaining was.0) (slice_get js' way.0) (gains.each way.0 was.0 was.1) in
-    there_and P (slice_get js' way.0) now.0 now.1 (now.2.port.parts (part_of way.1.port_seat) was.2)
+    there_and P (slice_get js' way.0) now.0 now.1 (both_still way.1.port_seat way.1.desk_seat was.0 now.0 now.2 was.2)
 
 pub all_ways_still : (js js' : List Joined) (ways : List (ℕ × Door)) → AreGaining js js' → All (IsWayIn js) ways → All (IsWayIn js') ways
 all_ways_still js js' ways gains all = All-weaker (IsWayIn js) (IsWayIn js') (λ way at. way_still js js' way gains at) ways all
@@ -155,17 +166,18 @@ pub kept_still : (js js' : List Joined) (place : ℕ) (keeps : List KeptDoor) �
 kept_still js js' place [] gains all = tt
 kept_still js js' place (kept ∷ keeps) gains all = (at_still js js' place kept.port_seat.lock kept.desk_seat.lock gains all.0, kept_still js js' (suc place) keeps gains all.1)
 
--- a door that the roster kept tells some threads, so main's seat stays the head in its place
+-- a door that the roster kept tells some threads, so main's seats stay the heads in its place
 pub head_still : (js js' : List Joined) (place : ℕ) (kept : KeptDoor) → AreGaining js js' → IsSomeAnd (slice_get js place) (IsHeadFor kept) → IsSomeAnd (slice_get js' place) (IsHeadFor kept)
 head_still js js' place kept gains head =
     let was = some_and (IsHeadFor kept) (slice_get js place) head in
     let now = some_and (IsGaining was.0) (slice_get js' place) (gains.each place was.0 was.1) in
     there_and (IsHeadFor kept) (slice_get js' place) now.0 now.1 (record {
       names = by_names kept.port_seat.names kept.head was.0.door.port_seat now.0.door.port_seat now.2.port was.2.names;
-      took = now.2.port.parts (part_of kept.port_seat) was.2.took;
+      desk_names = by_names kept.desk_seat.names (ap is_some kept.names ∙ kept.head) was.0.door.desk_seat now.0.door.desk_seat now.2.desk was.2.desk_names;
+      took = both_still kept.port_seat kept.desk_seat was.0 now.0 now.2 was.2.took;
     })
   where
-    by_names : (names : Option (List ℕ)) → is_some names ≡ true → (seat seat' : PortSeat) → GoesOnKnowing seat seat' → seat.names ≡ names → seat'.names ≡ names
+    by_names : {O L : Type 0} (names : Option (List ℕ)) → is_some names ≡ true → (seat seat' : SeatData O L) → GoesOnKnowing seat seat' → seat.names ≡ names → seat'.names ≡ names
     by_names None head seat seat' on are = absurd cc
     by_names (Some ns) head seat seat' on are = on.head ns are
 

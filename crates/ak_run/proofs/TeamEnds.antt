@@ -8,6 +8,7 @@ use mathlib.Core.Logic.{dite}
 use native.Mathlib.Decide.{ℕ_discrete}
 use Rattle.ak_base.specs.Thread.{main_thread}
 use Rattle.ak_turn.specs.Entries.{StartsWith}
+use Rattle.ak_turn.specs.Noted.{noted}
 use Rattle.ak_turn.specs.declared.clock.Clock.{Clock}
 use Rattle.ak_turn.proofs.Surface.{starts_then_starts}
 use Rattle.ak_roster.specs.Heads.{IsHeads}
@@ -18,17 +19,18 @@ use Rattle.ak_roster.specs.declared.entry.RosterEvent.TheVariants as event
 use Rattle.ak_roster.specs.declared.head.AppHead.{AppHead}
 use Rattle.ak_roster.specs.declared.team.Running.{Running}
 use Rattle.ak_port.specs.declared.port_entry.PortEntry.{PortEntry}
-use Rattle.ak_diary.specs.Step.{Step, port_sight, port_sights, roster_sight, roster_sights}
+use Rattle.ak_diary.specs.Step.{Step, desk_entry, port_sight, port_sights, roster_entry, roster_sight, roster_sights}
 use Rattle.ak_diary.specs.Turns.{Shuts, ShutsAll}
+use Rattle.ak_headline.specs.Run.{roster_maker}
 use Rattle.ak_looper.specs.Rosters.{plain_of}
 use Rattle.ak_looper.specs.declared.door.Door.{Door}
 use Rattle.ak_run.specs.declared.member.Member.{Member}
 use Rattle.ak_run.specs.declared.run.Run.{Run}
-use Rattle.ak_run.specs.Closing.{ClosesSo, EndsTeam, EndsTeams, LeavesBook, LeavesSo, ports_of}
+use Rattle.ak_run.specs.Closing.{ClosesSo, EndsTeam, EndsTeams, IsRecordedAtRoster, LeavesBook, LeavesSo, ports_of}
 use Rattle.ak_run.specs.Launching.{Book, HasEntered}
-use Rattle.ak_run.specs.Recording.{fronts_of, list_at}
+use Rattle.ak_run.specs.Recording.{GoesBy, fronts_of, list_at}
 use Rattle.ak_run.proofs.Acting.{ActsAtBoth, SeesShut}
-use Rattle.ak_run.proofs.Acts.{goes_then, same_goes}
+use Rattle.ak_run.proofs.Acts.{goes_then, nothing_after, same_goes, then_those}
 use Rattle.ak_run.proofs.Entering.{all_started, none_entered, one_entered}
 use Rattle.ak_run.proofs.Recorded.{call_goes, fronts_same, others_still, saw_front, sees_front}
 
@@ -39,9 +41,12 @@ shuts_push [] looper xs ys none one = (ys, [], one, refl, ap (λ (l : List Step)
 shuts_push (x ∷ loopers) looper xs ys all one = (all.0, all.1 ++ ys, all.2, shuts_push loopers looper all.1 ys all.3 one, ap (λ (l : List Step). l ++ ys) all.4 ∙ append_assoc all.0 all.1 ys)
 
 -- one team more
-pub ends_push : (heads : List AppHead) (teams : List ℕ) (team : ℕ) (xs ys : List Step) → EndsTeams heads teams xs → EndsTeam heads team ys → EndsTeams heads (teams ++ team ∷ []) (xs ++ ys)
-ends_push heads [] team xs ys none one = (ys, [], one, refl, ap (λ (l : List Step). l ++ ys) none ∙ sym (append-nil ys))
-ends_push heads (x ∷ teams) team xs ys all one = (all.0, all.1 ++ ys, all.2, ends_push heads teams team all.1 ys all.3 one, ap (λ (l : List Step). l ++ ys) all.4 ∙ append_assoc all.0 all.1 ys)
+pub ends_push : (heads : List AppHead) (so_far : List Step) (teams : List ℕ) (team : ℕ) (xs ys : List Step) → EndsTeams heads so_far teams xs → EndsTeam heads (so_far ++ xs) team ys → EndsTeams heads so_far (teams ++ team ∷ []) (xs ++ ys)
+ends_push heads so_far [] team xs ys none one =
+    (ys, [], subst (λ (l : List Step). EndsTeam heads l team ys) (ap (λ (l : List Step). so_far ++ l) none ∙ append-nil so_far) one, refl, ap (λ (l : List Step). l ++ ys) none ∙ sym (append-nil ys))
+ends_push heads so_far (x ∷ teams) team xs ys all one =
+    let behind = subst (λ (l : List Step). EndsTeam heads l team ys) (ap (λ (l : List Step). so_far ++ l) all.4 ∙ sym (append_assoc so_far all.0 all.1)) one in
+    (all.0, all.1 ++ ys, all.2, ends_push heads (so_far ++ all.0) teams team all.1 ys all.3 behind, ap (λ (l : List Step). l ++ ys) all.4 ∙ append_assoc all.0 all.1 ys)
 
 pub range_push : (a n : ℕ) → range_with_len a (n + 1) ≡ range_with_len a n ++ (a + n) ∷ []
 range_push a zero = let same : a ≡ a + 0 = omega arith in ap (λ (m : ℕ). m ∷ []) same
@@ -55,11 +60,16 @@ range_push a (suc n) =
 still : {L : Type 0} (xs ys : List L) (seen : List (List L)) → StartsWith ys xs → All (StartsWith xs) seen → All (StartsWith ys) seen
 still xs ys seen on all = All-weaker (StartsWith xs) (StartsWith ys) (λ front starts. starts_then_starts front xs ys starts on) seen all
 
-pub closes_then : (P Q S : List Step → Type 0) (r s t : Run) → ((xs ys : List Step) → P xs → Q ys → S (xs ++ ys)) → ClosesSo P r s → ClosesSo Q s t → ClosesSo S r t
+-- what main had entered at the roster, and then by such steps
+recorded_further : (so_far steps : List Step) (r s : Run) → GoesBy steps (fronts_of r) (fronts_of s) → IsRecordedAtRoster so_far r → IsRecordedAtRoster (so_far ++ steps) s
+recorded_further so_far steps r s goes is = then_those roster_entry so_far steps [] (noted roster_maker main_thread (plain_of r.roster_seat)) (noted roster_maker main_thread (plain_of s.roster_seat)) is goes.roster
+
+pub closes_then : (P Q S : List Step → List Step → Type 0) (r s t : Run) → ((so_far xs ys : List Step) → P so_far xs → Q (so_far ++ xs) ys → S so_far (xs ++ ys)) → ClosesSo P r s → ClosesSo Q s t → ClosesSo S r t
 closes_then P Q S r s t tells one two = record {
   steps = one.steps ++ two.steps;
-  so = tells one.steps two.steps one.so two.so;
+  so = λ so_far is. tells so_far one.steps two.steps (one.so so_far is) (two.so (so_far ++ one.steps) (recorded_further so_far one.steps r s one.goes is));
   goes = goes_then one.steps two.steps (fronts_of r) (fronts_of s) (fronts_of t) one.goes two.goes;
+  no_edits = λ looper. nothing_after (desk_entry looper) one.steps two.steps (one.no_edits looper) (two.no_edits looper);
   roster_on = starts_then_starts (plain_of r.roster_seat) (plain_of s.roster_seat) (plain_of t.roster_seat) one.roster_on two.roster_on;
   ports_on = λ looper. starts_then_starts (list_at (fronts_of r).ports looper) (list_at (fronts_of s).ports looper) (list_at (fronts_of t).ports looper) (one.ports_on looper) (two.ports_on looper);
   roster_seen =
@@ -71,20 +81,21 @@ closes_then P Q S r s t tells one two = record {
       (still (list_at (fronts_of s).ports looper) (list_at (fronts_of t).ports looper) (port_sights looper one.steps) (two.ports_on looper) (one.ports_seen looper)) (two.ports_seen looper));
 }
 
-pub closes_as : (P Q : List Step → Type 0) (r r' : Run) → ((steps : List Step) → P steps → Q steps) → ClosesSo P r r' → ClosesSo Q r r'
-closes_as P Q r r' tells one = record { steps = one.steps; so = tells one.steps one.so; goes = one.goes; roster_on = one.roster_on; ports_on = one.ports_on; roster_seen = one.roster_seen; ports_seen = one.ports_seen }
+pub closes_as : (P Q : List Step → List Step → Type 0) (r r' : Run) → ((so_far steps : List Step) → P so_far steps → Q so_far steps) → ClosesSo P r r' → ClosesSo Q r r'
+closes_as P Q r r' tells one = record { steps = one.steps; so = λ so_far is. tells so_far one.steps (one.so so_far is); goes = one.goes; no_edits = one.no_edits; roster_on = one.roster_on; ports_on = one.ports_on; roster_seen = one.roster_seen; ports_seen = one.ports_seen }
 
 same_on : {L : Type 0} (xs ys : List L) → ys ≡ xs → StartsWith ys xs
 same_on xs ys same = ([], same ∙ sym (append-nil xs))
 
 -- nothing was done
-pub closes_same : (P : List Step → Type 0) (r r' : Run) → P [] → r'.members ≡ r.members → r'.roster_seat ≡ r.roster_seat → r'.hands.book_seat.front ≡ r.hands.book_seat.front → ClosesSo P r r'
+pub closes_same : (P : List Step → List Step → Type 0) (r r' : Run) → ((so_far : List Step) → P so_far []) → r'.members ≡ r.members → r'.roster_seat ≡ r.roster_seat → r'.hands.book_seat.front ≡ r.hands.book_seat.front → ClosesSo P r r'
 closes_same P r r' so members roster book =
     let same = fronts_same r r' members (ap (λ s. s.front) roster) book [] in
     record {
       steps = [];
-      so = so;
+      so = λ so_far is. so so_far;
       goes = same_goes (fronts_of r) (fronts_of r') same;
+      no_edits = λ looper. refl;
       roster_on = same_on (plain_of r.roster_seat) (plain_of r'.roster_seat) (ap plain_of roster);
       ports_on = λ looper. same_on (list_at (fronts_of r).ports looper) (list_at (fronts_of r').ports looper) (ap (λ f. list_at f.ports looper) same);
       roster_seen = All-nil (StartsWith (plain_of r'.roster_seat));
@@ -92,11 +103,11 @@ closes_same P r r' so members roster book =
     }
 
 -- the team is gone, and its ports are shut
-pub ends_so : (heads : List AppHead) (team : ℕ) (running : Option Running) (xs ys : List Step) → LeavesSo heads team running xs → ShutsAll (ports_of running) ys → EndsTeam heads team (xs ++ ys)
-ends_so heads team running xs ys leaves shuts = record { running = running; gone = xs; leaves = leaves; shut = ys; shuts = shuts; is = refl }
+pub ends_so : (heads : List AppHead) (so_far : List Step) (team : ℕ) (running : Option Running) (xs ys : List Step) → LeavesSo heads so_far team running xs → ShutsAll (ports_of running) ys → EndsTeam heads so_far team (xs ++ ys)
+ends_so heads so_far team running xs ys leaves shuts = record { running = running; gone = xs; leaves = leaves; shut = ys; shuts = shuts; is = refl }
 
-pub ends_gone : (heads : List AppHead) (team : ℕ) (steps : List Step) → LeavesSo heads team None steps → EndsTeam heads team steps
-ends_gone heads team steps leaves = record { running = None; gone = steps; leaves = leaves; shut = []; shuts = refl; is = sym (append-nil steps) }
+pub ends_gone : (heads : List AppHead) (so_far : List Step) (team : ℕ) (steps : List Step) → LeavesSo heads so_far team None steps → EndsTeam heads so_far team steps
+ends_gone heads so_far team steps leaves = record { running = None; gone = steps; leaves = leaves; shut = []; shuts = refl; is = sym (append-nil steps) }
 
 -- ---- a port is shut
 module _ (r r' : Run) (place : ℕ) (m : Member) (door : Door) (within : place < length r.members.items) (here : get_or r.members.items place m ≡ m) (is : r'.members.items ≡ set r.members.items place (record m { door = door })) (roster : r'.roster_seat ≡ r.roster_seat) where
@@ -117,11 +128,12 @@ module _ (r r' : Run) (place : ℕ) (m : Member) (door : Door) (within : place <
       (λ same. subst (λ (n : ℕ). All (StartsWith (list_at (fronts_of r').ports n)) (port_sights n steps)) (sym same) (subst (λ (l : List PortEntry). All (StartsWith l) (port_sights place steps)) (sym front_is) sees.ports_seen))
       (λ differ. subst (All (StartsWith (list_at (fronts_of r').ports other))) (sym (sees.elsewhere other differ)) (All-nil (StartsWith (list_at (fronts_of r').ports other))))
 
-  pub shut_closes : StartsWith front m.door.port_seat.front → ActsAtBoth place (SeesShut place front) r.hands.book_seat.front r'.hands.book_seat.front m.door.port_seat.front front → ClosesSo (Shuts place) r r'
+  pub shut_closes : StartsWith front m.door.port_seat.front → ActsAtBoth place (SeesShut place front) r.hands.book_seat.front r'.hands.book_seat.front m.door.port_seat.front front → ClosesSo (λ so_far. Shuts place) r r'
   shut_closes on acts = record {
     steps = acts.steps;
-    so = acts.so.shuts;
+    so = λ so_far is. acts.so.shuts;
     goes = call_goes r r' place m door within here is acts.steps roster acts.acts acts.goes [];
+    no_edits = acts.goes.no_edits;
     roster_on = same_on (plain_of r.roster_seat) (plain_of r'.roster_seat) (ap plain_of roster);
     ports_on = on_there on;
     roster_seen = subst (All (StartsWith (plain_of r'.roster_seat))) (sym acts.so.no_roster) (All-nil (StartsWith (plain_of r'.roster_seat)));

@@ -1,6 +1,6 @@
 -- What the kept lists tell of each looper, and of the run.
-use Rattle.std.proofs.Common.{◌≡◌, ◌≢◌, ◌<◌, ◌≤◌, ◌==◌, ℕ, Bool, true, false, cond, List, [], ◌∷◌, ◌++◌, length, map, All, Any, Contains, Option, None, Some, ⊎_elim, refl, sym, ap, ◌∙◌, subst, eqb-true, eq-eqb, arith}
-use Rattle.std.specs.Prelude.{option_map, slice_get, unwrap_or}
+use Rattle.std.proofs.Common.{◌≡◌, ◌≢◌, ◌<◌, ◌≤◌, ◌==◌, ℕ, Bool, true, false, cond, List, [], ◌∷◌, ◌++◌, length, map, All, AllPairs, Any, Contains, Option, None, Some, ⊎_elim, refl, sym, ap, ◌∙◌, subst, eqb-true, eq-eqb, arith}
+use Rattle.std.specs.Prelude.{get_or, option_map, slice_get, unwrap_or}
 use Rattle.std.specs.List.{list_any}
 use Rattle.std.proofs.lemmas.List.{get_or-map, length-map}
 use Rattle.std.proofs.lemmas.List.Elements.{All-cons, All-contains, All-map, All-weaker}
@@ -33,7 +33,7 @@ use Rattle.ak_desk.specs.Shared.{LeadsOn}
 use Rattle.ak_diary.specs.declared.histories.Histories.{Histories}
 use Rattle.ak_diary.specs.Diary.{by_quit, by_team, without_memory}
 use Rattle.ak_diary.specs.Laws.{HasDiary}
-use Rattle.ak_diary.specs.Looper.{LooperFacts, desk_list, doors_got, last_quits}
+use Rattle.ak_diary.specs.Looper.{LooperFacts, desk_list, doors_got, is_of_team, last_quits}
 use Rattle.ak_diary.specs.Step.{book_entries, book_sights, desk_entries, port_entries, ran_short, roster_entries}
 use Rattle.ak_headline.specs.Run as headline
 use Rattle.ak_headline.specs.Run.{HasLooper, StartedTeam, port_list}
@@ -49,14 +49,15 @@ use Rattle.ak_looper.specs.Stands.{DoorStands, StartsTeam, doors_kept}
 use Rattle.ak_looper.proofs.Surface.{is_stranger, no_entries}
 use Rattle.ak_run.specs.declared.gathering.Joined.{Joined}
 use Rattle.ak_run.specs.Ending.{IsRunOfLoopers}
-use Rattle.ak_run.specs.Gathering.{IsGaining, IsJoined, IsTakenIn, IsWayIn, TookIn, is_short, short_of}
+use Rattle.ak_run.specs.Gathering.{IsGaining, IsJoined, IsTakenIn, IsWayIn, TookBothIn, is_short, short_of}
 use Rattle.ak_run.specs.Running.{AreBelow}
 use Rattle.ak_run.proofs.Books.{all_desks, all_ports, as_many_desks, as_many_ports}
+use Rattle.ak_run.proofs.Elsewhere.{elsewhere}
 use Rattle.ak_run.proofs.Knowing.{known_told, part_known, plain_told}
 use Rattle.ak_run.proofs.Launched.{launched_whole}
-use Rattle.ak_run.proofs.Makers.{IsGathered, as_many, book_makers, history, made_by_holders, port_makers, port_of}
+use Rattle.ak_run.proofs.Makers.{IsGathered, as_many, book_makers, desk_of, edited_by_holders, history, made_by_holders, port_makers, port_of, roster_made}
 use Rattle.ak_run.proofs.Paired.{AllAreJoined, all_started, ways_lead}
-use Rattle.ak_run.proofs.Placed.{BooksAt, books_at, number_at, short_at, way_to}
+use Rattle.ak_run.proofs.Placed.{BooksAt, books_at, number_at, short_at, short_below, short_rise, way_to}
 use Rattle.ak_run.proofs.Taking.{all_at, and_there, at_place, some_and}
 
 -- ---- the launch that a looper's job has seen, as the journal shows it
@@ -184,9 +185,19 @@ module _ (heads : List AppHead) (main : RosterSeat) (at_book : ReplySeat) (js la
       let of = port_of heads main at_book js later roster book h all g n port at in
       let took : IsTakenIn later way = All-contains (IsTakenIn later) end.doors.items way (all_at (λ (x : Joined). All (IsTakenIn later) x.end.value.doors.items) js k j g.ways_in there) has in
       let seat = way.1.port_seat in
-      let in' : TookIn seat of.looper.door.port_seat = and_there (λ (x : Joined). TookIn seat x.door.port_seat) (slice_get later way.0) of.looper (ap (slice_get later) same ∙ of.there) took in
+      let both = and_there (TookBothIn seat way.1.desk_seat) (slice_get later way.0) of.looper (ap (slice_get later) same ∙ of.there) took in
       let stands = All-contains (DoorStands is.lived.steps end.roster_seat) end.doors.items way is.lived.doors has in
-      known_told ports.by_number seat of.looper.door.port_seat port.entries of.is.known in' thread (way_thread way has) ∙ stands.port.noted_is ∙ ap (λ (m : ℕ). port_entries m is.lived.steps) same
+      known_told ports.by_number seat of.looper.door.port_seat port.entries of.is.known both.at_port thread (way_thread way has) ∙ stands.port.noted_is ∙ ap (λ (m : ℕ). port_entries m is.lived.steps) same
+
+  -- at the desk behind a door it made nothing
+  desk_at_way : (n : ℕ) (desk : DeskData) → slice_get h.desks.items n ≡ Some desk → (way : ℕ × Door) → Contains end.doors.items way → way.0 ≡ n → noted desks.by_number thread desk.entries ≡ []
+  desk_at_way n desk at way has same =
+      let of = desk_of heads main at_book js later roster book h all g n desk at in
+      let took : IsTakenIn later way = All-contains (IsTakenIn later) end.doors.items way (all_at (λ (x : Joined). All (IsTakenIn later) x.end.value.doors.items) js k j g.ways_in there) has in
+      let seat = way.1.desk_seat in
+      let both = and_there (TookBothIn way.1.port_seat seat) (slice_get later way.0) of.looper (ap (slice_get later) same ∙ of.there) took in
+      let stands = All-contains (DoorStands is.lived.steps end.roster_seat) end.doors.items way is.lived.doors has in
+      known_told desks.by_number seat of.looper.door.desk_seat desk.entries of.is.known both.at_desk thread (way.1.thread ∙ way_thread way has) ∙ stands.desk
 
   -- elsewhere it made nothing
   nothing_elsewhere : (n : ℕ) → All (λ m. m ≢ n) ways → port_entries n is.lived.steps ≡ []
@@ -219,6 +230,16 @@ module _ (heads : List AppHead) (main : RosterSeat) (at_book : ReplySeat) (js la
       noted-others ports.by_number thread [] port.entries others
       ∙ sym (nothing_elsewhere n (All-cons (λ m. m ≢ n) end.number (map (λ (way : ℕ × Door). way.0) end.doors.items) (λ same. other (sym (sym is.lived.number ∙ same))) none))
 
+  desk_at_stranger : OwnsStayInTeams → StrangersAreTold → EntriesTellPlain Object → (n : ℕ) (desk : DeskData) → slice_get h.desks.items n ≡ Some desk → n ≢ job.number → All (λ m. m ≢ n) (map (λ (way : ℕ × Door). way.0) end.doors.items)
+      → noted desks.by_number thread desk.entries ≡ []
+  desk_at_stranger owns strangers tell n desk at other none =
+      let made = edited_by_holders heads main at_book js later roster book h all g n desk at in
+      let holds_not : Contains (holders n made.its) thread → ⊥ = subst (IsStranger thread n) made.there (stranger owns strangers tell n other none) in
+      let others : AreByOthers desks.by_number thread desk.entries =
+      All-weaker (λ (entry : EntryData). Contains (holders n made.its) (desks.by_number entry)) (λ (entry : EntryData). desks.by_number entry ≢ thread)
+      (λ entry holds same. holds_not (subst (Contains (holders n made.its)) same holds)) desk.entries made.makers in
+      noted-others desks.by_number thread [] desk.entries others
+
   -- all ways are to ports that there are
   ways_within : (n : ℕ) → length h.ports.items ≤ n → All (λ m. m ≢ n) ways
   ways_within n past =
@@ -242,6 +263,29 @@ module _ (heads : List AppHead) (main : RosterSeat) (at_book : ReplySeat) (js la
         (λ at. ap (noted ports.by_number thread) (list_there n at.0 at.2) ∙ at_there n at.0 at.2 (n == job.number) refl)
         (λ past. ap (noted ports.by_number thread) (list_past n past.1) ∙ sym (nothing_elsewhere n (ways_within n past.0)))
         (slice_get_cases h.ports.items n).1
+
+    -- ---- any desk
+    at_desk_there : (n : ℕ) (desk : DeskData) → slice_get h.desks.items n ≡ Some desk → (b : Bool) → (n == job.number) ≡ b → noted desks.by_number thread desk.entries ≡ desk_entries n is.lived.steps
+    at_desk_there n desk at true is_own =
+        let same = eqb-true n job.number is_own in
+        let both : Some own.desk ≡ Some desk = sym own.desk_there ∙ ap (slice_get h.desks.items) (sym (same ∙ number)) ∙ at in
+        let one : own.desk ≡ desk = cc both in
+        ap (λ (d : DeskData). noted desks.by_number thread d.entries) (sym one) ∙ desk_told mine gaining own ∙ ap (λ (m : ℕ). desk_entries m is.lived.steps) (sym same)
+    at_desk_there n desk at false is_other =
+        let other : n ≢ job.number = λ same. (let bad : true ≡ false = sym (eq-eqb n job.number same) ∙ is_other in absurd cc) in
+        ⊎_elim (λ found. desk_at_way n desk at found.0 found.1 found.2) (λ none. desk_at_stranger owns strangers tell n desk at other none) (way_to end.doors.items n)
+        ∙ sym (elsewhere l n other is.lived.steps is.lived.legal)
+
+    at_desks : (n : ℕ) → noted desks.by_number thread (headline.desk_list h n) ≡ desk_entries n is.lived.steps
+    at_desks n = ⊎_elim within past (slice_get_cases h.desks.items n).1
+      where
+        within : (desk : DeskData) × (n < length h.desks.items) × (slice_get h.desks.items n ≡ Some desk) × (get_or h.desks.items n desk ≡ desk) → noted desks.by_number thread (headline.desk_list h n) ≡ desk_entries n is.lived.steps
+        within at = ap (λ (o : Option DeskData). noted desks.by_number thread (unwrap_or (option_map (λ (d : DeskData). d.entries) o) [])) at.2 ∙ at_desk_there n at.0 at.2 (n == job.number) refl
+
+        past : (length h.desks.items ≤ n) × (slice_get h.desks.items n ≡ None) → noted desks.by_number thread (headline.desk_list h n) ≡ desk_entries n is.lived.steps
+        past at =
+            let other : n ≢ job.number = λ same. (let bad : Some own.desk ≡ None = sym own.desk_there ∙ ap (slice_get h.desks.items) (sym (same ∙ number)) ∙ at.1 in absurd cc) in
+            ap (λ (o : Option DeskData). noted desks.by_number thread (unwrap_or (option_map (λ (d : DeskData). d.entries) o) [])) at.1 ∙ sym (elsewhere l n other is.lived.steps is.lived.legal)
 
     -- ---- what all share
     book_told : noted books.maker_of thread h.book ≡ book_entries is.lived.steps
@@ -273,12 +317,13 @@ module _ (heads : List AppHead) (main : RosterSeat) (at_book : ReplySeat) (js la
     has_looper short are = record {
       facts = l;
       number_is = number;
+      of_team = subst (λ (n : ℕ). is_of_team l n ≡ true) number is.ready.of_team;
       heads_are = same_heads;
       opened = opened mine gaining own;
       started = started;
       steps = is.lived.steps;
       diary = has_diary mine gaining own;
-      done = record { at_roster = roster_told; at_book = book_told; at_ports = at_ports; book_seen = book_seen };
+      done = record { at_roster = roster_told; at_book = book_told; at_ports = at_ports; at_desks = at_desks; book_seen = book_seen };
       short_is = short_is short are;
     }
 
@@ -308,6 +353,11 @@ module _ (heads : List AppHead) (main : RosterSeat) (at_book : ReplySeat) (js la
         as_many heads main at_book js later roster book h all g
         ∙ sym (ap (λ (es : List RosterEntry). length (state_of heads es).loopers) g.h_roster ∙ all_started heads main at_book js roster all);
     loopers = one;
+    short_are =
+        subst (All (λ (n : ℕ). n < length h.ports.items)) (sym are)
+        (subst (λ (m : ℕ). All (λ (n : ℕ). n < m) (short_of js)) (sym (as_many heads main at_book js later roster book h all g)) (short_below js all.numbers));
+    short_once = subst (AllPairs (λ (a b : ℕ). a < b)) (sym are) (short_rise js all.numbers);
+    roster_makers = roster_made heads main at_book js later roster book h all g roster_names told launches;
     book_makers = book_makers heads main at_book js later roster book h all g roster_names told launches book_names;
     port_makers = port_makers heads main at_book js later roster book h all g roster_names told launches;
   }

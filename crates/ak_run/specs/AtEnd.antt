@@ -10,17 +10,17 @@ use Rattle.ak_headline.specs.Main.{IsMainDiary}
 use Rattle.ak_headline.specs.Run.{HasDone, desk_list, port_list}
 use Rattle.ak_run.specs.Closing.{EndsAllTeams}
 
--- the steps that end a run: each team that runs is ended, in order; what main saw without an entry is a beginning of the roster's list or the port's
-pub record IsClosing (heads : List AppHead) (h : Histories) (steps : List Step) : Type 0 where
-  pub ends : EndsAllTeams heads steps
+-- the steps that end a run, behind those so far: each team that runs is ended, in order; what main saw without an entry is a beginning of the roster's list or the port's
+pub record IsClosing (heads : List AppHead) (so_far : List Step) (h : Histories) (steps : List Step) : Type 0 where
+  pub ends : EndsAllTeams heads so_far steps
   pub roster_seen : All (StartsWith h.roster.items) (roster_sights steps)
   pub ports_seen : (looper : ℕ) → All (StartsWith (port_list h looper)) (port_sights looper steps)
 
--- its diary goes on from these steps, by those of its closing; it has all that main made at the roster, at the reply book and at each port, and
--- the edits stand at the desks
+-- its diary goes on from these steps, by those of its closing; it has all that main made at the roster, at the reply book, at each port and at
+-- each desk, and the edits stand at the desks
 pub record DoneAtEnd (heads : List AppHead) (steps : List Step) (h : Histories) : Type 0 where
   pub closing : List Step
-  pub closes : IsClosing heads h closing
+  pub closes : IsClosing heads steps h closing
   pub diary : IsMainDiary (steps ++ closing)
   pub done : HasDone h main_thread (steps ++ closing)
   pub edits : (looper : ℕ) → All (StandsIn (desk_list h looper)) (desk_entries looper steps)

@@ -1,12 +1,13 @@
 -- What main does by one call, step by step, and what the call answers.
 use Rattle.std.specs.Prelude.{◌≡◌, ◌≤◌, ◌+◌, ℕ, List, [], ◌∷◌, ◌++◌, length, All, Option, None, Some, option_map, slice_get, unwrap_or, Result, Ok, Err}
 use Rattle.std.specs.List.{find}
+use Rattle.ak_base.specs.Thread.{main_thread}
 use Rattle.ak_base.specs.declared.app_word.AppWord.{AppWord}
 use Rattle.ak_message.specs.declared.address.Address.{Address}
 use Rattle.ak_message.specs.Message.{MessageData}
 use Rattle.ak_flatten.specs.Item.{ItemData}
 use Rattle.ak_turn.specs.Entries.{StartsWith}
-use Rattle.ak_turn.specs.Noted.{Noted, StandsIn}
+use Rattle.ak_turn.specs.Noted.{Noted, StandsIn, noted}
 use Rattle.ak_roster.specs.declared.entry.LaunchOutcome.{LaunchOutcome}
 use Rattle.ak_roster.specs.declared.entry.LaunchOutcome.TheVariants as outcome
 use Rattle.ak_roster.specs.declared.entry.RosterEntry.{RosterEntry}
@@ -28,6 +29,7 @@ use Rattle.ak_desk.specs.declared.entry.Edit.{Edit}
 use Rattle.ak_desk.specs.declared.entry.EditAnswer.{EditAnswer}
 use Rattle.ak_desk.specs.declared.entry.DeskEvent.TheVariants as desk_event
 use Rattle.ak_desk.specs.Entry.{EntryData}
+use Rattle.ak_desk.specs.Shared as at_desks
 use Rattle.ak_diary.specs.Step.{Step, at_desk, at_roster, desk_entries}
 use Rattle.ak_diary.specs.Wants.{Converses, EntersPort, Withdraws}
 use Rattle.ak_looper.specs.Rosters.{plain_of}
@@ -46,17 +48,29 @@ use Rattle.ak_run.specs.declared.answers.LaunchAnswer.TheVariants as answer
 abbrev pub desk_front : Run → ℕ → List EntryData
 desk_front r looper = unwrap_or (option_map member_desk_front (slice_get r.members.items looper)) []
 
--- By these steps its own entries went on at the roster, at the reply book and at each port. The lists of the roster and of each desk go on from
--- what main had seen, and the edits of these steps stand at the desks
+-- main made no entry at a desk, and each desk's list goes on from what it had seen
+pub record IsQuietAtDesks (r r' : Run) : Type 0 where
+  pub on : (looper : ℕ) → StartsWith (desk_front r' looper) (desk_front r looper)
+  pub same : (looper : ℕ) → noted at_desks.by_number main_thread (desk_front r' looper) ≡ noted at_desks.by_number main_thread (desk_front r looper)
+
+-- By these steps its own entries went on at the roster, at the reply book, at each port and at each desk. The lists of the roster and of each
+-- desk go on from what main had seen, and the edits of these steps stand at the desks
 pub record Does (steps : List Step) (r r' : Run) : Type 0 where
   pub goes : GoesBy steps (fronts_of r) (fronts_of r')
   pub roster_on : StartsWith (plain_of r'.roster_seat) (plain_of r.roster_seat)
+  pub desks : (looper : ℕ) → noted at_desks.by_number main_thread (desk_front r' looper) ≡ noted at_desks.by_number main_thread (desk_front r looper) ++ desk_entries looper steps
   pub desks_on : (looper : ℕ) → StartsWith (desk_front r' looper) (desk_front r looper)
   pub edits : (looper : ℕ) → All (StandsIn (desk_front r' looper)) (desk_entries looper steps)
 
--- the steps so far: its diary, which has all that it made at the roster, at the reply book and at each port, and edits that stand at the desks
+-- all that main made at a desk are the edits of these steps
+abbrev pub IsRecordedAtDesks : List Step → Run → Type 0
+IsRecordedAtDesks steps r = (looper : ℕ) → noted at_desks.by_number main_thread (desk_front r looper) ≡ desk_entries looper steps
+
+-- the steps so far: its diary, which has all that it made at the roster, at the reply book, at each port and at each desk, and edits that stand
+-- at the desks
 pub record HasDoneSoFar (steps : List Step) (r : Run) : Type 0 where
   pub recorded : IsRecorded steps (fronts_of r)
+  pub desks : (looper : ℕ) → noted at_desks.by_number main_thread (desk_front r looper) ≡ desk_entries looper steps
   pub edits : (looper : ℕ) → All (StandsIn (desk_front r looper)) (desk_entries looper steps)
 
 -- by some steps, of which that holds

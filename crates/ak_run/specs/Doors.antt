@@ -4,7 +4,6 @@ use Rattle.std.specs.Arc.{arc_value}
 use Rattle.ak_base.specs.Thread.{main_thread}
 use Rattle.ak_base.specs.declared.thread.ThreadId.{ThreadId}
 use Rattle.ak_turn.specs.Called.{KeepsSeat}
-use Rattle.ak_turn.specs.Entries.{StartsWith}
 use Rattle.ak_turn.specs.Seats.{KnowsWhole, new_seat, titled_seat}
 use Rattle.ak_turn.specs.Steps.{IsNewName, names_with}
 use Rattle.ak_port.specs.PortCalls as ports
@@ -23,6 +22,11 @@ pub record KnowsBoth (d : Door) : Type 0 where
 pub record HasNames (names : List ℕ) (d : Door) : Type 0 where
   pub at_port : d.port_seat.names ≡ Some names
   pub at_desk : d.desk_seat.names ≡ Some names
+
+-- neither of its seats is a head
+pub record HasNoNames (d : Door) : Type 0 where
+  pub at_port : d.port_seat.names ≡ None
+  pub at_desk : d.desk_seat.names ≡ None
 
 -- the thread has had no seat
 pub record IsNewAt (thread : ℕ) (d : Door) : Type 0 where
@@ -68,8 +72,8 @@ pub record KeepsDoor (door door' : Door) : Type 0 where
   pub taking : (thread : ThreadId) (room : ℕ) → CanTake thread room door.port_seat → CanTake thread room door'.port_seat
   pub adds : door.port_seat.thread ≡ main_thread → AddsAtPort door.port_seat.front door'.port_seat.front
 
--- what no call through it changes: which port and which desk, and whose seats they are. The desk's list goes on
+-- what no call at its port changes: which port and which desk, whose seats they are, and what was seen of the desk
 pub record KeepsSeats (door door' : Door) : Type 0 where
   pub port : KeepsSeat door.port_seat door'.port_seat
   pub desk : KeepsSeat door.desk_seat door'.desk_seat
-  pub desk_on : StartsWith door'.desk_seat.front door.desk_seat.front
+  pub desk_front : door'.desk_seat.front ≡ door.desk_seat.front

@@ -21,19 +21,19 @@ use Rattle.ak_run.specs.declared.answers.LaunchAnswer.TheVariants as answer
 use Rattle.ak_run.specs.declared.launching.Launch.{Launch}
 use Rattle.ak_run.specs.declared.launching.Launch.TheVariants as launch
 use Rattle.ak_run.specs.declared.run.Run.{Run}
-use Rattle.ak_run.specs.Doing.{desk_front}
+use Rattle.ak_run.specs.Doing.{IsQuietAtDesks}
 use Rattle.ak_run.specs.Greeting.{EntersEach, SendsEach, arguments_told, capacities_in, start_entries}
 use Rattle.ak_run.specs.Recording.{GoesBy, fronts_of, fronts_with}
 
 -- By some steps of which that holds, of which none is at a desk, main's own entries went on, with the new ports of a team that is about to
--- start; the lists of the roster and of each desk go on from what main had seen
+-- start, and at no desk; the lists of the roster and of each desk go on from what main had seen
 pub record DoesWith (P : List Step → Type 0) (new : List (List PortEntry)) (r r' : Run) : Type 0 where
   pub steps : List Step
   pub so : P steps
   pub goes : GoesBy steps (fronts_of r) (fronts_with r' new)
   pub no_edits : (looper : ℕ) → desk_entries looper steps ≡ []
   pub roster_on : StartsWith (plain_of r'.roster_seat) (plain_of r.roster_seat)
-  pub desks_on : (looper : ℕ) → StartsWith (desk_front r' looper) (desk_front r looper)
+  pub desks_on : IsQuietAtDesks r r'
 
 -- none is at the roster or at the reply book
 pub record AreAtPorts (steps : List Step) : Type 0 where

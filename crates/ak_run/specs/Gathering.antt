@@ -1,5 +1,5 @@
 -- What main knows of the loopers whose threads it joined.
-use Rattle.std.specs.Prelude.{◌≡◌, ◌+◌, ◌≤◌, ℕ, suc, List, [], ◌∷◌, ◌++◌, length, map, filter, All, Bool, true, false, Contains, IsSomeAnd, None, Some, set, slice_get, Vec, vec_capacity}
+use Rattle.std.specs.Prelude.{◌≡◌, ◌+◌, ◌≤◌, ℕ, suc, List, [], ◌∷◌, ◌++◌, length, map, filter, All, Bool, true, false, Contains, IsSomeAnd, Some, set, slice_get, Vec, vec_capacity}
 use Rattle.std.specs.Arc.{arc_value}
 use Rattle.std.specs.declared.alloc.Global.{Global}
 use Rattle.ak_base.specs.Thread.{looper_thread, main_thread}
@@ -34,6 +34,7 @@ use Rattle.ak_looper.specs.Rosters as rosters
 use Rattle.ak_looper.specs.Rosters.{LeadsTo, Object, RosterSeat}
 use Rattle.ak_run.specs.declared.gathering.AllJoined.{AllJoined}
 use Rattle.ak_run.specs.declared.gathering.Joined.{Joined}
+use Rattle.ak_run.specs.Doors.{HasNoNames}
 use Rattle.ak_run.specs.Recording.{EndsByOthers}
 
 module _ {O L : Type 0} where
@@ -82,9 +83,14 @@ joined_front j = j.door.port_seat.front
 abbrev pub joined_desk_front : Joined → List EntryData
 joined_desk_front j = j.door.desk_seat.front
 
--- main's seat at its port is no head: the keeper's is
+-- main's seats at its port and its desk are no heads: the keeper's are
 abbrev pub IsNoHead : Joined → Type 0
-IsNoHead j = j.door.port_seat.names ≡ None
+IsNoHead j = HasNoNames j.door
+
+-- main's door to it knows what these seats knew of their own thread
+pub record TookBothIn (port : PortSeat) (desk : DeskSeat) (j : Joined) : Type 0 where
+  pub at_port : TookIn port j.door.port_seat
+  pub at_desk : TookIn desk j.door.desk_seat
 
 -- those of them that found no memory
 abbrev pub is_short : EndKind → Bool
@@ -147,9 +153,9 @@ pub record HasTakenAt (place : ℕ) (port : PortSeat) (desk : DeskSeat) (js js' 
 abbrev pub IsWayIn : List Joined → ℕ × Door → Type 0
 IsWayIn js way = IsAt js way.0 way.1.port_seat.lock way.1.desk_seat.lock
 
--- main's door there knows what the way's seat knew
+-- main's door there knows what the way's seats knew
 abbrev pub IsTakenIn : List Joined → ℕ × Door → Type 0
-IsTakenIn js way = IsSomeAnd (slice_get js way.0) (λ (j : Joined). TookIn way.1.port_seat j.door.port_seat)
+IsTakenIn js way = IsSomeAnd (slice_get js way.0) (TookBothIn way.1.port_seat way.1.desk_seat)
 
 -- so it is of all that one looper gave back
 abbrev pub AreWaysIn : List Joined → Vec (ℕ × Door) Global → Type 0
@@ -164,10 +170,11 @@ abbrev pub AreKeptIn : List Joined → ℕ → List KeptDoor → Type 0
 AreKeptIn js place [] = Unit {0}
 AreKeptIn js place (kept ∷ keeps) = IsAt js place kept.port_seat.lock kept.desk_seat.lock × AreKeptIn js (suc place) keeps
 
--- main's seat at the port is the head in the keeper's place, and knows what the keeper's knew
+-- main's seats at the port and the desk are the heads in the keeper's place, and know what the keeper's knew
 pub record IsHeadFor (kept : KeptDoor) (j : Joined) : Type 0 where
   pub names : j.door.port_seat.names ≡ kept.port_seat.names
-  pub took : TookIn kept.port_seat j.door.port_seat
+  pub desk_names : j.door.desk_seat.names ≡ kept.desk_seat.names
+  pub took : TookBothIn kept.port_seat kept.desk_seat j
 
 abbrev pub AreHeadsIn : List Joined → ℕ → List KeptDoor → Type 0
 AreHeadsIn js place [] = Unit {0}
@@ -195,7 +202,8 @@ pub record IsDeskOf (seat : DeskSeat) (desk : DeskData) : Type 0 where
   pub legal : desks.LeadsOn desk.opening desk.entries
   pub opening : seat.opening ≡ Some desk.opening
   pub known : KnowsAll desks.by_number seat desk.entries
-  pub goes_on : StartsWith desk.entries seat.front
+  pub ends : seat.thread ≡ main_thread → EndsByOthers desks.by_number seat.front desk.entries
+  pub named : (names : List ℕ) → seat.names ≡ Some names → All (λ (entry : EntryData). Contains names (desks.by_number entry)) desk.entries
 
 -- the list goes on from what the seat had seen by entries of other threads, and each entry is by one of the seat's names; the doors that are
 -- kept are those of the loopers, in order, and each tells the threads that hold it

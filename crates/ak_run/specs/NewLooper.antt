@@ -1,5 +1,5 @@
 -- A looper that is about to start.
-use Rattle.std.specs.Prelude.{◌≡◌, ℕ, ◌+◌, ◌-◌, ◌<◌, List, [], ◌∷◌, None, Some, slice_get}
+use Rattle.std.specs.Prelude.{◌≡◌, ℕ, ◌+◌, ◌-◌, ◌<◌, List, [], ◌∷◌, Some, slice_get}
 use Rattle.std.specs.Arc.{arc_value}
 use Rattle.std.specs.VecDeque.{deque_len, deque_capacity}
 use Rattle.ak_base.specs.Limits.{looper_limit}
@@ -16,6 +16,7 @@ use Rattle.ak_run.specs.declared.new_looper.NewLooper.{NewLooper}
 use Rattle.ak_run.specs.declared.new_looper.Other.{Other}
 use Rattle.ak_run.specs.declared.new_looper.Own.{Own}
 use Rattle.ak_run.specs.declared.new_looper.Shared.{Shared}
+use Rattle.ak_run.specs.Doors.{HasNoNames}
 use Rattle.ak_run.specs.Opening.{names_in}
 use Rattle.ak_run.specs.Recording.{AddsAtPort}
 
@@ -47,8 +48,11 @@ pub record IsNewLooper (plans : List PlanParts) (team first : ℕ) (shared : Sha
   pub desk_opening : n.door.desk_seat.opening ≡ Some desk
   -- and what main made there is what it may make
   pub made : AddsAtPort [] n.door.port_seat.front
-  -- it is no head, since the keeper's is
-  pub no_head : n.door.port_seat.names ≡ None
+  -- nothing was done at the desk
+  pub desk_front : n.door.desk_seat.front ≡ []
+  -- neither main's seats are heads nor the thread's, since the keeper's are
+  pub no_head : HasNoNames n.door
+  pub own_no_head : HasNoNames n.own
 
 -- the keeper's door leads to it, and tells those threads
 pub record IsKept (threads : List ℕ) (n : NewLooper) (kept : KeptDoor) : Type 0 where

@@ -41,6 +41,8 @@ pub record IsOpened (place : Place) (plan : PlanParts) (names : List (List ℕ))
   pub names_are : HasNames (main_thread ∷ []) o.door
   -- what main made at the port is what it may make
   pub made : AddsAtPort [] o.door.port_seat.front
+  -- and nothing was done at the desk
+  pub desk_front : o.door.desk_seat.front ≡ []
 
 module _ (plans : List PlanParts) (team first : ℕ) where
   abbrev pub place_at : ℕ → Place

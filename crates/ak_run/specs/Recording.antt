@@ -10,6 +10,7 @@ use Rattle.ak_port.specs.PortCalls as at_ports
 use Rattle.ak_port.specs.PortCalls.{PortData}
 use Rattle.ak_port.specs.ReplySeats as at_books
 use Rattle.ak_desk.specs.Entry.{EntryData}
+use Rattle.ak_desk.specs.Shared as at_desks
 use Rattle.ak_diary.specs.Step.{Step, book_entries, book_sights, desk_entries, port_entries, roster_entries}
 use Rattle.ak_headline.specs.Main.{IsMainDiary, MayEnterPort}
 use Rattle.ak_looper.specs.Rosters.{maker_of, plain_of}
@@ -62,10 +63,11 @@ pub record IsRecorded (steps : List Step) (f : Fronts) : Type 0 where
   pub book_seen : All (StartsWith f.book) (book_sights steps)
   pub ports : (looper : ℕ) → noted at_ports.by_number main_thread (list_at f.ports looper) ≡ port_entries looper steps
 
--- there is such a diary
-pub record HasRecord (f : Fronts) : Type 0 where
+-- there is such a diary, and of these lists of desks main's own entries are its edits there
+pub record HasRecord (f : Fronts) (lists : ℕ → List EntryData) : Type 0 where
   pub did : List Step
   pub recorded : IsRecorded did f
+  pub edits : (looper : ℕ) → noted at_desks.by_number main_thread (lists looper) ≡ desk_entries looper did
 
 -- from one to the other its own entries went on by those of these steps, which are acts of main's
 pub record GoesBy (steps : List Step) (a b : Fronts) : Type 0 where

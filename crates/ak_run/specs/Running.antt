@@ -19,6 +19,8 @@ use Rattle.ak_run.specs.declared.member.Member.{Member}
 use Rattle.ak_run.specs.declared.new_looper.Shared.{Shared}
 use Rattle.ak_run.specs.declared.run.Run.{Run}
 use Rattle.ak_run.specs.Counting.{started_by_main}
+use Rattle.ak_run.specs.Doing.{desk_front}
+use Rattle.ak_run.specs.Doors.{HasNoNames}
 use Rattle.ak_run.specs.Gathering.{HasRoomFor, HoldsNothing}
 use Rattle.ak_run.specs.Members.{IsLifeOf, OpensAs}
 use Rattle.ak_run.specs.Recording.{HasRecord, fronts_of}
@@ -32,8 +34,8 @@ pub record IsMember (heads : List AppHead) (shared : Shared) (roster : rosters.R
   pub at_port : m.job.value.own.port_seat.lock ≡ m.door.port_seat.lock
   pub at_desk : m.job.value.own.desk_seat.lock ≡ m.door.desk_seat.lock
   pub leads : LeadsTo roster m.number m.door.port_seat.lock m.door.desk_seat.lock
-  pub no_head : m.door.port_seat.names ≡ None
-  pub own_no_head : m.job.value.own.port_seat.names ≡ None
+  pub no_head : HasNoNames m.door
+  pub own_no_head : HasNoNames m.job.value.own
   pub at_book : m.job.value.hands.book_seat.lock ≡ arc_value shared.book
   pub at_roster : m.job.value.roster_seat.lock ≡ arc_value shared.roster
   pub heads_are : m.job.value.roster_seat.opening ≡ Some heads
@@ -107,4 +109,4 @@ pub record IsRunning (r : Run) : Type 0 where
   pub heads : List AppHead
   pub stands : Stands (length r.members.items) heads r
   pub all : started_by_main heads r.roster_seat ≡ length r.members.items
-  pub recorded : HasRecord (fronts_of r)
+  pub recorded : HasRecord (fronts_of r) (desk_front r)

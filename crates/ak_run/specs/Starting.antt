@@ -22,14 +22,14 @@ use Rattle.ak_run.specs.declared.new_looper.Shared.{Shared}
 use Rattle.ak_run.specs.declared.new_team.NewTeam.{NewTeam}
 use Rattle.ak_run.specs.declared.run.Run.{Run}
 use Rattle.ak_run.specs.Counting.{started_by_main}
-use Rattle.ak_run.specs.Doing.{desk_front}
+use Rattle.ak_run.specs.Doing.{IsQuietAtDesks, desk_front}
 use Rattle.ak_run.specs.Jobs.{HasWays, IsStartedFrom, IsStartedIn, facts_in}
 use Rattle.ak_run.specs.NewLooper.{IsNewLooper}
 use Rattle.ak_run.specs.NewTeam.{AreOthers, IsNewTeam}
 use Rattle.ak_run.specs.Recording.{HasRecord, RecordsBeside, fronts_with, team_fronts}
 use Rattle.ak_run.specs.Running.{IsRunning, KeepsRest, Stands}
 
--- the run goes on with the loopers that it has; main launched nothing
+-- the run goes on with the loopers that it has; main launched nothing, and edited nothing
 pub record GoesOn (r r' : Run) : Type 0 where
   pub stands : (next : ℕ) (heads : List AppHead) → Stands next heads r → Stands next heads r'
   pub started : (next : ℕ) (heads : List AppHead) → Stands next heads r → started_by_main heads r'.roster_seat ≡ started_by_main heads r.roster_seat
@@ -37,7 +37,7 @@ pub record GoesOn (r r' : Run) : Type 0 where
   pub on : StartsWith r'.roster_seat.front r.roster_seat.front
   pub shared : r'.shared ≡ r.shared
   pub apps : r'.apps ≡ r.apps
-  pub desks_on : (looper : ℕ) → StartsWith (desk_front r' looper) (desk_front r looper)
+  pub desks_on : IsQuietAtDesks r r'
   pub recorded : RecordsBeside r r'
 
 -- the same, with so many loopers more that have their threads
@@ -48,7 +48,7 @@ pub record GoesOnWith (more : ℕ) (r r' : Run) : Type 0 where
   pub on : StartsWith r'.roster_seat.front r.roster_seat.front
   pub shared : r'.shared ≡ r.shared
   pub apps : r'.apps ≡ r.apps
-  pub desks_on : (looper : ℕ) → StartsWith (desk_front r' looper) (desk_front r looper)
+  pub desks_on : IsQuietAtDesks r r'
 
 -- the roster pairs the looper with what main's door to it leads to
 abbrev pub IsPaired : rosters.RosterSeat → NewLooper → Type 0
@@ -93,7 +93,7 @@ abbrev pub HasEnteredLaunch : Run → Run → Launch → Type 0
 HasEnteredLaunch r r' (launch.Started s) =
     (heads : List AppHead) × (plans : List PlanParts) × (kept : List KeptDoor) × MayStartTeam heads plans kept s.team s.new r'
     × (s.team.loopers ≤ app_looper_limit) × (started_by_main heads r'.roster_seat ≡ length r'.members.items + s.team.loopers)
-    × HasRecord (fronts_with r' (team_fronts s.new))
+    × HasRecord (fronts_with r' (team_fronts s.new)) (desk_front r')
 HasEnteredLaunch r r' (launch.Running team first) = IsRunning r' × (first < length r'.members.items)
 HasEnteredLaunch r r' launch.NotFound = IsRunning r'
 HasEnteredLaunch r r' launch.Limit = IsRunning r'

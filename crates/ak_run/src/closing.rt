@@ -76,7 +76,7 @@ impl Run {
     fn end_team<R: Wait>(&mut self, rt: &R, team: u32)
         requires running { IsRunning self.old }
         ensures goes { GoesOn self.old self.new }
-        ensures closed { ClosesSo (EndsTeam (heads_of self.old.apps.items) team) self.old self.new }
+        ensures closed { ClosesSo (λ so_far. EndsTeam (heads_of self.old.apps.items) so_far team) self.old self.new }
     {
         match self.leave_running(rt, team) {
             Some(running) => self.shut_ports(rt, running.first, running.loopers),
@@ -88,7 +88,7 @@ impl Run {
     fn leave_running<R: Wait>(&mut self, rt: &R, team: u32) -> Option<Running>
         requires running { IsRunning self.old }
         ensures goes { GoesOn self.old self.new }
-        ensures closed { ClosesSo (LeavesSo (heads_of self.old.apps.items) team result) self.old self.new }
+        ensures closed { ClosesSo (λ so_far. LeavesSo (heads_of self.old.apps.items) so_far team result) self.old self.new }
         ensures started { IfSome result (λ running. running.first + running.loopers ≤ length self.new.members.items) }
     {
         let mut turn = self.shared.roster.lock(rt, &mut self.roster_seat);
@@ -103,7 +103,7 @@ impl Run {
         requires running { IsRunning self.old }
         requires there { first + loopers ≤ length self.old.members.items }
         ensures goes { GoesOn self.old self.new }
-        ensures closed { ClosesSo (ShutsAll (range_with_len first loopers)) self.old self.new }
+        ensures closed { ClosesSo (λ so_far. ShutsAll (range_with_len first loopers)) self.old self.new }
     {
         for place in 0..loopers {
             self.shut_port(rt, first + place);
@@ -115,7 +115,7 @@ impl Run {
         requires running { IsRunning self.old }
         requires there { looper < length self.old.members.items }
         ensures goes { GoesOn self.old self.new }
-        ensures closed { ClosesSo (Shuts looper) self.old self.new }
+        ensures closed { ClosesSo (λ so_far. Shuts looper) self.old self.new }
     {
         let door = &mut self.members[looper as usize].door;
         close(&door.port, rt, &mut door.port_seat, &mut self.hands.clock);

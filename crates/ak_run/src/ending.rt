@@ -23,15 +23,15 @@ impl Run {
     ghost use Rattle.ak_headline.specs.Headline.{EachGotOneReply, EachLooper, IsAccounted, IsByRule};
     ghost use Rattle.ak_headline.specs.Run.{HasDone, IsRun};
     ghost use Rattle.ak_run.specs.AtEnd.{DoneAtEnd};
-    ghost use Rattle.ak_run.specs.Doing.{HasDoneSoFar};
+    ghost use Rattle.ak_run.specs.Doing.{HasDoneSoFar, IsRecordedAtDesks};
     ghost use Rattle.ak_run.specs.Ending.{EndsAs, IsRunOfLoopers};
     ghost use Rattle.ak_run.specs.Opened.{WereOpened};
     ghost use Rattle.ak_run.specs.Recording.{IsRecorded, fronts_of};
     ghost use Rattle.ak_run.specs.Running.{IsRunning};
 
     /// Ends what runs, joins all threads and keeps the histories, which go on from what main had seen. For each looper that was started
-    /// there are a port and a desk. Each looper's diary has all that its thread did at the roster, the reply book, every port and its own
-    /// desk, and main's diary all that main did but its edits; at the ports and the reply book no other thread made an entry. The messages
+    /// there are a port and a desk. Each looper's diary has all that its thread did at the roster, the reply book, every port and every
+    /// desk, and main's diary all that main did; at the roster, the ports and the reply book no other thread made an entry. The messages
     /// that a looper dispatched, followed by those that it left, are exactly those that its port accepted, in order and each once; each was
     /// dispatched as the rules say for the handlers at that moment; and each accepted waiting send got one reply, the one that the rules
     /// make for it. Each looper's desk was opened as its plan says in the application that was launched. Takes no memory.
@@ -58,7 +58,7 @@ impl Run {
         requires running { IsRunning self }
         ensures run { IsRunOfLoopers (heads_of self.apps.items) result.short result.histories }
         ensures apps { result.apps ≡ self.apps }
-        ensures done { (steps : List Step) → IsRecorded steps (fronts_of self) → HasDone result.histories main_thread steps }
+        ensures done { (steps : List Step) → IsRecorded steps (fronts_of self) → IsRecordedAtDesks steps self → HasDone result.histories main_thread steps }
         ensures opened { WereOpened self.apps.items result.histories }
         ensures same { EndsAs self result.histories }
     {

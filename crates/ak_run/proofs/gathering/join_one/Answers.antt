@@ -36,7 +36,7 @@ returns-clause-joined g c = λ heads shared is.
 
 pub returns-clause-no_head : goal.returns-clause-no_head
 returns-clause-no_head g c = λ heads shared is.
-    still_no_head heads shared c.args.roster_seat.now c.args.member c.end-end.result c.take_in.new.door.port_seat is (c.end-end.ensures c.args.member.job.value is.life) c.take_in.ensures.port
+    still_no_head heads shared c.args.roster_seat.now c.args.member c.end-end.result c.take_in.new.door is (c.end-end.ensures c.args.member.job.value is.life) c.take_in.ensures.port c.take_in.ensures.desk
 
 pub returns-clause-ways : goal.returns-clause-ways
 returns-clause-ways g c = ap (λ (e : LooperEnd). e.doors) (sym c.of-snapshot.ensures)

@@ -38,7 +38,7 @@ loop-door-preserved c =
     let taken = c.take_at.ensures in
     let gains = taking_gains was.place x.port_seat x.desk_seat js js' taken in
     let none = was.invariant.no_heads was.place taken.before (omega arith) taken.there in
-    let head = head_there was.place x.port_seat x.desk_seat js js' taken x refl none in
+    let head = head_there was.place x.port_seat x.desk_seat js js' taken x refl refl none in
     record {
       gaining = all_gain_further c.args.loopers.now.items js js' was.invariant.gaining gains;
       count = omega (arith, was.invariant.count, ap (λ (l : List KeptDoor). length l) next);

@@ -4,7 +4,7 @@ use Rattle.ak_base.specs.Thread.{keeper_thread, main_thread, looper_thread}
 use Rattle.ak_port.specs.PortCalls as ports
 use Rattle.ak_run.specs.Doors.{HasParted, IsNewAt, IsPartOf}
 use Rattle.ak_run.specs.NewLooper.{other_threads}
-use Rattle.ak_run.proofs.NewDoors.{leads_on, leads_parted, leads_without_names, names_more}
+use Rattle.ak_run.proofs.NewDoors.{leads_on, leads_parted, leads_without_names, names_more, no_names_left}
 use Rattle.ak_run.proofs.NewLoopers.{first_below, keeper_new_to_other, kept_for, new_looper, new_to_main, new_to_two, number_below, number_is, way_for}
 use Rattle.ak_run.proofs.new_looper.new_other.Goals as goal
 
@@ -73,7 +73,7 @@ returns c = record {
       let from_door = leads_on door second last (leads_parted (looper_thread first) door second again) left in
       let leads = leads_on o.door door last (leads_parted (looper_thread o.number) o.door door parted) from_door in
       record {
-        looper = new_looper plans team first k o at c.args.shared.now _ refl refl c.in_ok-try_clone.ensures part leads (ap (λ (s : ports.PortSeat). s.names) c.in_ok-kept.ensures.gave.port_seat);
+        looper = new_looper plans team first k o at c.args.shared.now _ refl refl c.in_ok-try_clone.ensures part leads (no_names_left second last c.in_ok-kept.ensures.gave);
         way = way_for first door _ c.in_ok-way.way (c.in_ok-own.ensures.known at.opened.known) new_there way from_door;
         kept = kept_for (other_threads first k) (main_thread ∷ looper_thread o.number ∷ looper_thread first ∷ []) second _ c.in_ok-kept.kept c.in_ok-kept.ensures.kept left
             (names_more (main_thread ∷ looper_thread o.number ∷ []) (looper_thread first) door second names again)

@@ -4,7 +4,7 @@ use Rattle.ak_base.specs.Thread.{keeper_thread, main_thread, looper_thread}
 use Rattle.ak_port.specs.PortCalls as ports
 use Rattle.ak_run.specs.Doors.{HasParted, IsNewAt, IsPartOf}
 use Rattle.ak_run.specs.NewLooper.{own_threads}
-use Rattle.ak_run.proofs.NewDoors.{leads_on, leads_parted, leads_without_names, names_more}
+use Rattle.ak_run.proofs.NewDoors.{leads_on, leads_parted, leads_without_names, names_more, no_names_left}
 use Rattle.ak_run.proofs.NewLoopers.{keeper_new_to_own, kept_for, new_looper, new_to_main, number_below, number_is}
 use Rattle.ak_run.proofs.new_looper.new_own.Goals as goal
 
@@ -45,7 +45,7 @@ returns c = record {
       let leads = leads_on o.door door c.keep_door.new.door (leads_parted (looper_thread o.number) o.door door parted) left in
       let first_is : o.number ≡ first = omega (arith, number_is plans team first 0 o at) in
       record {
-        looper = new_looper plans team first 0 o at c.args.shared.now _ refl refl c.in_ok-try_clone.ensures part leads (ap (λ (s : ports.PortSeat). s.names) c.in_ok-kept.ensures.gave.port_seat);
+        looper = new_looper plans team first 0 o at c.args.shared.now _ refl refl c.in_ok-try_clone.ensures part leads (no_names_left door c.keep_door.new.door c.in_ok-kept.ensures.gave);
         kept = kept_for (own_threads first) (main_thread ∷ looper_thread o.number ∷ []) door _ c.in_ok-kept.kept c.in_ok-kept.ensures.kept left
             (names_more (main_thread ∷ []) (looper_thread o.number) o.door door at.opened.names_are parted)
             (ap (λ (number : ℕ). main_thread ∷ looper_thread number ∷ keeper_thread ∷ []) first_is);

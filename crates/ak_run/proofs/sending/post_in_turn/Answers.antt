@@ -1,9 +1,9 @@
 -- One turn at the port is one call.
+use Rattle.std.proofs.Common.{refl}
 use Rattle.ak_messenger.specs.Sends.{post_event}
 use Rattle.ak_port.specs.PortCalls.{by_number}
 use Rattle.ak_port.proofs.Surface.{answered_at_turn}
 use Rattle.ak_turn.proofs.Surface.{keeps_itself, turn_keeps}
-use Rattle.ak_run.proofs.Calls.{desk_same}
 use Rattle.ak_run.proofs.sending.post_in_turn.Goals as goal
 
 pub returns-clause-answered : goal.returns-clause-answered
@@ -15,4 +15,4 @@ returns-clause-answered g c =
 pub returns-clause-door : goal.returns-clause-door
 returns-clause-door g c =
     let door = c.args.door.now in
-    record { port = turn_keeps by_number door.port_seat c.lock-turn.new.seat c.post_at_turn.new.seat door.port_idle c.lock-turn.ensures.seen c.post_at_turn.ensures.seat; desk = keeps_itself door.desk_seat; desk_on = desk_same door }
+    record { port = turn_keeps by_number door.port_seat c.lock-turn.new.seat c.post_at_turn.new.seat door.port_idle c.lock-turn.ensures.seen c.post_at_turn.ensures.seat; desk = keeps_itself door.desk_seat; desk_front = refl }

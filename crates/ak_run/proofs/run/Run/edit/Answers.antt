@@ -2,13 +2,11 @@
 use Rattle.std.proofs.Common.{refl, sym, ap, ◌∙◌, subst}
 use Rattle.std.proofs.lemmas.List.{length-set}
 use Rattle.ak_turn.specs.Called.{KeepsSeat}
-use Rattle.ak_run.specs.Entering.{AreAtPorts}
+use Rattle.ak_run.specs.Doing.{EditedSo}
 use Rattle.ak_run.specs.Sending.{edited_event}
-use Rattle.ak_run.proofs.Acting.{adds_nothing}
 use Rattle.ak_turn.proofs.Surface.{keeps_itself}
-use Rattle.ak_run.proofs.Calls.{desk_after, desk_before, desk_keeps, main_has, one_goes, port_alone}
+use Rattle.ak_run.proofs.Calls.{desk_after, desk_before, desk_keeps, main_has, one_runs}
 use Rattle.ak_run.proofs.Edits.{edited_does}
-use Rattle.ak_run.proofs.GoingOn.{still_running}
 use Rattle.ak_run.proofs.Standing.{same_book}
 use Rattle.ak_run.proofs.run.Run.edit.Goals as goal
 
@@ -22,7 +20,8 @@ pub returns-clause-did : goal.returns-clause-did
 returns-clause-did g c =
     let r = c.args.self.now in
     let m = c.index_mut.result.now in
-    edited_does r _ c.args.looper m _ c.requires.there (sym c.index_mut.ensures.value) refl refl refl (ap (λ s. s.front) c.edit_through.ensures.port_seat) c.args.edit r.hands.clock c.edit_through.new.clock c.edit_through.result c.edit_through.ensures.answered c.edit_through.ensures.place
+    let main = m.door.thread ∙ main_has _ c.requires.running.heads r c.args.looper m c.requires.there (sym c.index_mut.ensures.value) c.requires.running.stands in
+    edited_does r _ c.args.looper m _ c.requires.there (sym c.index_mut.ensures.value) refl refl refl (ap (λ s. s.front) c.edit_through.ensures.port_seat) main c.args.edit r.hands.clock c.edit_through.new.clock c.edit_through.result c.edit_through.ensures.answered c.edit_through.ensures.place
 
 pub returns-clause-answered : goal.returns-clause-answered
 returns-clause-answered g c =
@@ -40,11 +39,13 @@ pub returns-clause-running : goal.returns-clause-running
 returns-clause-running g c =
     let r = c.args.self.now in
     let m = c.index_mut.result.now in
-    let door = c.edit_through.new.door in
-    let keeps = desk_keeps (edited_event c.args.edit c.edit_through.result) r.hands.clock c.edit_through.new.clock m.door.desk_seat door.desk_seat c.edit_through.ensures.answered in
-    still_running r _ (one_goes r _ c.args.looper m door c.requires.there (sym c.index_mut.ensures.value) refl refl AreAtPorts
-    (record { port = subst (KeepsSeat m.door.port_seat) (sym c.edit_through.ensures.port_seat) (keeps_itself m.door.port_seat); desk = keeps.0; desk_on = keeps.1 }) refl (record { apps = refl; shared = refl; joined = refl; ports = refl; desks = refl }) (same_book r _ refl)
-    (port_alone c.args.looper r.hands.book_seat _ m.door.port_seat.front _ refl (adds_nothing m.door.port_seat.front door.port_seat.front (ap (λ s. s.front) c.edit_through.ensures.port_seat)))) c.requires.running
+    let there = sym c.index_mut.ensures.value in
+    let e = c.edit_through in
+    let keeps = desk_keeps (edited_event c.args.edit e.result) r.hands.clock e.new.clock m.door.desk_seat e.new.door.desk_seat e.ensures.answered in
+    let main = m.door.thread ∙ main_has _ c.requires.running.heads r c.args.looper m c.requires.there there c.requires.running.stands in
+    one_runs r _ c.args.looper m e.new.door c.requires.there there refl refl (EditedSo c.args.looper c.args.edit e.result) (subst (KeepsSeat m.door.port_seat) (sym e.ensures.port_seat) (keeps_itself m.door.port_seat)) keeps.0 refl
+    (record { apps = refl; shared = refl; joined = refl; ports = refl; desks = refl }) (same_book r _ refl)
+    (edited_does r _ c.args.looper m _ c.requires.there there refl refl refl (ap (λ s. s.front) e.ensures.port_seat) main c.args.edit r.hands.clock e.new.clock e.result e.ensures.answered e.ensures.place) c.requires.running
 
 pub returns-clause-count : goal.returns-clause-count
 returns-clause-count g c = length-set c.args.self.now.members.items c.args.looper _

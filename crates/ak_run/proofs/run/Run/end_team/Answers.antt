@@ -19,7 +19,8 @@ returns-in-Some g c =
     let running = c.in-Some.running in
     record {
       goes = goes_then_goes r _ _ c.in-Some.ensures.goes c.shut_ports.ensures.goes;
-      closed = closes_then (LeavesSo heads team (Some running)) (ShutsAll (range_with_len running.first running.loopers)) (EndsTeam heads team) r _ _ (λ xs ys leaves shuts. ends_so heads team (Some running) xs ys leaves shuts) c.in-Some.ensures.closed c.shut_ports.ensures.closed;
+      closed = closes_then (λ so_far. LeavesSo heads so_far team (Some running)) (λ so_far. ShutsAll (range_with_len running.first running.loopers)) (λ so_far. EndsTeam heads so_far team) r _ _
+          (λ so_far xs ys leaves shuts. ends_so heads so_far team (Some running) xs ys leaves shuts) c.in-Some.ensures.closed c.shut_ports.ensures.closed;
     }
 
 pub returns-in-None : goal.returns-in-None
@@ -27,4 +28,4 @@ returns-in-None g c =
     let r = c.args.self.now in
     let heads = heads_of r.apps.items in
     let team = c.args.team in
-    record { goes = c.in-None.ensures.goes; closed = closes_as (LeavesSo heads team None) (EndsTeam heads team) r _ (λ steps leaves. ends_gone heads team steps leaves) c.in-None.ensures.closed }
+    record { goes = c.in-None.ensures.goes; closed = closes_as (λ so_far. LeavesSo heads so_far team None) (λ so_far. EndsTeam heads so_far team) r _ (λ so_far steps leaves. ends_gone heads so_far team steps leaves) c.in-None.ensures.closed }

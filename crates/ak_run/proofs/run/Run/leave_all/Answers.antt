@@ -13,7 +13,7 @@ use Rattle.ak_run.proofs.run.Run.leave_all.Goals as goal
 pub loop-place-init : goal.loop-place-init
 loop-place-init g c = record {
   goes = goes_same c.args.self.now _ (record { apps = refl; shared = refl; joined = refl; ports = refl; desks = refl }) refl refl refl;
-  closed = closes_same (EndsTeams (heads_of c.args.self.now.apps.items) (range_with_len 1 0)) c.args.self.now _ refl refl refl refl;
+  closed = closes_same (λ so_far. EndsTeams (heads_of c.args.self.now.apps.items) so_far (range_with_len 1 0)) c.args.self.now _ (λ so_far. refl) refl refl refl;
 }
 
 pub end_team-requires : goal.end_team-requires
@@ -30,8 +30,8 @@ loop-place-preserved g c =
     let next : place + 1 ≡ 1 + place = omega arith in
     record {
       goes = goes_then_goes r _ _ was.goes c.end_team.ensures.goes;
-      closed = closes_then (EndsTeams heads (range_with_len 1 place)) (EndsTeam later (place + 1)) (EndsTeams heads (range_with_len 1 (place + 1))) r _ _
-          (λ xs ys all one.
-          subst (λ (teams : List ℕ). EndsTeams heads teams (xs ++ ys)) (sym (range_push 1 place))
-          (ends_push heads (range_with_len 1 place) (1 + place) xs ys all (subst (λ (n : ℕ). EndsTeam heads n ys) next (subst (λ (hs : List AppHead). EndsTeam hs (place + 1) ys) same one)))) was.closed c.end_team.ensures.closed;
+      closed = closes_then (λ so_far. EndsTeams heads so_far (range_with_len 1 place)) (λ so_far. EndsTeam later so_far (place + 1)) (λ so_far. EndsTeams heads so_far (range_with_len 1 (place + 1))) r _ _
+          (λ so_far xs ys all one.
+          subst (λ (teams : List ℕ). EndsTeams heads so_far teams (xs ++ ys)) (sym (range_push 1 place))
+          (ends_push heads so_far (range_with_len 1 place) (1 + place) xs ys all (subst (λ (n : ℕ). EndsTeam heads (so_far ++ xs) n ys) next (subst (λ (hs : List AppHead). EndsTeam hs (so_far ++ xs) (place + 1) ys) same one)))) was.closed c.end_team.ensures.closed;
     }

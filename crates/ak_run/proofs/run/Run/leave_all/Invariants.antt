@@ -8,5 +8,5 @@ use Rattle.ak_run.proofs.run.Run.leave_all.Given as goal
 abbrev pub invariant-loop-place : goal.invariant-loop-place
 invariant-loop-place g l = record {
   goes : GoesOn l.fn.self l.self;
-  closed : ClosesSo (EndsTeams (heads_of l.fn.self.apps.items) (range_with_len 1 l.place)) l.fn.self l.self;
+  closed : ClosesSo (λ so_far. EndsTeams (heads_of l.fn.self.apps.items) so_far (range_with_len 1 l.place)) l.fn.self l.self;
 }

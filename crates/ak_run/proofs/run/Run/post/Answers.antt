@@ -5,7 +5,7 @@ use Rattle.ak_messenger.specs.Sends.{post_event}
 use Rattle.ak_run.specs.Doing.{EnteredSo}
 use Rattle.ak_run.proofs.Acting.{may_post}
 use Rattle.ak_turn.proofs.Surface.{keeps_itself}
-use Rattle.ak_run.proofs.Calls.{desk_same, main_has, one_does, port_after, port_before, post_acts, post_goes}
+use Rattle.ak_run.proofs.Calls.{main_has, one_does, port_after, port_before, post_acts, post_goes}
 use Rattle.ak_run.proofs.GoingOn.{still_running}
 use Rattle.ak_run.proofs.run.Run.post.Goals as goal
 
@@ -20,7 +20,7 @@ returns-clause-did g c =
     let r = c.args.self.now in
     let m = c.index_mut.result.now in
     let e = post_event c.args.envelope c.args.message.now c.post.result in
-    one_does r _ c.args.looper m _ c.requires.there (sym c.index_mut.ensures.value) refl refl (λ steps. EnteredSo c.args.looper _ steps e) (desk_same m.door)
+    one_does r _ c.args.looper m _ c.requires.there (sym c.index_mut.ensures.value) refl refl (λ steps. EnteredSo c.args.looper _ steps e) refl
     (post_acts r _ c.args.looper m _ c.requires.there (sym c.index_mut.ensures.value) refl refl e _ _ (main_has _ c.requires.running.heads r c.args.looper m c.requires.there (sym c.index_mut.ensures.value) c.requires.running.stands)
     (may_post c.args.envelope c.args.message.now c.post.result) c.post.ensures.answered c.post.ensures.book_seat)
 
@@ -42,7 +42,7 @@ returns-clause-running g c =
     let m = c.index_mut.result.now in
     let e = post_event c.args.envelope c.args.message.now c.post.result in
     still_running r _ (post_goes r _ c.args.looper m _ c.requires.there (sym c.index_mut.ensures.value) refl refl e _ _ (main_has _ c.requires.running.heads r c.args.looper m c.requires.there (sym c.index_mut.ensures.value) c.requires.running.stands)
-    (may_post c.args.envelope c.args.message.now c.post.result) c.post.ensures.answered c.post.ensures.book_seat (record { port = c.post.ensures.seat; desk = keeps_itself m.door.desk_seat; desk_on = desk_same m.door }) refl (record { apps = refl; shared = refl; joined = refl; ports = refl; desks = refl })) c.requires.running
+    (may_post c.args.envelope c.args.message.now c.post.result) c.post.ensures.answered c.post.ensures.book_seat (record { port = c.post.ensures.seat; desk = keeps_itself m.door.desk_seat; desk_front = refl }) refl (record { apps = refl; shared = refl; joined = refl; ports = refl; desks = refl })) c.requires.running
 
 pub returns-clause-count : goal.returns-clause-count
 returns-clause-count g c = length-set c.args.self.now.members.items c.args.looper _

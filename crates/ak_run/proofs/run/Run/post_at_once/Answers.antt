@@ -19,7 +19,7 @@ returns-clause-did g c =
     let r = c.args.self.now in
     let m = c.index_mut.result.now in
     let e = post_event c.args.envelope c.args.message.now c.post_in_turn.result in
-    one_does r _ c.args.looper m _ c.requires.there (sym c.index_mut.ensures.value) refl refl (λ steps. EnteredSo c.args.looper _ steps e) c.post_in_turn.ensures.door.desk_on
+    one_does r _ c.args.looper m _ c.requires.there (sym c.index_mut.ensures.value) refl refl (λ steps. EnteredSo c.args.looper _ steps e) c.post_in_turn.ensures.door.desk_front
     (post_acts r _ c.args.looper m _ c.requires.there (sym c.index_mut.ensures.value) refl refl e _ _ (main_has _ c.requires.running.heads r c.args.looper m c.requires.there (sym c.index_mut.ensures.value) c.requires.running.stands)
     (may_post c.args.envelope c.args.message.now c.post_in_turn.result) c.post_in_turn.ensures.answered c.post_in_turn.ensures.book_seat)
 

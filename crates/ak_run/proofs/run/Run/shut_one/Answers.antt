@@ -4,7 +4,7 @@ use Rattle.ak_port.specs.PortCalls.{close_entry}
 use Rattle.ak_run.specs.Entering.{AreAtPorts}
 use Rattle.ak_run.proofs.Acting.{adds_by, may_close}
 use Rattle.ak_turn.proofs.Surface.{keeps_itself}
-use Rattle.ak_run.proofs.Calls.{desk_same, goes_same, main_has, one_goes, port_alone}
+use Rattle.ak_run.proofs.Calls.{goes_same, main_has, one_goes, port_alone}
 use Rattle.ak_run.proofs.Standing.{same_book}
 use Rattle.ak_run.proofs.run.Run.shut_one.Goals as goal
 
@@ -12,7 +12,7 @@ pub returns-then-index-team : goal.returns-then-index-team
 returns-then-index-team g c =
     let r = c.args.self.now in
     let m = c.index_mut.result.now in
-    one_goes r _ c.args.place m _ c.requires.there (sym c.index_mut.ensures.value) refl refl AreAtPorts (record { port = c.close.ensures.seat; desk = keeps_itself m.door.desk_seat; desk_on = desk_same m.door }) refl
+    one_goes r _ c.args.place m _ c.requires.there (sym c.index_mut.ensures.value) refl refl AreAtPorts (record { port = c.close.ensures.seat; desk = keeps_itself m.door.desk_seat; desk_front = refl }) refl
     (record { apps = refl; shared = refl; joined = refl; ports = refl; desks = refl }) (same_book r _ refl)
     (port_alone c.args.place r.hands.book_seat _ m.door.port_seat.front _ refl
     (adds_by (close_entry c.close.result) r.hands.clock c.close.new.clock m.door.port_seat c.close.new.seat (main_has c.requires.stands.next c.requires.stands.heads r c.args.place m c.requires.there (sym c.index_mut.ensures.value) c.requires.stands.stands) (may_close c.close.result) c.close.ensures.answered))

@@ -4,7 +4,7 @@ use Rattle.ak_port.specs.PortCalls.{close_entry}
 use Rattle.ak_run.specs.Entering.{AreAtPorts}
 use Rattle.ak_run.proofs.Acting.{adds_by, may_close, port_on, shuts_so}
 use Rattle.ak_turn.proofs.Surface.{keeps_itself}
-use Rattle.ak_run.proofs.Calls.{desk_same, main_has, one_goes, port_alone}
+use Rattle.ak_run.proofs.Calls.{main_has, one_goes, port_alone}
 use Rattle.ak_run.proofs.TeamEnds.{shut_closes}
 use Rattle.ak_run.proofs.Standing.{same_book}
 use Rattle.ak_run.proofs.run.Run.shut_port.Goals as goal
@@ -21,7 +21,7 @@ returns g c =
     let m = c.index_mut.result.now in
     let main = main_has _ c.requires.running.heads r c.args.looper m c.requires.there (sym c.index_mut.ensures.value) c.requires.running.stands in
     record {
-      goes = one_goes r _ c.args.looper m _ c.requires.there (sym c.index_mut.ensures.value) refl refl AreAtPorts (record { port = c.close.ensures.seat; desk = keeps_itself m.door.desk_seat; desk_on = desk_same m.door }) refl
+      goes = one_goes r _ c.args.looper m _ c.requires.there (sym c.index_mut.ensures.value) refl refl AreAtPorts (record { port = c.close.ensures.seat; desk = keeps_itself m.door.desk_seat; desk_front = refl }) refl
           (record { apps = refl; shared = refl; joined = refl; ports = refl; desks = refl }) (same_book r _ refl)
           (port_alone c.args.looper r.hands.book_seat _ m.door.port_seat.front _ refl (adds_by (close_entry c.close.result) r.hands.clock c.close.new.clock m.door.port_seat c.close.new.seat main (may_close c.close.result) c.close.ensures.answered));
       closed = shut_closes r _ c.args.looper m _ c.requires.there (sym c.index_mut.ensures.value) refl refl (port_on (close_entry c.close.result) r.hands.clock c.close.new.clock m.door.port_seat c.close.new.seat main c.close.ensures.answered)

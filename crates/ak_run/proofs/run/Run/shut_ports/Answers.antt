@@ -10,7 +10,7 @@ use Rattle.ak_run.proofs.run.Run.shut_ports.Goals as goal
 pub loop-place-init : goal.loop-place-init
 loop-place-init g c = record {
   goes = goes_same c.args.self.now _ (record { apps = refl; shared = refl; joined = refl; ports = refl; desks = refl }) refl refl refl;
-  closed = closes_same (ShutsAll (range_with_len c.args.first 0)) c.args.self.now _ refl refl refl refl;
+  closed = closes_same (λ so_far. ShutsAll (range_with_len c.args.first 0)) c.args.self.now _ (λ so_far. refl) refl refl refl;
 }
 
 pub shut_port-requires-clause-running : goal.shut_port-requires-clause-running
@@ -25,6 +25,6 @@ loop-place-preserved g c =
     let place = c.loop-place.place in
     record {
       goes = goes_then_goes c.args.self.now _ _ c.loop-place.invariant.goes c.shut_port.ensures.goes;
-      closed = closes_then (ShutsAll (range_with_len first place)) (Shuts (first + place)) (ShutsAll (range_with_len first (place + 1))) c.args.self.now _ _
-          (λ xs ys all one. subst (λ (loopers : List ℕ). ShutsAll loopers (xs ++ ys)) (sym (range_push first place)) (shuts_push (range_with_len first place) (first + place) xs ys all one)) c.loop-place.invariant.closed c.shut_port.ensures.closed;
+      closed = closes_then (λ so_far. ShutsAll (range_with_len first place)) (λ so_far. Shuts (first + place)) (λ so_far. ShutsAll (range_with_len first (place + 1))) c.args.self.now _ _
+          (λ so_far xs ys all one. subst (λ (loopers : List ℕ). ShutsAll loopers (xs ++ ys)) (sym (range_push first place)) (shuts_push (range_with_len first place) (first + place) xs ys all one)) c.loop-place.invariant.closed c.shut_port.ensures.closed;
     }

@@ -8,5 +8,5 @@ use Rattle.ak_run.proofs.run.Run.shut_ports.Given as goal
 abbrev pub invariant-loop-place : goal.invariant-loop-place
 invariant-loop-place g l = record {
   goes : GoesOn l.fn.self l.self;
-  closed : ClosesSo (ShutsAll (range_with_len l.first l.place)) l.fn.self l.self;
+  closed : ClosesSo (λ so_far. ShutsAll (range_with_len l.first l.place)) l.fn.self l.self;
 }
