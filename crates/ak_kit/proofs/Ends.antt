@@ -1,5 +1,5 @@
 -- How a script that is carried out ends.
-use Rattle.std.proofs.Common.{◌≡◌, ◌⊎◌, inl, inr, ℕ, List, Option, Some, None, IfSome, refl}
+use Rattle.std.proofs.Common.{◌≡◌, ◌⊎◌, inl, inr, ℕ, List, Option, Some, None, Result, Ok, Err, IfSome, refl}
 use Rattle.ak_base.specs.declared.ending.Ending.{Ending}
 use Rattle.ak_base.specs.declared.ending.Ending.TheVariants as ending
 use Rattle.ak_outside.specs.Faults.{Rose, Stayed}
@@ -26,3 +26,8 @@ pub ends_short
     → IfSome run (λ (r : RunEnd). end ≡ ending.NoMemory → IsShort r.short)
 ends_short (Some r) end old new Failed plays = plays.play.ran_short
 ends_short None end old new Failed plays = tt
+
+-- what was read is no fault
+pub no_fault : {A E : Type 0} (r : Result A E) (x : A) (e f : E) → r ≡ Ok x → (r ≡ Err e) ⊎ (r ≡ Err f) → ⊥
+no_fault r x e f is (inl fault) = cc
+no_fault r x e f is (inr fault) = cc

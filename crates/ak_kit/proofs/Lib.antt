@@ -1,4 +1,6 @@
 pub mod ClosingLine
 pub mod Command
+pub mod Counting
 pub mod Ends
 pub mod Reading
+pub mod Scripts

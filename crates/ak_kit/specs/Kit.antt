@@ -1,5 +1,5 @@
 -- The top call: its endings, the input that it read, and what it wrote.
-use Rattle.std.specs.Prelude.{◌≡◌, ℕ, ◌<◌, ◌≤◌, List, [], ◌∷◌, ◌++◌, length, take, codes, Option, Ok, Err}
+use Rattle.std.specs.Prelude.{◌≡◌, ◌⊎◌, ℕ, ◌<◌, ◌≤◌, List, [], ◌∷◌, ◌++◌, length, take, codes, Option, Ok, Err}
 use Rattle.std.specs.Fmt.{decimal}
 use Rattle.std.specs.Io.KnownBytes.{Appends, Consumes, IsAtEnd}
 use Rattle.ak_base.specs.declared.ending.Ending.{Ending}
@@ -7,15 +7,23 @@ use Rattle.ak_base.specs.declared.ending.Ending.TheVariants as ending
 use Rattle.ak_base.specs.declared.ending.RefusalKind.{RefusalKind}
 use Rattle.ak_base.specs.Refusal.{text_of}
 use Rattle.ak_message.specs.Limits.{input_limit}
+use Rattle.ak_outside.specs.Sink.{AppendsPart}
 use Rattle.ak_script.specs.declared.script.Script.{Script}
-use Rattle.ak_script.specs.Script.{script_of}
+use Rattle.ak_script.specs.Script.{ScriptData, script_of}
 use Rattle.ak_script.specs.Seen.{script_seen}
 use Rattle.ak_play.specs.declared.run_end.RunEnd.{RunEnd}
 use Rattle.ak_play.specs.Play.{IsPlay}
+use Rattle.ak_kit.specs.Summary.{summary}
 
--- the one command
+-- ---- the commands
 abbrev pub run_words : List (List ℕ)
 run_words = codes "run" ∷ []
+
+abbrev pub read_words : List (List ℕ)
+read_words = codes "read" ∷ []
+
+abbrev pub IsCommand : List (List ℕ) → Type 0
+IsCommand words = (words ≡ run_words) ⊎ (words ≡ read_words)
 
 -- the exit status
 abbrev pub status_of : Ending → ℕ
@@ -30,7 +38,7 @@ status_of ending.NoMemory = 6
 -- the line that is written at the end
 abbrev pub closing_line : Ending → List ℕ
 closing_line ending.Done = []
-closing_line ending.Usage = codes "usage: kit run" ++ 10 ∷ []
+closing_line ending.Usage = codes "usage: kit run | read" ++ 10 ∷ []
 closing_line (ending.Refused line why) = codes "refused line " ++ decimal line ++ codes ": " ++ text_of why ++ 10 ∷ []
 closing_line ending.ReadFault = codes "read fault" ++ 10 ∷ []
 closing_line ending.WriteFault = []
@@ -49,19 +57,37 @@ IsUnrun ending.Done = ⊥
 IsUnrun ending.WriteFault = ⊥
 IsUnrun ending.ThreadFault = ⊥
 
--- of an input that was read
-abbrev pub IsRead : Ending → Type 0
-IsRead ending.Usage = ⊥
-IsRead ending.ReadFault = ⊥
-IsRead (ending.Refused _ _) = Unit {0}
-IsRead ending.Done = Unit {0}
-IsRead ending.WriteFault = Unit {0}
-IsRead ending.ThreadFault = Unit {0}
-IsRead ending.NoMemory = Unit {0}
+-- where the source gave no script
+abbrev pub IsScriptless : Ending → Type 0
+IsScriptless ending.ReadFault = Unit {0}
+IsScriptless (ending.Refused _ _) = Unit {0}
+IsScriptless ending.NoMemory = Unit {0}
+IsScriptless ending.Usage = ⊥
+IsScriptless ending.Done = ⊥
+IsScriptless ending.WriteFault = ⊥
+IsScriptless ending.ThreadFault = ⊥
+
+-- of `read`
+abbrev pub IsReading : Ending → Type 0
+IsReading ending.Done = Unit {0}
+IsReading (ending.Refused _ _) = Unit {0}
+IsReading ending.ReadFault = Unit {0}
+IsReading ending.WriteFault = Unit {0}
+IsReading ending.NoMemory = Unit {0}
+IsReading ending.Usage = ⊥
+IsReading ending.ThreadFault = ⊥
+
+abbrev pub IsRefusal : Ending → Type 0
+IsRefusal (ending.Refused _ _) = Unit {0}
+IsRefusal _ = ⊥
 
 abbrev pub IsNoRefusal : Ending → Type 0
 IsNoRefusal (ending.Refused _ _) = ⊥
 IsNoRefusal _ = Unit {0}
+
+-- without a script the program ends so, but for want of memory for the line of a refusal
+abbrev pub EndsFor : Ending → Ending → Type 0
+EndsFor first end = (end ≡ first) ⊎ (IsRefusal first × (end ≡ ending.NoMemory))
 
 -- ---- the input
 
@@ -78,15 +104,43 @@ SomeInput IsSo old new = (input : List ℕ) × WasRead old new input × IsSo inp
 abbrev pub IsTextOf : Script → List ℕ → Type 0
 IsTextOf script input = script_of input ≡ Ok (script_seen script)
 
+-- the script that it is the text of is so
+abbrev pub SomeScript : (ScriptData → Type 0) → List ℕ → Type 0
+SomeScript IsSo input = (script : ScriptData) × (script_of input ≡ Ok script) × IsSo script
+
 -- its first refusal is at that line, for that reason
 abbrev pub IsRefusedAt : ℕ → RefusalKind → List ℕ → Type 0
 IsRefusedAt line why input = script_of input ≡ Err (record { line = line; kind = why })
+
+-- it ends so where there is no script: with its first refusal, or for want of memory
+abbrev pub IsFaultOf : Ending → List ℕ → Type 0
+IsFaultOf (ending.Refused line why) input = IsRefusedAt line why input
+IsFaultOf ending.NoMemory input = Unit {0}
+IsFaultOf _ input = ⊥
 
 -- ---- what is written
 
 -- the closing line was written, or a front of it where the sink failed
 abbrev pub Closes : Ending → Option (List ℕ) → Option (List ℕ) → Type 0 → Type 0
 Closes end old new Failed = (n : ℕ) × Appends old new (take n (closing_line end)) × (n < length (closing_line end) → Failed)
+
+-- the line was written, or a front of it where the sink failed; without memory for it the closing line alone
+abbrev pub TellsLine : List ℕ → Ending → Option (List ℕ) → Option (List ℕ) → Type 0 → Type 0
+TellsLine line ending.Done old new Failed = Appends old new line
+TellsLine line ending.WriteFault old new Failed = AppendsPart old new line
+TellsLine line ending.NoMemory old new Failed = Closes ending.NoMemory old new Failed
+TellsLine line _ old new Failed = ⊥
+
+-- At Done, of what the source gave (`left` and `left'` are what is left of it before and after), the summary line of the script; at
+-- WriteFault a front of it; at any other ending the closing line alone.
+abbrev pub Tells : Ending → Option (List ℕ) → Option (List ℕ) → Option (List ℕ) → Option (List ℕ) → Type 0 → Type 0
+Tells ending.Done left left' old new Failed = SomeInput (SomeScript (λ s. Appends old new (summary s))) left left'
+Tells ending.WriteFault left left' old new Failed = SomeInput (SomeScript (λ s. AppendsPart old new (summary s))) left left'
+Tells ending.Usage left left' old new Failed = Closes ending.Usage old new Failed
+Tells (ending.Refused line why) left left' old new Failed = Closes (ending.Refused line why) old new Failed
+Tells ending.ReadFault left left' old new Failed = Closes ending.ReadFault old new Failed
+Tells ending.ThreadFault left left' old new Failed = Closes ending.ThreadFault old new Failed
+Tells ending.NoMemory left left' old new Failed = Closes ending.NoMemory old new Failed
 
 -- the lines of the run's statements, and behind them the closing line
 pub record PlaysAndCloses (run : RunEnd) (end : Ending) (old new : Option (List ℕ)) (Failed : Type 0) : Type 0 where

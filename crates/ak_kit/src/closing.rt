@@ -16,7 +16,7 @@ fn closing_line(ending: Ending) -> &'static [u8]
 {
     match ending {
         Ending::Done | Ending::WriteFault => b"",
-        Ending::Usage => b"usage: kit run\n",
+        Ending::Usage => b"usage: kit run | read\n",
         Ending::ReadFault => b"read fault\n",
         Ending::ThreadFault => b"thread fault\n",
         Ending::NoMemory => b"no memory\n",
@@ -68,8 +68,8 @@ pub(crate) fn close<K: Sink>(sink: &mut K, ending: Ending, run: Option<RunEnd>) 
     end_with(sink, ending, closing_line(ending), run)
 }
 
-/// Refuses the input: NoMemory where there is no memory for the line.
-pub(crate) fn refuse<K: Sink>(alloc: Global, sink: &mut K, line: u32, kind: RefusalKind) -> KitEnd
+// Refuses the input: NoMemory where there is no memory for the line.
+fn refuse<K: Sink>(alloc: Global, sink: &mut K, line: u32, kind: RefusalKind) -> KitEnd
     ensures status { result.status ≡ kit.status_of result.ending }
     ensures ending { (result.ending ≡ Ending.Refused line kind) ⊎ (result.ending ≡ Ending.NoMemory) }
     ensures run { result.run ≡ None }
@@ -80,5 +80,21 @@ pub(crate) fn refuse<K: Sink>(alloc: Global, sink: &mut K, line: u32, kind: Refu
     match refusal_line(alloc, line, kind) {
         Ok(text) => end_with(sink, ending, text.as_slice(), None),
         Err(NoMemory) => close(sink, Ending::NoMemory, None),
+    }
+}
+
+/// Ends the program where the source gave no script.
+pub(crate) fn end_without_script<K: Sink>(alloc: Global, sink: &mut K, ending: Ending) -> KitEnd
+    requires { kit.IsScriptless ending }
+    ensures status { result.status ≡ kit.status_of result.ending }
+    ensures ending { kit.EndsFor ending result.ending }
+    ensures scriptless { kit.IsScriptless result.ending }
+    ensures run { result.run ≡ None }
+    ensures line { kit.Closes result.ending (K.written sink.old) (K.written sink.new) (Rose (K.faults sink.old) (K.faults sink.new)) }
+    ensures never_falls { K.faults sink.old ≤ K.faults sink.new }
+{
+    match ending {
+        Ending::Refused { line, kind } => refuse(alloc, sink, line, kind),
+        _ => close(sink, ending, None),
     }
 }

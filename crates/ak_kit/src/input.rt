@@ -1,96 +1,72 @@
-//! An input that was read: the script that it is the text of is carried out, or it is refused.
-ghost use Rattle.std.specs.Prelude.{◌≡◌, ◌≢◌, ◌≤◌, ◌⊎◌, ℕ, None, IfSome, IfNone};
+//! The input: the script that the source gives, or how the program ends without one.
+ghost use Rattle.std.specs.Prelude.{◌≡◌, ◌≢◌, ◌≤◌, ◌⊎◌, ℕ, List, Some, Ok, Err, IfOk, IfErr, IsOk};
 ghost use Rattle.ak_base.specs.declared.ending.RefusalKind.{RefusalKind};
-ghost use Rattle.ak_outside.specs.Faults.{Rose};
-ghost use Rattle.ak_describe.specs.Whole.{heads_of};
-ghost use Rattle.ak_headline.specs.Headline.{EachGotOneReply, EachLooper, IsAccounted, IsByRule};
-ghost use Rattle.ak_headline.specs.Run.{IsRun};
-ghost use Rattle.ak_play.specs.Play.{IsPlayEnding};
-ghost use Rattle.ak_run.specs.Opened.{WereOpened};
+ghost use Rattle.ak_outside.specs.Faults.{Rose, Stayed};
+ghost use Rattle.ak_outside.specs.Source.{ConsumesAtMost};
+ghost use Rattle.ak_describe.specs.Whole.{AreWholeApps};
 ghost use Rattle.ak_script.specs.Script.{ScriptData, script_of};
-ghost use Rattle.ak_script.specs.Seen.{script_seen};
 ghost use Rattle.ak_kit.specs.Kit as kit;
 
-use crate::closing::{close, refuse};
-use crate::kit_end::KitEnd;
-use ak_base::Ending;
-use ak_outside::{Gate, Sink, Spawner};
-use ak_play::run_script;
+use ak_base::{Bytes, Ending};
+use ak_message::INPUT_LIMIT;
+use ak_outside::{ReadFault, Source, read_all};
 use ak_script::{Script, ScriptFault, read_script};
 use std::alloc::Global;
-use std::sync::Wait;
-use std::thread::Threads;
 
-// Carries out the script.
-fn play<K: Sink, W: Spawner, G: Gate + 'static, R: Threads + Wait + Copy + Send + 'static>(
-    alloc: Global,
-    rt: &R,
-    script: Script,
-    sink: &mut K,
-    spawner: &mut W,
-    gate: &G,
-) -> KitEnd
-    ensures status { result.status ≡ kit.status_of result.ending }
-    ensures ending { IsPlayEnding result.ending }
-    ensures no_run { IfNone result.run (result.ending ≡ Ending.NoMemory) }
+/// Reads the source to its end: the script that the input is the text of, or how the program ends without one. At most
+/// 1,048,577 bytes are read, one more than an input may have.
+pub(crate) fn script_from<S: Source>(alloc: Global, source: &mut S) -> Result<Script, Ending>
+    ensures bounded { ConsumesAtMost 1048577 (S.left source.old) (S.left source.new) }
+    ensures script { IfOk result (λ script. kit.SomeInput (kit.IsTextOf script) (S.left source.old) (S.left source.new)) }
+    ensures whole { IfOk result (λ script. AreWholeApps script.apps.items) }
+    ensures scriptless { IfErr result kit.IsScriptless }
+    ensures refused { (line : ℕ) (why : RefusalKind) → result ≡ Err (Ending.Refused line why)
+        → kit.SomeInput (kit.IsRefusedAt line why) (S.left source.old) (S.left source.new) }
 
-    ensures script { IfSome result.run (λ run. script_seen run.script ≡ script_seen script) }
-    ensures run { IfSome result.run (λ run. IsRun (heads_of run.script.apps.items) run.short.loopers run.histories) }
-    ensures opened { IfSome result.run (λ run. WereOpened run.script.apps.items run.histories) }
-    ensures accepted { IfSome result.run (λ run. EachLooper run.histories IsAccounted) }
-    ensures dispatched { IfSome result.run (λ run. EachLooper run.histories IsByRule) }
-    ensures answered { IfSome result.run (λ run. EachGotOneReply run.short.loopers run.histories) }
+    ensures read_fault { result ≡ Err Ending.ReadFault → Rose (S.faults source.old) (S.faults source.new) }
+    ensures kept { result ≢ Err Ending.ReadFault → S.faults source.new ≡ S.faults source.old }
+    ensures never_falls { S.faults source.old ≤ S.faults source.new }
 
-    ensures play { IfSome result.run (λ run. kit.PlaysAndCloses run result.ending (K.written sink.old) (K.written sink.new) (Rose (K.faults sink.old) (K.faults sink.new))) }
-    ensures closing { IfNone result.run (kit.Closes result.ending (K.written sink.old) (K.written sink.new) (Rose (K.faults sink.old) (K.faults sink.new))) }
-
-    ensures write_fault { result.ending ≡ Ending.WriteFault → Rose (K.faults sink.old) (K.faults sink.new) }
-    ensures done { result.ending ≡ Ending.Done → K.faults sink.new ≡ K.faults sink.old }
-    ensures sink_never_falls { K.faults sink.old ≤ K.faults sink.new }
-    ensures thread_fault { result.ending ≡ Ending.ThreadFault → Rose (W.faults spawner.old) (W.faults spawner.new) }
-    ensures spawner_kept { result.ending ≢ Ending.ThreadFault → W.faults spawner.new ≡ W.faults spawner.old }
-    ensures spawner_never_falls { W.faults spawner.old ≤ W.faults spawner.new }
+    ensures refuses { Stayed (S.faults source.old) (S.faults source.new)
+        → (input : List ℕ) (line : ℕ) (why : RefusalKind)
+        → S.left source.old ≡ Some input
+        → kit.IsRefusedAt line why input
+        → (result ≡ Err (Ending.Refused line why)) ⊎ (result ≡ Err Ending.NoMemory) }
+    ensures complete { Stayed (S.faults source.old) (S.faults source.new)
+        → (input : List ℕ) (script : ScriptData)
+        → S.left source.old ≡ Some input
+        → script_of input ≡ Ok script
+        → IsOk result ⊎ (result ≡ Err Ending.NoMemory) }
 {
-    let (run, ending) = run_script(alloc, rt, script, sink, spawner, gate);
-    close(sink, ending, run)
+    let input = bytes_from(alloc, source)?;
+    script_in(alloc, input.as_slice())
 }
 
-/// Carries out the script that the input is the text of, or refuses the input.
-pub(crate) fn run_input<
-    K: Sink,
-    W: Spawner,
-    G: Gate + 'static,
-    R: Threads + Wait + Copy + Send + 'static,
->(alloc: Global, rt: &R, input: &[u8], sink: &mut K, spawner: &mut W, gate: &G) -> KitEnd
-    ensures status { result.status ≡ kit.status_of result.ending }
-    ensures ending { kit.IsRead result.ending }
-    ensures no_run { IfNone result.run (kit.IsUnrun result.ending) }
+// The bytes that the source gives.
+fn bytes_from<S: Source>(alloc: Global, source: &mut S) -> Result<Bytes, Ending>
+    ensures bounded { ConsumesAtMost 1048577 (S.left source.old) (S.left source.new) }
+    ensures read { IfOk result (kit.WasRead (S.left source.old) (S.left source.new)) }
+    ensures fault { IfErr result (λ e. (e ≡ Ending.ReadFault) ⊎ (e ≡ Ending.NoMemory)) }
+    ensures read_fault { result ≡ Err Ending.ReadFault → Rose (S.faults source.old) (S.faults source.new) }
+    ensures kept { result ≢ Err Ending.ReadFault → S.faults source.new ≡ S.faults source.old }
+    ensures never_falls { S.faults source.old ≤ S.faults source.new }
+{
+    match read_all(alloc, source, INPUT_LIMIT as u32) {
+        Ok(input) => Ok(input),
+        Err(ReadFault::Failed) => Err(Ending::ReadFault),
+        Err(ReadFault::NoMemory) => Err(Ending::NoMemory),
+    }
+}
 
-    ensures refused { (line : ℕ) (why : RefusalKind) → result.ending ≡ Ending.Refused line why → kit.IsRefusedAt line why input.now }
-    ensures refuses { (line : ℕ) (why : RefusalKind) → kit.IsRefusedAt line why input.now
-        → (result.ending ≡ Ending.Refused line why) ⊎ (result.ending ≡ Ending.NoMemory) }
-    ensures complete { (script : ScriptData) → script_of input.now ≡ Ok script → IsPlayEnding result.ending }
-
-    ensures script { IfSome result.run (λ run. kit.IsTextOf run.script input.now) }
-    ensures run { IfSome result.run (λ run. IsRun (heads_of run.script.apps.items) run.short.loopers run.histories) }
-    ensures opened { IfSome result.run (λ run. WereOpened run.script.apps.items run.histories) }
-    ensures accepted { IfSome result.run (λ run. EachLooper run.histories IsAccounted) }
-    ensures dispatched { IfSome result.run (λ run. EachLooper run.histories IsByRule) }
-    ensures answered { IfSome result.run (λ run. EachGotOneReply run.short.loopers run.histories) }
-
-    ensures play { IfSome result.run (λ run. kit.PlaysAndCloses run result.ending (K.written sink.old) (K.written sink.new) (Rose (K.faults sink.old) (K.faults sink.new))) }
-    ensures closing { IfNone result.run (kit.Closes result.ending (K.written sink.old) (K.written sink.new) (Rose (K.faults sink.old) (K.faults sink.new))) }
-
-    ensures write_fault { result.ending ≡ Ending.WriteFault → Rose (K.faults sink.old) (K.faults sink.new) }
-    ensures done { result.ending ≡ Ending.Done → K.faults sink.new ≡ K.faults sink.old }
-    ensures sink_never_falls { K.faults sink.old ≤ K.faults sink.new }
-    ensures thread_fault { result.ending ≡ Ending.ThreadFault → Rose (W.faults spawner.old) (W.faults spawner.new) }
-    ensures spawner_kept { result.ending ≢ Ending.ThreadFault → W.faults spawner.new ≡ W.faults spawner.old }
-    ensures spawner_never_falls { W.faults spawner.old ≤ W.faults spawner.new }
+// The script that the input is the text of.
+fn script_in(alloc: Global, input: &[u8]) -> Result<Script, Ending>
+    ensures script { IfOk result (λ script. kit.IsTextOf script input.now) }
+    ensures whole { IfOk result (λ script. AreWholeApps script.apps.items) }
+    ensures fault { IfErr result (λ e. kit.IsFaultOf e input.now) }
 {
     match read_script(alloc, input) {
-        Ok(script) => play(alloc, rt, script, sink, spawner, gate),
-        Err(ScriptFault::Refused { line, kind }) => refuse(alloc, sink, line, kind),
-        Err(ScriptFault::NoMemory) => close(sink, Ending::NoMemory, None),
+        Ok(script) => Ok(script),
+        Err(ScriptFault::Refused { line, kind }) => Err(Ending::Refused { line, kind }),
+        Err(ScriptFault::NoMemory) => Err(Ending::NoMemory),
     }
 }

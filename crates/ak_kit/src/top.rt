@@ -1,4 +1,4 @@
-ghost use Rattle.std.specs.Prelude.{◌≡◌, ◌≢◌, ◌≤◌, ◌↔◌, ◌⊎◌, ℕ, List, Some, Ok, IfSome, IfNone, IsTrue};
+ghost use Rattle.std.specs.Prelude.{◌≡◌, ◌≢◌, ◌≤◌, ◌↔◌, ◌⊎◌, ◌∷◌, [], ℕ, List, None, Some, Ok, IfSome, IfNone, IsTrue};
 ghost use Rattle.ak_base.specs.declared.ending.RefusalKind.{RefusalKind};
 ghost use Rattle.ak_outside.specs.Faults.{Rose, Stayed};
 ghost use Rattle.ak_outside.specs.Source.{ConsumesAtMost};
@@ -10,34 +10,37 @@ ghost use Rattle.ak_run.specs.Opened.{WereOpened};
 ghost use Rattle.ak_script.specs.Script.{ScriptData, script_of};
 ghost use Rattle.ak_kit.specs.Kit as kit;
 
-use crate::closing::close;
-use crate::input::run_input;
+use crate::closing::{close, end_without_script};
+use crate::commands::play;
+use crate::input::script_from;
 use crate::kit_end::KitEnd;
+use crate::read::kit_read;
 use ak_base::{Bytes, Ending};
-use ak_message::INPUT_LIMIT;
-use ak_outside::{Gate, ReadFault, Sink, Source, Spawner, read_all};
+use ak_outside::{Gate, Sink, Source, Spawner};
 use std::alloc::Global;
 use std::sync::Wait;
 use std::thread::Threads;
 
-// Whether the words after the program's name are the one command.
-fn is_run(words: &[Bytes]) -> bool
-    ensures { IsTrue result ↔ (words.now ≡ kit.run_words) }
+// Whether the words after the program's name are this one alone.
+fn is_word(words: &[Bytes], name: &[u8]) -> bool
+    ensures { IsTrue result ↔ (words.now ≡ name.now ∷ []) }
 {
     match words {
-        [word] => word.as_slice() == b"run".as_slice(),
+        [word] => word.as_slice() == name,
         _ => false,
     }
 }
 
-/// The program: reads the source to its end, and carries out the script that the input is the text of, with a thread
-/// for each looper. It writes to the sink the line of each statement, and a closing line where it ends otherwise than
-/// Done or WriteFault. Before it returns, the run is ended and its threads are joined.
+/// The program: reads the source to its end, and does with the script that the input is the text of what the words say.
+/// With `run` it carries the script out, with a thread for each looper, and writes to the sink the line of each
+/// statement; before it returns, the run is ended and its threads are joined. With `read` it does as `kit_read`. It
+/// writes a closing line where it ends otherwise than Done or WriteFault.
 ///
-/// `words` are those behind the program's name. Usage, with nothing read, exactly where they are not `run`. ReadFault,
-/// WriteFault and ThreadFault come only where the count of faults of the source, the sink or the spawner rose. Refused
-/// is the first refusal of the input. NoMemory may come in place of each ending but Usage; with a run it says that
-/// somebody in the run found no memory. At most 1,048,577 bytes are read, one more than an input may have.
+/// `words` are those behind the program's name. Usage, with nothing read, exactly where they are neither `run` nor
+/// `read`. ReadFault, WriteFault and ThreadFault come only where the count of faults of the source, the sink or the
+/// spawner rose. Refused is the first refusal of the input. NoMemory may come in place of each ending but Usage; with a
+/// run it says that somebody in the run found no memory. At most 1,048,577 bytes are read, one more than an input may
+/// have.
 ///
 /// Of a source and a sink that tell nothing, the clauses on bytes say that there are such bytes.
 pub fn kit<
@@ -58,7 +61,7 @@ pub fn kit<
     ensures status { result.status ≡ kit.status_of result.ending }
 
     // The words.
-    ensures usage { (result.ending ≡ Ending.Usage) ↔ (words.now ≢ kit.run_words) }
+    ensures usage { (result.ending ≡ Ending.Usage) ↔ ¬ kit.IsCommand words.now }
     ensures usage_reads_nothing { result.ending ≡ Ending.Usage → source.new ≡ source.old }
 
     // One byte more than an input may have is the most that is read.
@@ -70,7 +73,7 @@ pub fn kit<
 
     // The run is of the script that the input is the text of. Without one, no script was carried out.
     ensures script { IfSome result.run (λ run. kit.SomeInput (kit.IsTextOf run.script) (S.left source.old) (S.left source.new)) }
-    ensures no_run { IfNone result.run (kit.IsUnrun result.ending) }
+    ensures no_run { words.now ≢ kit.read_words → IfNone result.run (kit.IsUnrun result.ending) }
 
     // The headline.
     ensures run { IfSome result.run (λ run. IsRun (heads_of run.script.apps.items) run.short.loopers run.histories) }
@@ -81,7 +84,12 @@ pub fn kit<
 
     // What main did for the statements, and what was written.
     ensures play { IfSome result.run (λ run. kit.PlaysAndCloses run result.ending (K.written sink.old) (K.written sink.new) (Rose (K.faults sink.old) (K.faults sink.new))) }
-    ensures closing { IfNone result.run (kit.Closes result.ending (K.written sink.old) (K.written sink.new) (Rose (K.faults sink.old) (K.faults sink.new))) }
+    ensures closing { words.now ≢ kit.read_words → IfNone result.run (kit.Closes result.ending (K.written sink.old) (K.written sink.new) (Rose (K.faults sink.old) (K.faults sink.new))) }
+
+    // With `read` nothing is run, and the summary line is written.
+    ensures read_runs_nothing { words.now ≡ kit.read_words → (result.run ≡ None) × (spawner.new ≡ spawner.old) }
+    ensures read_ending { words.now ≡ kit.read_words → kit.IsReading result.ending }
+    ensures read_tells { words.now ≡ kit.read_words → kit.Tells result.ending (S.left source.old) (S.left source.new) (K.written sink.old) (K.written sink.new) (Rose (K.faults sink.old) (K.faults sink.new)) }
 
     // A fault has its cause, and where a call failed the run doesn't go on.
     ensures read_fault { result.ending ≡ Ending.ReadFault → Rose (S.faults source.old) (S.faults source.new) }
@@ -96,8 +104,8 @@ pub fn kit<
     ensures short { IfSome result.run (λ run. result.ending ≡ Ending.NoMemory → IsShort run.short) }
 
     // Nothing but memory keeps an input with a refusal from being refused, and a script from being carried out to its
-    // end.
-    ensures refuses { words.now ≡ kit.run_words
+    // end, or from being told of.
+    ensures refuses { kit.IsCommand words.now
         → Stayed (S.faults source.old) (S.faults source.new)
         → (input : List ℕ) (line : ℕ) (why : RefusalKind)
         → S.left source.old ≡ Some input
@@ -111,13 +119,22 @@ pub fn kit<
         → S.left source.old ≡ Some input
         → script_of input ≡ Ok script
         → (result.ending ≡ Ending.Done) ⊎ (result.ending ≡ Ending.NoMemory) }
+    ensures read_complete { words.now ≡ kit.read_words
+        → Stayed (S.faults source.old) (S.faults source.new)
+        → Stayed (K.faults sink.old) (K.faults sink.new)
+        → (input : List ℕ) (script : ScriptData)
+        → S.left source.old ≡ Some input
+        → script_of input ≡ Ok script
+        → (result.ending ≡ Ending.Done) ⊎ (result.ending ≡ Ending.NoMemory) }
 {
-    if !is_run(words) {
+    if is_word(words, b"read") {
+        return kit_read(alloc, source, sink);
+    }
+    if !is_word(words, b"run") {
         return close(sink, Ending::Usage, None);
     }
-    match read_all(alloc, source, INPUT_LIMIT as u32) {
-        Ok(input) => run_input(alloc, rt, input.as_slice(), sink, spawner, gate),
-        Err(ReadFault::Failed) => close(sink, Ending::ReadFault, None),
-        Err(ReadFault::NoMemory) => close(sink, Ending::NoMemory, None),
+    match script_from(alloc, source) {
+        Ok(script) => play(alloc, rt, script, sink, spawner, gate),
+        Err(ending) => end_without_script(alloc, sink, ending),
     }
 }

@@ -2,3 +2,4 @@
 mod endings;
 mod fixture;
 mod inputs;
+mod reading;

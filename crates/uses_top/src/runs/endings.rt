@@ -5,7 +5,7 @@ use std::test::Fail;
 
 // ---- the words
 // The last one's closing line is refused in its middle.
-static OTHER_WORDS: [Case; 5] = [
+static OTHER_WORDS: [Case; 6] = [
     Case { words: "", ..RUN },
     Case {
         words: "Run",
@@ -13,6 +13,10 @@ static OTHER_WORDS: [Case; 5] = [
     },
     Case {
         words: "run -j",
+        ..RUN
+    },
+    Case {
+        words: "read run",
         ..RUN
     },
     Case {
@@ -27,13 +31,15 @@ static OTHER_WORDS: [Case; 5] = [
 ];
 
 // The input has 145 bytes.
-const USAGE: &str = "usage: kit run
+const USAGE: &str = "usage: kit run | read
 = 1 usage, 145 left, no run
-usage: kit run
+usage: kit run | read
 = 1 usage, 145 left, no run
-usage: kit run
+usage: kit run | read
 = 1 usage, 145 left, no run
-usage: kit run
+usage: kit run | read
+= 1 usage, 145 left, no run
+usage: kit run | read
 = 1 usage, 145 left, no run
 usage:= 1 usage, 145 left, no run
 ";
