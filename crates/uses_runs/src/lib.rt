@@ -34,8 +34,6 @@ mod scene;
 #[cfg(test)]
 mod scripts;
 #[cfg(test)]
-mod slots;
-#[cfg(test)]
 mod stage;
 #[cfg(test)]
 mod telling;

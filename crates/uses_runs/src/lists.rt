@@ -1,7 +1,7 @@
 //! The lists of a run's objects, told. Stamps are not told: which thread comes first is open, but where one waits for the
 //! other. So of a port and of the roster what one thread made is told in its order.
 
-use crate::telling::{Told, put_address, put_flat, put_target, tell, tell_thread};
+use crate::telling::{put_address, put_flat, put_target, tell_thread};
 use ak_action::AnswerWord;
 use ak_base::{Bytes, Items, NoMemory};
 use ak_desk::{Desk, DeskEvent, Edit, EditAnswer, EntryRoute};
@@ -9,6 +9,7 @@ use ak_flatten::{Duty, Item};
 use ak_port::{PortBook, PortEvent, ReplyBook, ReplyEvent};
 use ak_roster::{FindOutcome, LaunchOutcome, RosterEntry, RosterEvent};
 use ak_turn::Book;
+use run_lists::{Told, slot_of, tell};
 use std::alloc::Global;
 
 // ---- ports
@@ -189,15 +190,6 @@ fn tell_slot(out: &mut Bytes, alloc: Global, book: &ReplyBook, slot: u64) -> Tol
         }
     }
     out.push(b'\n')
-}
-
-fn slot_of(event: &ReplyEvent) -> u64 {
-    match event {
-        ReplyEvent::Opened(slot)
-        | ReplyEvent::Filled(slot, _)
-        | ReplyEvent::Cancelled(slot)
-        | ReplyEvent::Taken(slot) => *slot,
-    }
 }
 
 fn tell_reply_event(out: &mut Bytes, alloc: Global, event: &ReplyEvent) -> Told {

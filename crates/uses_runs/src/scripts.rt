@@ -1,14 +1,12 @@
 //! A script from its text to the lists of its run.
 
-use crate::accounts::{tell_account, tell_own_thread};
 use crate::compare::same;
-use crate::slots::tell_settled;
-use crate::telling::Told;
 use ak_base::{Bytes, Ending};
 use ak_diary::Histories;
 use ak_outside::{ListSink, OpenGate, PlannedSpawner};
 use ak_play::{RunEnd, run_script};
 use ak_script::read_script;
+use run_lists::{Told, count_answered, slot_accounts, tell, tell_faults};
 use std::alloc::Global;
 use std::sync::Wait;
 use std::test::Fail;
@@ -24,21 +22,19 @@ fn tell_ending(out: &mut Bytes, ending: Ending) -> Told {
     }
 }
 
-// What holds of each looper's port and desk, and of the reply book.
-fn tell_histories(out: &mut Bytes, histories: &Histories) -> Told {
-    let ports = histories.ports.as_slice();
-    let mut looper = 0_u32;
-    for (port, desk) in ports.iter().zip(histories.desks.as_slice().iter()) {
-        tell_account(out, looper, port, desk)?;
-        tell_own_thread(out, looper, port, desk)?;
-        looper = looper.wrapping_add(1);
-    }
-    tell_settled(out, &histories.book, ports)
+// What is faulty of the lists, and then how many loopers and slots there were, and how many senders had one reply each.
+fn tell_histories(out: &mut Bytes, alloc: Global, histories: &Histories) -> Told {
+    let slots = slot_accounts(alloc, &histories.book, &histories.ports)?;
+    tell_faults(out, alloc, histories)?;
+    tell(out, b"loopers", histories.ports.len() as u64)?;
+    tell(out, b"slots", slots.len() as u64)?;
+    tell(out, b"with one reply each", count_answered(&slots))?;
+    out.push(b'\n')
 }
 
-fn tell_run(out: &mut Bytes, run: &Option<RunEnd>) -> Told {
+fn tell_run(out: &mut Bytes, alloc: Global, run: &Option<RunEnd>) -> Told {
     match run {
-        Some(run) => tell_histories(out, &run.histories),
+        Some(run) => tell_histories(out, alloc, &run.histories),
         None => out.extend(b"no run\n"),
     }
 }
@@ -56,7 +52,7 @@ fn told_of_script<R: Threads + Wait + Copy + Send + 'static>(
     let mut told = Bytes::new(alloc);
     told.extend(sink.written())?;
     tell_ending(&mut told, ending)?;
-    tell_run(&mut told, &run)?;
+    tell_run(&mut told, alloc, &run)?;
     Ok(told)
 }
 
@@ -217,23 +213,7 @@ posted
 posted
 posted
 done
- looper 0 accounts for all
- looper 0 is served by its thread
- looper 1 accounts for all
- looper 1 is served by its thread
- looper 2 accounts for all
- looper 2 is served by its thread
- looper 3 accounts for all
- looper 3 is served by its thread
- looper 4 accounts for all
- looper 4 is served by its thread
- looper 5 accounts for all
- looper 5 is served by its thread
- looper 6 accounts for all
- looper 6 is served by its thread
- looper 7 accounts for all
- looper 7 is served by its thread
- slots 25 with one reply each 24
+ loopers 8 slots 25 with one reply each 24
 ";
 
 #[test]

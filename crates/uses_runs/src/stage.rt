@@ -4,11 +4,11 @@
 ghost use Rattle.std.specs.Prelude.{◌≡◌, None, IfOk};
 ghost use Rattle.ak_run.specs.Running.{IsRunning};
 
-use crate::accounts::{tell_account, tell_closing, tell_left, tell_tries};
+use crate::accounts::{tell_closing, tell_left, tell_tries};
 use crate::gates::{AnyGate, Hold, Watch};
 use crate::lists::{tell_book, tell_desk, tell_port, tell_roster, tell_slots_of};
 use crate::scene::{Act, At, Scene, Tell};
-use crate::telling::{Told, put_message, tell};
+use crate::telling::put_message;
 use ak_base::{AppWord, Bytes, Text};
 use ak_describe::{descriptions_are_whole, read_description};
 use ak_desk::{Desk, Edit};
@@ -18,6 +18,7 @@ use ak_messenger::{Envelope, Reply, SendFault};
 use ak_outside::PlannedSpawner;
 use ak_port::PortBook;
 use ak_run::{LaunchAnswer, Run};
+use run_lists::{Account, Told, account_of, tell, tell_account};
 use std::alloc::Global;
 use std::sync::Wait;
 use std::test::Fail;
@@ -380,6 +381,11 @@ fn desk_of(histories: &Histories, looper: u32) -> Result<&Desk, Fail> {
     Ok(histories.desks.get(looper as usize).ok_or("no such desk")?)
 }
 
+fn counted(histories: &Histories, looper: u32) -> Result<Account, Fail> {
+    let port = port_of(histories, looper)?;
+    Ok(account_of(looper, port, desk_of(histories, looper)?)?)
+}
+
 fn tell_ports(
     out: &mut Bytes,
     alloc: Global,
@@ -444,12 +450,8 @@ impl Ended {
             Tell::Book => Ok(tell_book(told, *alloc, &histories.book)?),
             Tell::SlotsOf(thread) => Ok(tell_slots_of(told, *alloc, &histories.book, thread)?),
             Tell::Roster(threads) => Ok(tell_rosters(told, histories, threads)?),
-            Tell::Account(looper) => {
-                let port = port_of(histories, looper)?;
-                let desk = desk_of(histories, looper)?;
-                Ok(tell_account(told, looper, port, desk)?)
-            }
-            Tell::Left(looper) => Ok(tell_left(told, port_of(histories, looper)?, *notes)?),
+            Tell::Account(looper) => Ok(tell_account(told, looper, counted(histories, looper)?)?),
+            Tell::Left(looper) => Ok(tell_left(told, counted(histories, looper)?, *notes)?),
             Tell::Tries(looper, thread) => {
                 Ok(tell_tries(told, port_of(histories, looper)?, thread)?)
             }

@@ -1,20 +1,10 @@
 //! Words, numbers and messages as they are told.
 
-use ak_base::{Bytes, NoMemory, print_int, print_uint};
+use ak_base::{Bytes, print_int, print_uint};
 use ak_flatten::unflatten;
 use ak_message::{Address, FieldRef, Message, Target, Value};
+use run_lists::{Told, tell};
 use std::alloc::Global;
-
-/// What every call that tells something answers.
-pub type Told = Result<(), NoMemory>;
-
-/// A blank, the word, a blank and the number.
-pub fn tell(out: &mut Bytes, word: &[u8], number: u64) -> Told {
-    out.push(b' ')?;
-    out.extend(word)?;
-    out.push(b' ')?;
-    print_uint(number, out)
-}
 
 /// Who made it.
 pub fn tell_thread(out: &mut Bytes, thread: u32) -> Told {
