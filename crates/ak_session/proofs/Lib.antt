@@ -1,0 +1,12 @@
+pub mod Beginning
+pub mod DoorStands
+pub mod Edits
+pub mod Elsewhere
+pub mod Lists
+pub mod LookedUp
+pub mod Opened
+pub mod RosterStands
+pub mod Sent
+pub mod SentThrough
+pub mod Teams
+pub mod Through

@@ -1,0 +1,4 @@
+pub mod Calls
+pub mod Doing
+pub mod Ready
+pub mod Stands
