@@ -21,7 +21,7 @@ use Rattle.ak_diary.specs.declared.histories.Histories.{Histories}
 use Rattle.ak_diary.specs.Histories.{AreHistories}
 use Rattle.ak_diary.specs.Laws.{HasDiary}
 use Rattle.ak_diary.specs.Looper.{LooperFacts, thread_of, is_of_team}
-use Rattle.ak_diary.specs.Step.{Step, book_entries, book_sights, port_entries, ran_short, roster_entries, desk_entries}
+use Rattle.ak_diary.specs.Step.{AreStamped, Step, book_entries, book_sights, port_entries, port_sights, ran_short, roster_entries, roster_sights, desk_entries}
 use Rattle.ak_headline.specs.Main.{IsMainDiary, IsSessionDiary}
 
 -- ---- the lists of a run
@@ -39,37 +39,48 @@ abbrev pub desk_maker : EntryData → ℕ
 desk_maker entry = entry.plain.by.0
 
 -- ---- what a thread did
--- its steps have all that it made at the roster, at the reply book, at each port and at each desk; what it saw of the book without an entry
--- is a beginning of the book's list
+-- its steps have all that it made at the roster, at the reply book, at each port and at each desk; what it saw of the roster, of the book or of
+-- a port without an entry is a beginning of that list
 pub record HasDone (h : Histories) (thread : ℕ) (steps : List Step) : Type 0 where
   pub at_roster : noted roster_maker thread h.roster.items ≡ roster_entries steps
   pub at_book : noted books.maker_of thread h.book ≡ book_entries steps
   pub at_ports : (looper : ℕ) → noted ports.by_number thread (port_list h looper) ≡ port_entries looper steps
   pub at_desks : (looper : ℕ) → noted desk_maker thread (desk_list h looper) ≡ desk_entries looper steps
+  pub roster_seen : All (StartsWith h.roster.items) (roster_sights steps)
   pub book_seen : All (StartsWith h.book) (book_sights steps)
+  pub ports_seen : (looper : ℕ) → All (StartsWith (port_list h looper)) (port_sights looper steps)
 
 -- a team was started with these numbers
 abbrev pub StartedTeam : LooperFacts → RosterEntry → Type 0
 StartedTeam l entry =
     (word : AppWord) × (place : ℕ) × (entry.event ≡ roster_event.Launch word (launch.Started place l.team l.first)) × (loopers_at l.heads place ≡ l.loopers)
 
--- The looper of that number: it is one of its team, which was started, and the diary of its thread has all that the thread did; it is among those that found
--- no memory exactly where a step says so
+-- by an entry with that stamp
+abbrev pub StartedAt : LooperFacts → ℕ → RosterEntry → Type 0
+StartedAt l time entry = StartedTeam l entry × (entry.stamp ≡ time)
+
+-- The looper of that number: it is one of its team, which was started, and the diary of its thread has all that the thread did. Each of its
+-- entries has the stamp that is due: one more than the greater of the stamp before it in its list and that before it in the diary, and for the
+-- first one that of the launch. The looper is among those that found no memory exactly where a step says so
 pub record HasLooper (heads : List AppHead) (short : List ℕ) (h : Histories) (looper : ℕ) : Type 0 where
   pub facts : LooperFacts
   pub number_is : facts.number ≡ looper
   pub of_team : is_of_team facts looper ≡ true
   pub heads_are : facts.heads ≡ heads
   pub opened : option_map (λ (desk : DeskData). desk.opening) (slice_get h.desks.items looper) ≡ Some facts.desk
-  pub started : Any (StartedTeam facts) h.roster.items
+  pub time : ℕ
+  pub started : Any (StartedAt facts time) h.roster.items
   pub steps : List Step
+  pub stamped : AreStamped time steps
   pub diary : HasDiary facts steps (port_list h looper) (desk_list h looper)
   pub done : HasDone h (thread_of facts) steps
   pub short_is : ran_short steps ≡ list_any (λ number. number == looper) short
 
--- The session of that number: its diary has all that its thread did
+-- The session of that number: its diary has all that its thread did, and from some time on the stamps that are due
 pub record HasSession (h : Histories) (number : ℕ) : Type 0 where
+  pub time : ℕ
   pub steps : List Step
+  pub stamped : AreStamped time steps
   pub diary : IsSessionDiary steps
   pub done : HasDone h number steps
 
@@ -87,8 +98,9 @@ abbrev pub ActsIn : Histories → ℕ → ℕ → Type 0
 ActsIn h sessions thread = IsOfRun h thread ⊎ IsSession sessions thread
 
 -- Each list is one that its object's machine allows; there are a port and a desk for each looper that was started, and no others. Each
--- looper has its diary, and so have main and each session, whose numbers are below those of the loopers' threads; no other thread made an
--- entry at the roster, at the reply book or at a port. Those that found no memory are loopers of the run, in order, and each once
+-- looper has its diary, and so have main, whose stamps are due from 0 on, and each session, whose numbers are below those of the loopers' threads;
+-- no other thread made an entry at the roster, at the reply book, at a port or at a desk. Those that found no memory are loopers of the run, in
+-- order, and each once
 pub record IsRunWith (sessions : ℕ) (heads : List AppHead) (short : List ℕ) (h : Histories) : Type 0 where
   pub histories : AreHistories heads h
   pub all : length h.ports.items ≡ length (state_of heads h.roster.items).loopers
@@ -97,12 +109,14 @@ pub record IsRunWith (sessions : ℕ) (heads : List AppHead) (short : List ℕ) 
   pub short_once : AllPairs (λ (a b : ℕ). a < b) short
   pub main : List Step
   pub main_diary : IsMainDiary main
+  pub main_stamped : AreStamped 0 main
   pub main_done : HasDone h main_thread main
   pub few_sessions : sessions < looper_thread 0
   pub each_session : (number : ℕ) → IsSession sessions number → HasSession h number
   pub roster_makers : All (λ (entry : RosterEntry). ActsIn h sessions entry.by.0) h.roster.items
   pub book_makers : All (λ (entry : ReplyEntry). ActsIn h sessions entry.by.0) h.book
   pub port_makers : (looper : ℕ) → All (λ (entry : PortEntry). ActsIn h sessions entry.by.0) (port_list h looper)
+  pub desk_makers : (looper : ℕ) → All (λ (entry : EntryData). ActsIn h sessions (desk_maker entry)) (desk_list h looper)
 
 -- without a session
 abbrev pub IsRun : List AppHead → List ℕ → Histories → Type 0

@@ -15,8 +15,6 @@ mod draft;
 mod fault;
 mod laws;
 mod reading;
-#[cfg(test)]
-mod tests;
 mod value;
 mod words;
 

@@ -60,7 +60,7 @@ module _ (ways : List ℕ) (looper : ℕ) (none : Contains ways looper → ⊥) 
   no_entries (step ∷ steps) there =
       ap (λ l. l ++ port_entries looper steps) (no_entry step (All-head (IsAtOneOf ways) step steps there)) ∙ no_entries steps (All-tail (IsAtOneOf ways) step steps there)
 
-  no_sights : (steps : List Step) → All (IsAtOneOf ways) steps → port_sights looper steps ≡ []
+  pub no_sights : (steps : List Step) → All (IsAtOneOf ways) steps → port_sights looper steps ≡ []
   no_sights [] there = refl
   no_sights (step ∷ steps) there =
       ap (λ l. l ++ port_sights looper steps) (no_sight step (All-head (IsAtOneOf ways) step steps there)) ∙ no_sights steps (All-tail (IsAtOneOf ways) step steps there)

@@ -42,7 +42,7 @@ stamp_shown : (o : Option (EntryWithObjects Object)) → option_map stamp_number
 stamp_shown None = refl
 stamp_shown (Some e) = refl
 
-last_shown : (entries : List (EntryWithObjects Object)) → last_stamp_of stamp_number entries ≡ last_stamp_of roster_stamp (plain_entries entries)
+pub last_shown : (entries : List (EntryWithObjects Object)) → last_stamp_of stamp_number entries ≡ last_stamp_of roster_stamp (plain_entries entries)
 last_shown entries =
     let plain : EntryWithObjects Object → RosterEntry = λ e. e.plain in
     ap (λ (o : Option ℕ). unwrap_or o 0)

@@ -35,6 +35,8 @@ pub struct KeptDoor {
     ghost head: { is_some port_seat.names ≡ true },
     ghost keeper: { port_seat.thread ≡ keeper_thread },
     ghost keeper_idle: { made_by ports.by_number keeper_thread port_seat.front ≡ [] },
+    ghost desk_keeper: { desk_seat.thread ≡ keeper_thread },
+    ghost desk_keeper_idle: { made_by desks.by_number keeper_thread desk_seat.front ≡ [] },
     ghost port_known: { (thread : ℕ) → IsNewName port_seat.names thread → made_by ports.by_number thread port_seat.front ≡ [] },
     ghost desk_known: { (thread : ℕ) → IsNewName desk_seat.names thread → made_by desks.by_number thread desk_seat.front ≡ [] },
 }

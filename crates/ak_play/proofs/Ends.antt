@@ -11,7 +11,7 @@ use Rattle.ak_roster.specs.declared.head.AppHead.{AppHead}
 use Rattle.ak_describe.specs.Whole.{heads_of}
 use Rattle.ak_describe.specs.declared.described.AppText.{AppText}
 use Rattle.ak_diary.specs.declared.histories.Histories.{Histories}
-use Rattle.ak_diary.specs.Step.{Step, desk_entries, desk_entry}
+use Rattle.ak_diary.specs.Step.{AreStamped, Step, desk_entries, desk_entry}
 use Rattle.ak_headline.specs.Headline.{EachGotOneReply}
 use Rattle.ak_headline.specs.Main.{IsMainDiary}
 use Rattle.ak_headline.specs.Run.{HasDone, IsRun, desk_list}
@@ -107,6 +107,9 @@ module _ (heads : List AppHead) (h : Histories) (steps more : List Step) (at_end
   pub diary_at_end : IsMainDiary (steps ++ (more ++ at_end.closing))
   diary_at_end = subst IsMainDiary regrouped at_end.diary
 
+  pub stamped_at_end : AreStamped 0 (steps ++ (more ++ at_end.closing))
+  stamped_at_end = subst (AreStamped 0) regrouped at_end.stamped
+
   pub done_at_end : HasDone h main_thread (steps ++ (more ++ at_end.closing))
   done_at_end = subst (HasDone h main_thread) regrouped at_end.done
 
@@ -133,6 +136,7 @@ module _ {A : Type 0} (apps : List AppText) (statements : List Statement) (playe
           closing = at_end.closing;
           closes = at_end.closes;
           diary = diary_at_end (heads_of apps) h steps to.more at_end;
+          stamped = stamped_at_end (heads_of apps) h steps to.more at_end;
           done = done;
           edits = edits_at_end (heads_of apps) h steps to.more at_end;
         };

@@ -10,7 +10,7 @@ use Rattle.ak_turn.specs.Noted.{StandsIn}
 use Rattle.ak_describe.specs.Whole.{heads_of}
 use Rattle.ak_describe.specs.declared.described.AppText.{AppText}
 use Rattle.ak_diary.specs.declared.histories.Histories.{Histories}
-use Rattle.ak_diary.specs.Step.{Step, desk_entries}
+use Rattle.ak_diary.specs.Step.{AreStamped, Step, desk_entries}
 use Rattle.ak_headline.specs.Answers.{GotOneReply}
 use Rattle.ak_headline.specs.Main.{IsMainDiary}
 use Rattle.ak_headline.specs.Run.{HasDone, desk_list}
@@ -29,7 +29,8 @@ abbrev pub all_steps : List (List Step) → List Step
 all_steps blocks = flat_map (λ (block : List Step). block) blocks
 
 -- Main's diary is the blocks of the first statements, in order, then what it did for the statement at which it stopped, which is nothing where each
--- was carried out, and then the end of the run. The diary has all that main made at the roster, at the reply book, at each port and at each desk
+-- was carried out, and then the end of the run. The diary has all that main made at the roster, at the reply book, at each port and at each desk,
+-- and its entries have the stamps that are due, from 0 on
 pub record HasPlayed (apps : List AppText) (statements : List Statement) (outcomes : List Outcome) (tolds : List Told) (h : Histories) : Type 0 where
   pub blocks : List (List Step)
   pub are : AreBlocks apps statements outcomes tolds blocks
@@ -38,6 +39,7 @@ pub record HasPlayed (apps : List AppText) (statements : List Statement) (outcom
   pub closing : List Step
   pub closes : IsClosing (heads_of apps) (all_steps blocks ++ stopped) h closing
   pub diary : IsMainDiary (all_steps blocks ++ (stopped ++ closing))
+  pub stamped : AreStamped 0 (all_steps blocks ++ (stopped ++ closing))
   pub done : HasDone h main_thread (all_steps blocks ++ (stopped ++ closing))
   pub edits : (looper : ℕ) → All (StandsIn (desk_list h looper)) (desk_entries looper (all_steps blocks))
 

@@ -12,7 +12,7 @@ use Rattle.ak_turn.specs.declared.clock.Clock.{Clock}
 use Rattle.ak_turn.specs.Entries.{AreByOthers, StartsWith}
 use Rattle.ak_turn.specs.Noted.{Noted, note, noted}
 use Rattle.ak_turn.specs.Seats.{SeatData, HasCalled, HasSeen}
-use Rattle.ak_turn.proofs.Surface.{called_notes_one, noted-others, noted-own, seen_notes_nothing}
+use Rattle.ak_turn.proofs.Surface.{called_notes_one, noted-others, noted-own, seen_notes_nothing, starts_itself, starts_then_starts}
 use Rattle.ak_roster.specs.declared.entry.EntryWithObjects.{EntryWithObjects}
 use Rattle.ak_roster.specs.declared.entry.RosterEntry.{RosterEntry}
 use Rattle.ak_roster.specs.Roster.{plain_entries}
@@ -37,7 +37,7 @@ use Rattle.ak_messenger.specs.declared.asking.Reply.{Reply}
 use Rattle.ak_messenger.specs.declared.envelope.Envelope.{Envelope}
 use Rattle.ak_messenger.specs.declared.fault.SendFault.{SendFault}
 use Rattle.ak_messenger.specs.declared.fault.SendFault.TheVariants as fault
-use Rattle.ak_diary.specs.Step.{Step, at_book, at_port, at_roster, desk_entries, port_sights, roster_sights, saw_book, saw_port}
+use Rattle.ak_diary.specs.Step.{Step, at_book, at_port, at_roster, desk_entries, port_sights, saw_book, saw_port}
 use Rattle.ak_diary.specs.Turns.{FindsShut, Shuts}
 use Rattle.ak_diary.specs.Wants.{Cancels, Converses, IsRefusedBy, Withdraws}
 use Rattle.ak_headline.specs.Main.{IsMainDiary, MayEnterPort, MayEnterRoster, MayRefuse, asks, asks_in_vain, begun, enters_port, enters_roster, finds_shut, owes_no_slot}
@@ -45,7 +45,8 @@ use Rattle.ak_looper.specs.Rosters.{Object, by_number, maker_of}
 use Rattle.ak_run.specs.declared.run.Run.{Run}
 use Rattle.ak_run.specs.Doing.{Answered, AskedSo, EnteredSo, EntersLast, RefusedBy, address_of}
 use Rattle.ak_run.specs.Entering.{AreAtPorts}
-use Rattle.ak_run.specs.Recording.{AddsAtPort, GoesBy, fronts, fronts_of, list_at}
+use Rattle.ak_run.specs.Launching.{turn_step}
+use Rattle.ak_run.specs.Recording.{AddsAtPort, AreInTime, AreNotesInTime, GoesBy, fronts, fronts_of, list_at}
 use Rattle.ak_run.proofs.Acts.{GoesAtBoth, May, adds_there, both_then, no_book, no_roster, nothing_goes, one_act, steps_there, there_diary}
 
 -- ---- main's seat goes on
@@ -63,20 +64,32 @@ module _ {O L : Type 0} (by : L → ℕ) (a b : SeatData O L) (main : a.thread �
   pub called_on : (entry : L) → HasCalled by entry a b → StartsWith b.front a.front
   called_on entry call = (call.between ++ entry ∷ [], ap (λ s. s.front) call.after ∙ append_assoc a.front call.between (entry ∷ []))
 
--- ---- at one port
-pub adds_nothing : (a b : List PortEntry) → b ≡ a → AddsAtPort a b
-adds_nothing a b same = record { added = []; may = All-nil May; noted_is = ap (noted at_ports.by_number main_thread) same ∙ sym (append-nil (noted at_ports.by_number main_thread a)) }
+-- ---- time
+time_stays : (k l : Clock) → l ≡ k → l.time ≡ k.time
+time_stays k l same = ap (λ (c : Clock). c.time) same
 
-pub adds_then : (a b c : List PortEntry) → AddsAtPort a b → AddsAtPort b c → AddsAtPort a c
-adds_then a b c one two = record {
+-- ---- at one port
+notes_then : (time between later : ℕ) (xs ys : List (Noted PortEntry)) → AreNotesInTime time xs between → AreNotesInTime between ys later → AreNotesInTime time (xs ++ ys) later
+notes_then time between later [] ys same more = subst (λ (t : ℕ). AreNotesInTime t ys later) (sym same) more
+notes_then time between later (n ∷ ns) ys is more = (is.0, notes_then n.entry.stamp between later ns ys is.1 more)
+
+pub adds_nothing : (time : ℕ) (a : List PortEntry) → AddsAtPort time time a a
+adds_nothing time a = record { added = []; in_time = refl; on = starts_itself a; may = All-nil May; noted_is = sym (append-nil (noted at_ports.by_number main_thread a)) }
+
+pub adds_then : (time between later : ℕ) (a b c : List PortEntry) → AddsAtPort time between a b → AddsAtPort between later b c → AddsAtPort time later a c
+adds_then time between later a b c one two = record {
   added = one.added ++ two.added;
+  in_time = notes_then time between later one.added two.added one.in_time two.in_time;
+  on = starts_then_starts a b c one.on two.on;
   may = All-append May one.added two.added one.may two.may;
   noted_is = two.noted_is ∙ ap (λ l. l ++ two.added) one.noted_is ∙ append_assoc (noted at_ports.by_number main_thread a) one.added two.added;
 }
 
-pub adds_by : (e : Option PortEvent) (k l : Clock) (a b : PortSeat) → a.thread ≡ main_thread → IfSome e MayEnterPort → at_ports.HasAnswered e k l a b → AddsAtPort a.front b.front
+pub adds_by : (e : Option PortEvent) (k l : Clock) (a b : PortSeat) → a.thread ≡ main_thread → IfSome e MayEnterPort → at_ports.HasAnswered e k l a b → AddsAtPort k.time l.time a.front b.front
 adds_by None k l a b main may looked = record {
   added = [];
+  in_time = sym (time_stays k l looked.clocked);
+  on = seen_on at_ports.by_number a b main looked.seen;
   may = All-nil May;
   noted_is = seen_none at_ports.by_number a b main looked.seen ∙ sym (append-nil (noted at_ports.by_number main_thread a.front));
 }
@@ -84,20 +97,11 @@ adds_by (Some e) k l a b main may entered =
     let n : Noted PortEntry = note entered.before (at_ports.entry_now k entered.before e) in
     record {
       added = n ∷ [];
+      in_time = (refl, sym (ap (λ (c : Clock). c.time) entered.clocked));
+      on = called_on at_ports.by_number a b main (at_ports.entry_now k entered.before e) entered.called;
       may = All-cons May n [] may (All-nil May);
       noted_is = called_one at_ports.by_number a b main (at_ports.entry_now k entered.before e) entered.before entered.called entered.front;
     }
-
--- what main had seen there is a beginning of what it has seen
-pub port_on : (e : Option PortEvent) (k l : Clock) (a b : PortSeat) → a.thread ≡ main_thread → at_ports.HasAnswered e k l a b → StartsWith b.front a.front
-port_on None k l a b main looked = seen_on at_ports.by_number a b main looked.seen
-port_on (Some e) k l a b main entered = called_on at_ports.by_number a b main (at_ports.entry_now k entered.before e) entered.called
-
--- the making of a port
-pub adds_making : (k : Clock) (capacity life : ℕ) → k.thread.0 ≡ main_thread → AddsAtPort [] (at_ports.making k capacity life ∷ [])
-adds_making k capacity life main =
-    let n : Noted PortEntry = note [] (at_ports.making k capacity life) in
-    record { added = n ∷ []; may = All-cons May n [] tt (All-nil May); noted_is = noted-own at_ports.by_number main_thread [] (at_ports.making k capacity life) main }
 
 -- a post, whose item waits for no slot
 owes_none : (back : Option Address) → owes_no_slot (back_duty back) ≡ true
@@ -128,26 +132,26 @@ filled_before n flat k l b b' entered fills =
     any_before (λ (x : ReplyEntry). x.event ≡ slot_event.Filled n flat) entered.before (at_books.entry_now k entered.before (slot_event.Taken n)) (λ same. cc) (subst (FillsWith n flat) entered.front fills)
 
 -- what main did at both, as acts of which that holds
-pub record ActsAtBoth (looper : ℕ) (P : List Step → Type 0) (book book' : List ReplyEntry) (port port' : List PortEntry) : Type 0 where
+pub record ActsAtBoth (looper time later : ℕ) (P : List Step → Type 0) (book book' : List ReplyEntry) (port port' : List PortEntry) : Type 0 where
   pub steps : List Step
   pub so : P steps
   pub acts : IsMainDiary steps
-  pub goes : GoesAtBoth looper steps book book' port port'
+  pub goes : GoesAtBoth looper time later steps book book' port port'
 
 -- at the port alone
-pub port_acts : (looper : ℕ) (book : List ReplyEntry) (a b : List PortEntry) → AddsAtPort a b → ActsAtBoth looper AreAtPorts book book a b
-port_acts looper book a b adds = record {
+pub port_acts : (looper time later : ℕ) (book : List ReplyEntry) (a b : List PortEntry) → AddsAtPort time later a b → ActsAtBoth looper time later AreAtPorts book book a b
+port_acts looper time later book a b adds = record {
   steps = steps_there looper adds.added;
   so = record { no_roster = no_roster looper adds.added; no_book = no_book looper adds.added };
   acts = there_diary looper adds.added adds.may;
-  goes = adds_there looper adds.added book a b adds.noted_is;
+  goes = adds_there looper time later adds.added book a b adds.in_time adds.on adds.noted_is;
 }
 
 -- steps of which P holds
-record DoesAtBoth (looper : ℕ) (P : List Step → Type 0) (book book' : List ReplyEntry) (port port' : List PortEntry) : Type 0 where
+record DoesAtBoth (looper time later : ℕ) (P : List Step → Type 0) (book book' : List ReplyEntry) (port port' : List PortEntry) : Type 0 where
   steps : List Step
   does : P steps
-  goes : GoesAtBoth looper steps book book' port port'
+  goes : GoesAtBoth looper time later steps book book' port port'
 
 module _ (looper : ℕ) where
   abbrev noted_there : (e : PortEvent) (k l : Clock) (a b : PortSeat) → at_ports.HasEntered k l e a b → Noted PortEntry
@@ -159,9 +163,14 @@ module _ (looper : ℕ) where
   abbrev same_port : (port : List PortEntry) → noted at_ports.by_number main_thread port ≡ noted at_ports.by_number main_thread port ++ []
   same_port port = sym (append-nil (noted at_ports.by_number main_thread port))
 
-  at_the_book : (e : ReplyEvent) (k l : Clock) (a b : ReplySeat) (port : List PortEntry) → a.thread ≡ main_thread → (entered : at_books.HasEntered k l e a b) → GoesAtBoth looper (at_book (noted_in_book e k l a b entered) ∷ []) a.front b.front port port
+  at_the_book : (e : ReplyEvent) (k l : Clock) (a b : ReplySeat) (port : List PortEntry) → a.thread ≡ main_thread → (entered : at_books.HasEntered k l e a b) → GoesAtBoth looper k.time l.time (at_book (noted_in_book e k l a b entered) ∷ []) a.front b.front port port
   at_the_book e k l a b port main entered = record {
+    in_time = record { stamped = (refl, tt); time_is = sym (ap (λ (c : Clock). c.time) entered.clocked) };
     roster_none = refl;
+    roster_unseen = refl;
+    port_on = starts_itself port;
+    port_seen = All-nil (StartsWith port);
+    unseen_elsewhere = λ other differ. refl;
     noted_book = called_one at_books.maker_of a b main (at_books.entry_now k entered.before e) entered.before entered.called entered.front;
     book_on = called_on at_books.maker_of a b main (at_books.entry_now k entered.before e) entered.called;
     book_seen = All-nil (StartsWith b.front);
@@ -170,16 +179,22 @@ module _ (looper : ℕ) where
     no_edits = λ other. refl;
   }
 
-  at_the_port : (e : PortEvent) (k l : Clock) (a b : PortSeat) (book : List ReplyEntry) → a.thread ≡ main_thread → (entered : at_ports.HasEntered k l e a b) → GoesAtBoth looper (at_port looper (noted_there e k l a b entered) ∷ []) book book a.front b.front
+  at_the_port : (e : PortEvent) (k l : Clock) (a b : PortSeat) (book : List ReplyEntry) → a.thread ≡ main_thread → (entered : at_ports.HasEntered k l e a b) → GoesAtBoth looper k.time l.time (at_port looper (noted_there e k l a b entered) ∷ []) book book a.front b.front
   at_the_port e k l a b book main entered =
-      adds_there looper (noted_there e k l a b entered ∷ []) book a.front b.front (called_one at_ports.by_number a b main (at_ports.entry_now k entered.before e) entered.before entered.called entered.front)
+      adds_there looper k.time l.time (noted_there e k l a b entered ∷ []) book a.front b.front (refl, sym (ap (λ (c : Clock). c.time) entered.clocked)) (called_on at_ports.by_number a b main (at_ports.entry_now k entered.before e) entered.called)
+      (called_one at_ports.by_number a b main (at_ports.entry_now k entered.before e) entered.before entered.called entered.front)
 
-  looks_at_port : (k l : Clock) (a b : PortSeat) (book : List ReplyEntry) → a.thread ≡ main_thread → at_ports.HasLooked k l a b → GoesAtBoth looper [] book book a.front b.front
-  looks_at_port k l a b book main looked = adds_there looper [] book a.front b.front (seen_none at_ports.by_number a b main looked.seen ∙ sym (append-nil (noted at_ports.by_number main_thread a.front)))
+  looks_at_port : (k l : Clock) (a b : PortSeat) (book : List ReplyEntry) → a.thread ≡ main_thread → at_ports.HasLooked k l a b → GoesAtBoth looper k.time l.time [] book book a.front b.front
+  looks_at_port k l a b book main looked = adds_there looper k.time l.time [] book a.front b.front (sym (time_stays k l looked.clocked)) (seen_on at_ports.by_number a b main looked.seen) (seen_none at_ports.by_number a b main looked.seen ∙ sym (append-nil (noted at_ports.by_number main_thread a.front)))
 
-  looks_at_book : (k l : Clock) (a b : ReplySeat) (port : List PortEntry) → a.thread ≡ main_thread → at_books.HasLooked k l a b → GoesAtBoth looper [] a.front b.front port port
+  looks_at_book : (k l : Clock) (a b : ReplySeat) (port : List PortEntry) → a.thread ≡ main_thread → at_books.HasLooked k l a b → GoesAtBoth looper k.time l.time [] a.front b.front port port
   looks_at_book k l a b port main looked = record {
+    in_time = record { stamped = tt; time_is = sym (time_stays k l looked.clocked) };
     roster_none = refl;
+    roster_unseen = refl;
+    port_on = starts_itself port;
+    port_seen = All-nil (StartsWith port);
+    unseen_elsewhere = λ other differ. refl;
     noted_book = seen_none at_books.maker_of a b main looked.seen ∙ sym (append-nil (noted at_books.maker_of main_thread a.front));
     book_on = seen_on at_books.maker_of a b main looked.seen;
     book_seen = All-nil (StartsWith b.front);
@@ -188,9 +203,14 @@ module _ (looper : ℕ) where
     no_edits = λ other. refl;
   }
 
-  sees_book : (k l : Clock) (a b : ReplySeat) (port : List PortEntry) → a.thread ≡ main_thread → at_books.HasLooked k l a b → GoesAtBoth looper (saw_book b.front ∷ []) a.front b.front port port
+  sees_book : (k l : Clock) (a b : ReplySeat) (port : List PortEntry) → a.thread ≡ main_thread → at_books.HasLooked k l a b → GoesAtBoth looper k.time l.time (saw_book b.front ∷ []) a.front b.front port port
   sees_book k l a b port main looked = record {
+    in_time = record { stamped = (tt, tt); time_is = sym (time_stays k l looked.clocked) };
     roster_none = refl;
+    roster_unseen = refl;
+    port_on = starts_itself port;
+    port_seen = All-nil (StartsWith port);
+    unseen_elsewhere = λ other differ. refl;
     noted_book = seen_none at_books.maker_of a b main looked.seen ∙ sym (append-nil (noted at_books.maker_of main_thread a.front));
     book_on = seen_on at_books.maker_of a b main looked.seen;
     book_seen = All-cons (StartsWith b.front) b.front [] ([], sym (append-nil b.front)) (All-nil (StartsWith b.front));
@@ -200,7 +220,7 @@ module _ (looper : ℕ) where
   }
 
   -- a slot is closed
-  closes : (n : ℕ) (k l : Clock) (a b : ReplySeat) (port : List PortEntry) → a.thread ≡ main_thread → HasClosed n k l a b → DoesAtBoth looper (Cancels n) a.front b.front port port
+  closes : (n : ℕ) (k l : Clock) (a b : ReplySeat) (port : List PortEntry) → a.thread ≡ main_thread → HasClosed n k l a b → DoesAtBoth looper k.time l.time (Cancels n) a.front b.front port port
   closes n k l a b port main (inl entered) =
       let x = noted_in_book (slot_event.Cancelled n) k l a b entered.entered in
       record { steps = at_book x ∷ []; does = inl (record { noted = x; event_is = refl; is = refl }); goes = at_the_book (slot_event.Cancelled n) k l a b port main entered.entered }
@@ -212,7 +232,7 @@ module _ (looper : ℕ) where
 
   -- one entry at the port, or none, by what it answers, where main has seen its list to that entry
   pub answers_so : (e : Option PortEvent) (k l : Clock) (a b : PortSeat) (book : List ReplyEntry) (r' : Run) → a.thread ≡ main_thread → list_at (fronts_of r').ports looper ≡ b.front → IfSome e MayEnterPort → at_ports.HasAnswered e k l a b
-      → ActsAtBoth looper (λ steps. EnteredSo looper r' steps e) book book a.front b.front
+      → ActsAtBoth looper k.time l.time (λ steps. EnteredSo looper r' steps e) book book a.front b.front
   answers_so None k l a b book r' main sees may looked = record { steps = []; so = refl; acts = begun; goes = looks_at_port k l a b book main looked }
   answers_so (Some e) k l a b book r' main sees may entered =
       let y = noted_there e k l a b entered in
@@ -223,44 +243,41 @@ module _ (looper : ℕ) where
         goes = at_the_port e k l a b book main entered;
       }
 
-  -- its port is shut, by one entry or as main saw, and these are its steps
-  pub record SeesShut (seen : List PortEntry) (steps : List Step) : Type 0 where
-    pub shuts : Shuts looper steps
-    pub ports_seen : All (StartsWith seen) (port_sights looper steps)
-    pub elsewhere : (other : ℕ) → other ≢ looper → port_sights other steps ≡ []
-    pub no_roster : roster_sights steps ≡ []
-
-  sees_port : (k l : Clock) (a b : PortSeat) (book : List ReplyEntry) → a.thread ≡ main_thread → at_ports.HasLooked k l a b → GoesAtBoth looper (saw_port looper b.front ∷ []) book book a.front b.front
+  sees_port : (k l : Clock) (a b : PortSeat) (book : List ReplyEntry) → a.thread ≡ main_thread → at_ports.HasLooked k l a b → GoesAtBoth looper k.time l.time (saw_port looper b.front ∷ []) book book a.front b.front
   sees_port k l a b book main looked =
       let goes = looks_at_port k l a b book main looked in
-      record { roster_none = refl; noted_book = goes.noted_book; book_on = goes.book_on; book_seen = goes.book_seen; noted_port = goes.noted_port; elsewhere = λ other differ. refl; no_edits = λ other. refl }
+      record {
+        in_time = record { stamped = (tt, tt); time_is = sym (time_stays k l looked.clocked) };
+        roster_none = refl;
+        roster_unseen = refl;
+        noted_book = goes.noted_book;
+        book_on = goes.book_on;
+        book_seen = goes.book_seen;
+        noted_port = goes.noted_port;
+        port_on = goes.port_on;
+        port_seen =
+            subst (All (StartsWith b.front)) (sym (ap (λ (same : Bool). cond same (b.front ∷ []) [] ++ []) (eq-eqb looper looper refl)))
+            (All-cons (StartsWith b.front) b.front [] (starts_itself b.front) (All-nil (StartsWith b.front)));
+        elsewhere = λ other differ. refl;
+        unseen_elsewhere = λ other differ. ap (λ (same : Bool). cond same (b.front ∷ []) [] ++ []) (ne_eqb looper other (λ same. differ (sym same)));
+        no_edits = λ other. refl;
+      }
 
-  pub shuts_so : (answer : CloseAnswer) (k l : Clock) (a b : PortSeat) (book : List ReplyEntry) → a.thread ≡ main_thread → (state_of b.front).shut ≡ true → at_ports.HasAnswered (close_entry answer) k l a b → ActsAtBoth looper (SeesShut b.front) book book a.front b.front
+  -- its port is shut, by one entry or as main saw
+  pub shuts_so : (answer : CloseAnswer) (k l : Clock) (a b : PortSeat) (book : List ReplyEntry) → a.thread ≡ main_thread → (state_of b.front).shut ≡ true → at_ports.HasAnswered (close_entry answer) k l a b → ActsAtBoth looper k.time l.time (Shuts looper) book book a.front b.front
   shuts_so closed.Shut k l a b book main shut entered =
       let y = noted_there event.Shut k l a b entered in
       let steps : List Step = at_port looper y ∷ [] in
       record {
         steps = steps;
-        so = record { shuts = inl (record { noted = y; event_is = refl; is = refl }); ports_seen = All-nil (StartsWith b.front); elsewhere = λ other differ. refl; no_roster = refl };
+        so = inl (record { noted = y; event_is = refl; is = refl });
         acts = one_act steps (enters_port looper event.Shut tt (record { noted = y; event_is = refl; is = refl }));
         goes = at_the_port event.Shut k l a b book main entered;
       }
   shuts_so closed.AlreadyShut k l a b book main shut looked =
       let steps : List Step = saw_port looper b.front ∷ [] in
       let finds : FindsShut looper steps = record { seen = b.front; shut = shut; is = refl } in
-      record {
-        steps = steps;
-        so = record {
-          shuts = inr finds;
-          ports_seen =
-              subst (All (StartsWith b.front)) (sym (ap (λ (same : Bool). cond same (b.front ∷ []) [] ++ []) (eq-eqb looper looper refl)))
-              (All-cons (StartsWith b.front) b.front [] ([], sym (append-nil b.front)) (All-nil (StartsWith b.front)));
-          elsewhere = λ other differ. ap (λ (same : Bool). cond same (b.front ∷ []) [] ++ []) (ne_eqb looper other (λ same. differ (sym same)));
-          no_roster = refl;
-        };
-        acts = one_act steps (finds_shut looper tt finds);
-        goes = sees_port k l a b book main looked;
-      }
+      record { steps = steps; so = inr finds; acts = one_act steps (finds_shut looper tt finds); goes = sees_port k l a b book main looked }
 
   -- the looper that is asked
   module _ (item : ItemData) (c c' : Clock) (b b' : ReplySeat) (s s' : PortSeat) (book_main : b.thread ≡ main_thread) (port_main : s.thread ≡ main_thread) (r' : Run) (sees : list_at (fronts_of r').ports looper ≡ s'.front) where
@@ -275,7 +292,7 @@ module _ (looper : ℕ) where
       does : Converses to item flat steps
       slot_is : does.slot ≡ n
 
-    converses : (n : ℕ) (k : Clock) (b1 : ReplySeat) (flat : List ℕ) → HasEnteredBook c k (slot_event.Opened n) b b1 → HasConversed item k c' b1 b' s s' n flat → ActsAtBoth looper (Conversed n flat) b.front b'.front s.front s'.front
+    converses : (n : ℕ) (k : Clock) (b1 : ReplySeat) (flat : List ℕ) → HasEnteredBook c k (slot_event.Opened n) b b1 → HasConversed item k c' b1 b' s s' n flat → ActsAtBoth looper c.time c'.time (Conversed n flat) b.front b'.front s.front s'.front
     converses n k b1 flat opened h =
         let asked : ItemData = record item { duty = duty.Slot n } in
         let position = h.written.0 in
@@ -299,8 +316,8 @@ module _ (looper : ℕ) where
           so = record { does = does; slot_is = refl };
           acts = one_act (at_book x ∷ at_port looper y ∷ at_book z ∷ []) (asks to item flat does);
           goes =
-              both_then looper (at_book x ∷ []) (at_port looper y ∷ at_book z ∷ []) b.front b1.front b'.front s.front s.front s'.front (at_the_book (slot_event.Opened n) c k b b1 s.front book_main opened.entered)
-              (both_then looper (at_port looper y ∷ []) (at_book z ∷ []) b1.front b1.front b'.front s.front s'.front s'.front (at_the_port (event.Written position asked) k h.between s s' b1.front port_main h.written.1)
+              both_then looper (at_book x ∷ []) (at_port looper y ∷ at_book z ∷ []) c.time k.time c'.time b.front b1.front b'.front s.front s.front s'.front (at_the_book (slot_event.Opened n) c k b b1 s.front book_main opened.entered)
+              (both_then looper (at_port looper y ∷ []) (at_book z ∷ []) k.time h.between.time c'.time b1.front b1.front b'.front s.front s'.front s'.front (at_the_port (event.Written position asked) k h.between s s' b1.front port_main h.written.1)
               (at_the_book (slot_event.Taken n) h.between c' b1 b' s'.front (later_main n k b1 opened) h.collected.taken.entered));
         }
 
@@ -310,7 +327,7 @@ module _ (looper : ℕ) where
       refused_so : P does.refused
 
     withdraws : (e : Option PortEvent) (P : List Step → Type 0) → ((steps : List Step) → P steps → IsRefusedBy looper e steps) → MayRefuse e → (n : ℕ) (k between : Clock) (b1 : ReplySeat) → HasEnteredBook c k (slot_event.Opened n) b b1
-        → DoesAtBoth looper P b1.front b1.front s.front s'.front → HasClosed n between c' b1 b' → ActsAtBoth looper (Withdrew e P) b.front b'.front s.front s'.front
+        → DoesAtBoth looper k.time between.time P b1.front b1.front s.front s'.front → HasClosed n between c' b1 b' → ActsAtBoth looper c.time c'.time (Withdrew e P) b.front b'.front s.front s'.front
     withdraws e P tells may n k between b1 opened refused closing =
         let x = noted_in_book (slot_event.Opened n) c k b b1 opened.entered in
         let last = closes n between c' b1 b' s'.front (later_main n k b1 opened) closing in
@@ -321,52 +338,53 @@ module _ (looper : ℕ) where
           so = record { does = does; refused_so = refused.does };
           acts = one_act (at_book x ∷ refused.steps ++ last.steps) (asks_in_vain to e may does);
           goes =
-              both_then looper (at_book x ∷ []) (refused.steps ++ last.steps) b.front b1.front b'.front s.front s.front s'.front (at_the_book (slot_event.Opened n) c k b b1 s.front book_main opened.entered)
-              (both_then looper refused.steps last.steps b1.front b1.front b'.front s.front s'.front s'.front refused.goes last.goes);
+              both_then looper (at_book x ∷ []) (refused.steps ++ last.steps) c.time k.time c'.time b.front b1.front b'.front s.front s.front s'.front (at_the_book (slot_event.Opened n) c k b b1 s.front book_main opened.entered)
+              (both_then looper refused.steps last.steps k.time between.time c'.time b1.front b1.front b'.front s.front s'.front s'.front refused.goes last.goes);
         }
 
     -- the port gave a reason, in the last entry that main has seen there
     withdraws_so : (e : PortEvent) → MayRefuse (Some e) → (n : ℕ) (k between : Clock) (b1 : ReplySeat) → HasEnteredBook c k (slot_event.Opened n) b b1 → at_ports.HasEntered k between e s s' → HasClosed n between c' b1 b'
-        → ActsAtBoth looper (RefusedBy looper item e r') b.front b'.front s.front s'.front
+        → ActsAtBoth looper c.time c'.time (RefusedBy looper item e r') b.front b'.front s.front s'.front
     withdraws_so e may n k between b1 opened entered closing =
         let y = noted_there e k between s s' entered in
         let P = EntersLast looper e r' in
-        let refused : DoesAtBoth looper P b1.front b1.front s.front s'.front =
+        let refused : DoesAtBoth looper k.time between.time P b1.front b1.front s.front s'.front =
         record { steps = at_port looper y ∷ []; does = record { enters = record { noted = y; event_is = refl; is = refl }; last = sees ∙ entered.front }; goes = at_the_port e k between s s' b1.front port_main entered } in
         let all = withdraws (Some e) P (λ steps is. is.enters) may n k between b1 opened refused closing in
         record { steps = all.steps; so = record { withdraws = all.so.does; refused = all.so.refused_so }; acts = all.acts; goes = all.goes }
 
     -- whatever holds of them
-    anyhow : (P : List Step → Type 0) → ActsAtBoth looper P b.front b'.front s.front s'.front → ActsAtBoth looper (λ steps. Unit {0}) b.front b'.front s.front s'.front
+    anyhow : (P : List Step → Type 0) → ActsAtBoth looper c.time c'.time P b.front b'.front s.front s'.front → ActsAtBoth looper c.time c'.time (λ steps. Unit {0}) b.front b'.front s.front s'.front
     anyhow P does = record { steps = does.steps; so = tt; acts = does.acts; goes = does.goes }
 
     -- memory was wanting
-    in_vain_later : (h : HasAsked item c c' b b' s s' (Err fault.NoMemory)) → (HasGivenUp item h.clock c' h.seat b' s s' h.slot fault.NoMemory ⊎ ((flat : List ℕ) × HasConversed item h.clock c' h.seat b' s s' h.slot flat)) → ActsAtBoth looper (λ steps. Unit {0}) b.front b'.front s.front s'.front
+    in_vain_later : (h : HasAsked item c c' b b' s s' (Err fault.NoMemory)) → (HasGivenUp item h.clock c' h.seat b' s s' h.slot fault.NoMemory ⊎ ((flat : List ℕ) × HasConversed item h.clock c' h.seat b' s s' h.slot flat)) → ActsAtBoth looper c.time c'.time (λ steps. Unit {0}) b.front b'.front s.front s'.front
     in_vain_later h (inl up) =
         let P : List Step → Type 0 = λ steps. steps ≡ [] in
         anyhow (Withdrew None P) (withdraws None P (λ steps is. is) tt h.slot h.clock up.between h.seat h.opened (record { steps = []; does = refl; goes = looks_at_port h.clock up.between s s' h.seat.front port_main up.refused.looked }) up.closed)
     in_vain_later h (inr both) = anyhow (Conversed h.slot both.0) (converses h.slot h.clock h.seat both.0 h.opened both.1)
 
-    nothing : (a : ReplySeat) (p : PortSeat) → a ≡ b → p ≡ s → ActsAtBoth looper (λ steps. steps ≡ []) b.front a.front s.front p.front
-    nothing a p same_book same_seat =
-        subst (λ (x : ReplySeat). ActsAtBoth looper (λ steps. steps ≡ []) b.front x.front s.front p.front) (sym same_book)
-        (subst (λ (x : PortSeat). ActsAtBoth looper (λ steps. steps ≡ []) b.front b.front s.front x.front) (sym same_seat) (record { steps = []; so = refl; acts = begun; goes = adds_there looper [] b.front s.front s.front (same_port s.front) }))
+    nothing : (k : Clock) (a : ReplySeat) (p : PortSeat) → k ≡ c → a ≡ b → p ≡ s → ActsAtBoth looper c.time k.time (λ steps. steps ≡ []) b.front a.front s.front p.front
+    nothing k a p same_clock same_book same_seat =
+        subst (λ (x : ReplySeat). ActsAtBoth looper c.time k.time (λ steps. steps ≡ []) b.front x.front s.front p.front) (sym same_book)
+        (subst (λ (x : PortSeat). ActsAtBoth looper c.time k.time (λ steps. steps ≡ []) b.front b.front s.front x.front) (sym same_seat)
+        (record { steps = []; so = refl; acts = begun; goes = adds_there looper c.time k.time [] b.front s.front s.front (sym (time_stays c k same_clock)) (starts_itself s.front) (same_port s.front) }))
 
-    in_vain : HasLackedMemory item c c' b b' s s' → ActsAtBoth looper (λ steps. Unit {0}) b.front b'.front s.front s'.front
-    in_vain (asking.before_all none) = anyhow (λ steps. steps ≡ []) (nothing b' s' none.book none.port)
+    in_vain : HasLackedMemory item c c' b b' s s' → ActsAtBoth looper c.time c'.time (λ steps. Unit {0}) b.front b'.front s.front s'.front
+    in_vain (asking.before_all none) = anyhow (λ steps. steps ≡ []) (nothing c' b' s' none.clock none.book none.port)
     in_vain (asking.for_the_slot none) =
-        subst (λ (x : PortSeat). ActsAtBoth looper (λ steps. Unit {0}) b.front b'.front s.front x.front) (sym none.port) (record { steps = []; so = tt; acts = begun; goes = looks_at_book c c' b b' s.front book_main none.looked.looked })
+        subst (λ (x : PortSeat). ActsAtBoth looper c.time c'.time (λ steps. Unit {0}) b.front b'.front s.front x.front) (sym none.port) (record { steps = []; so = tt; acts = begun; goes = looks_at_book c c' b b' s.front book_main none.looked.looked })
     in_vain (asking.later h) = in_vain_later h h.became
 
     -- it was answered, from the slot that it opened
-    answered : (reply : Reply) → HasAsked item c c' b b' s s' (Ok reply) → ActsAtBoth looper (Answered looper item reply) b.front b'.front s.front s'.front
+    answered : (reply : Reply) → HasAsked item c c' b b' s s' (Ok reply) → ActsAtBoth looper c.time c'.time (Answered looper item reply) b.front b'.front s.front s'.front
     answered reply h =
         let all = converses h.slot h.clock h.seat reply.flat h.opened h.became.1 in
         record { steps = all.steps; so = record { converses = all.so.does; slot_is = all.so.slot_is ∙ sym h.became.0 }; acts = all.acts; goes = all.goes }
 
-    pub ask_acts : (sent : Result Reply SendFault) → AskTells item c c' b b' s s' sent → ActsAtBoth looper (AskedSo looper item sent r') b.front b'.front s.front s'.front
+    pub ask_acts : (sent : Result Reply SendFault) → AskTells item c c' b b' s s' sent → ActsAtBoth looper c.time c'.time (AskedSo looper item sent r') b.front b'.front s.front s'.front
     ask_acts (Ok reply) h = answered reply h
-    ask_acts (Err fault.TooLong) h = nothing b' s' h.book h.port
+    ask_acts (Err fault.TooLong) h = nothing c' b' s' h.clock h.book h.port
     ask_acts (Err fault.NoMemory) h = in_vain h
     ask_acts (Err fault.BadPort) h = withdraws_so event.Refused tt h.slot h.clock h.became.between h.seat h.opened h.became.refused h.became.closed
     ask_acts (Err fault.Spent) h = withdraws_so event.Spent tt h.slot h.clock h.became.between h.seat h.opened h.became.refused h.became.closed
@@ -379,39 +397,43 @@ Entries = List (EntryWithObjects Object)
 plain-append : (xs ys : Entries) → plain_entries (xs ++ ys) ≡ plain_entries xs ++ plain_entries ys
 plain-append xs ys = map-append (λ (entry : EntryWithObjects Object). entry.plain) xs ys
 
--- an entry there, behind that list
-abbrev pub turn_step : Entries → EntryWithObjects Object → Step
-turn_step before entry = at_roster (note (plain_entries before) entry.plain)
-
 -- main had its turn there, and made one entry or none
-pub roster_goes : (front between before added : Entries) (book : List ReplyEntry) (ports : List (List PortEntry)) → before ≡ front ++ between → AreByOthers by_number main_thread between → length added ≤ 1
-    → All (λ (e : EntryWithObjects Object). e.plain.by.0 ≡ main_thread) added → All (λ (e : EntryWithObjects Object). MayEnterRoster e.plain.event) added
-    → GoesBy (map (turn_step before) added) (fronts (plain_entries front) book ports) (fronts (plain_entries (before ++ added)) book ports)
-roster_goes front between before added book ports seen others few mine may = by_added added few mine may
+pub roster_goes : (time later : ℕ) (front between before added : Entries) (book : List ReplyEntry) (ports : List (List PortEntry)) → before ≡ front ++ between → AreByOthers by_number main_thread between → length added ≤ 1
+    → All (λ (e : EntryWithObjects Object). e.plain.by.0 ≡ main_thread) added → All (λ (e : EntryWithObjects Object). MayEnterRoster e.plain.event) added → AreInTime time (map (turn_step before) added) later
+    → GoesBy (map (turn_step before) added) (fronts time (plain_entries front) book ports) (fronts later (plain_entries (before ++ added)) book ports)
+roster_goes time later front between before added book ports seen others few mine may in_time = by_added added few mine may in_time
   where
     none_more : noted maker_of main_thread (plain_entries before) ≡ noted maker_of main_thread (plain_entries front)
     none_more =
         ap (λ (l : Entries). noted maker_of main_thread (plain_entries l)) seen ∙ ap (noted maker_of main_thread) (plain-append front between)
         ∙ noted-others maker_of main_thread (plain_entries front) (plain_entries between) (All-map (λ (entry : RosterEntry). entry.by.0 ≢ main_thread) (λ (entry : EntryWithObjects Object). entry.plain) between others)
 
-    by_added : (xs : Entries) → length xs ≤ 1 → All (λ (e : EntryWithObjects Object). e.plain.by.0 ≡ main_thread) xs → All (λ (e : EntryWithObjects Object). MayEnterRoster e.plain.event) xs
-        → GoesBy (map (turn_step before) xs) (fronts (plain_entries front) book ports) (fronts (plain_entries (before ++ xs)) book ports)
-    by_added [] less by_main allowed =
-        nothing_goes (fronts (plain_entries front) book ports) (fronts (plain_entries (before ++ [])) book ports)
-        (ap (λ (l : Entries). noted maker_of main_thread (plain_entries l)) (append-nil before) ∙ none_more) refl ([], sym (append-nil book)) (λ looper. refl)
-    by_added (x ∷ []) less by_main allowed =
+    on : (xs : Entries) → StartsWith (plain_entries (before ++ xs)) (plain_entries front)
+    on xs = (plain_entries (between ++ xs), ap (λ (l : Entries). plain_entries (l ++ xs)) seen ∙ ap (λ (l : Entries). plain_entries l) (append_assoc front between xs) ∙ plain-append front (between ++ xs))
+
+    by_added : (xs : Entries) → length xs ≤ 1 → All (λ (e : EntryWithObjects Object). e.plain.by.0 ≡ main_thread) xs → All (λ (e : EntryWithObjects Object). MayEnterRoster e.plain.event) xs → AreInTime time (map (turn_step before) xs) later
+        → GoesBy (map (turn_step before) xs) (fronts time (plain_entries front) book ports) (fronts later (plain_entries (before ++ xs)) book ports)
+    by_added [] less by_main allowed at =
+        nothing_goes (fronts time (plain_entries front) book ports) (fronts later (plain_entries (before ++ [])) book ports) (sym at.time_is)
+        (ap (λ (l : Entries). noted maker_of main_thread (plain_entries l)) (append-nil before) ∙ none_more) (on []) refl (starts_itself book) (λ looper. refl) (λ looper. starts_itself (list_at ports looper))
+    by_added (x ∷ []) less by_main allowed at =
         let n : Noted RosterEntry = note (plain_entries before) x.plain in
         record {
           acts = one_act (at_roster n ∷ []) (enters_roster n (All-head (λ (e : EntryWithObjects Object). MayEnterRoster e.plain.event) x [] allowed) refl);
+          in_time = at;
           roster =
               ap (noted maker_of main_thread) (plain-append before (x ∷ [])) ∙ noted-own maker_of main_thread (plain_entries before) x.plain (All-head (λ (e : EntryWithObjects Object). e.plain.by.0 ≡ main_thread) x [] by_main)
               ∙ ap (λ l. l ++ n ∷ []) none_more;
+          roster_on = on (x ∷ []);
+          roster_seen = All-nil (StartsWith (plain_entries (before ++ x ∷ [])));
           book = sym (append-nil (noted at_books.maker_of main_thread book));
-          book_on = ([], sym (append-nil book));
+          book_on = starts_itself book;
           book_seen = All-nil (StartsWith book);
           ports = λ looper. sym (append-nil (noted at_ports.by_number main_thread (list_at ports looper)));
+          ports_on = λ looper. starts_itself (list_at ports looper);
+          ports_seen = λ looper. All-nil (StartsWith (list_at ports looper));
         }
-    by_added (x ∷ y ∷ zs) less by_main allowed = absurd (omega (arith, less))
+    by_added (x ∷ y ∷ zs) less by_main allowed at = absurd (omega (arith, less))
 
 -- none of these is an edit
 pub turn_no_edits : (before added : Entries) (looper : ℕ) → desk_entries looper (map (turn_step before) added) ≡ []

@@ -9,16 +9,17 @@ use native.Mathlib.Decide.{ℕ_discrete}
 use Rattle.ak_base.specs.Thread.{main_thread}
 use Rattle.ak_turn.specs.Entries.{StartsWith}
 use Rattle.ak_turn.specs.Noted.{Noted, noted}
-use Rattle.ak_turn.proofs.Surface.{seen_still, starts_then_starts}
+use Rattle.ak_turn.proofs.Surface.{seen_still, starts_itself, starts_then_starts}
 use Rattle.ak_roster.specs.declared.entry.RosterEntry.{RosterEntry}
 use Rattle.ak_port.specs.declared.port_entry.PortEntry.{PortEntry}
 use Rattle.ak_port.specs.declared.reply_entry.ReplyEntry.{ReplyEntry}
 use Rattle.ak_port.specs.PortCalls as at_ports
 use Rattle.ak_port.specs.ReplySeats as at_books
-use Rattle.ak_diary.specs.Step.{Step, at_port, book_entries, book_entry, book_sight, book_sights, desk_entries, desk_entry, port_entries, port_entry, roster_entries, roster_entry}
+use Rattle.ak_diary.specs.Step.{AreStamped, Step, at_port, book_entries, book_entry, book_sight, book_sights, desk_entries, desk_entry, port_entries, port_entry, port_sight, port_sights, roster_entries, roster_entry, roster_sight, roster_sights, time_of}
 use Rattle.ak_headline.specs.Main.{IsAct, IsMainDiary, MayEnterPort, begun, enters_port, went_on}
 use Rattle.ak_looper.specs.Rosters.{maker_of}
-use Rattle.ak_run.specs.Recording.{AddsAtPort, Fronts, GoesBy, IsRecorded, Records, fronts, list_at}
+use Rattle.ak_looper.proofs.Surface.{stamped_on, time_on}
+use Rattle.ak_run.specs.Recording.{AddsAtPort, AreInTime, AreNotesInTime, Fronts, GoesBy, IsRecorded, Records, fronts, list_at}
 
 -- ---- steps
 pub diary-append : (xs ys : List Step) → IsMainDiary xs → IsMainDiary ys → IsMainDiary (xs ++ ys)
@@ -35,15 +36,33 @@ then_those f xs ys a b c one two = two ∙ ap (λ l. l ++ flat_map f ys) one ∙
 pub nothing_after : {X : Type 0} (f : Step → List X) (xs ys : List Step) → flat_map f xs ≡ [] → flat_map f ys ≡ [] → flat_map f (xs ++ ys) ≡ []
 nothing_after f xs ys one two = flat_map-append f xs ys ∙ ap (λ l. l ++ flat_map f ys) one ∙ two
 
+-- in time by these steps, and then by those
+pub in_time_then : (a b c : ℕ) (xs ys : List Step) → AreInTime a xs b → AreInTime b ys c → AreInTime a (xs ++ ys) c
+in_time_then a b c xs ys one two = record {
+  stamped = stamped_on a xs ys one.stamped (subst (λ (t : ℕ). AreStamped t ys) (sym one.time_is) two.stamped);
+  time_is = time_on a xs ys ∙ ap (λ (t : ℕ). time_of t ys) one.time_is ∙ two.time_is;
+}
+
+pub no_time : (a : ℕ) → AreInTime a [] a
+no_time a = record { stamped = tt; time_is = refl }
+
+-- what was seen by these steps, and then by those
+pub seen_then : {X : Type 0} (f : Step → List (List X)) (xs ys : List Step) (b c : List X) → StartsWith c b → All (StartsWith b) (flat_map f xs) → All (StartsWith c) (flat_map f ys) → All (StartsWith c) (flat_map f (xs ++ ys))
+seen_then f xs ys b c on one two =
+    subst (All (StartsWith c)) (sym (flat_map-append f xs ys)) (All-append (StartsWith c) (flat_map f xs) (flat_map f ys) (seen_still b c (flat_map f xs) on one) two)
+
 pub goes_then : (xs ys : List Step) (a b c : Fronts) → GoesBy xs a b → GoesBy ys b c → GoesBy (xs ++ ys) a c
 goes_then xs ys a b c one two = record {
   acts = diary-append xs ys one.acts two.acts;
+  in_time = in_time_then a.time b.time c.time xs ys one.in_time two.in_time;
+  roster_on = starts_then_starts a.roster b.roster c.roster one.roster_on two.roster_on;
+  roster_seen = seen_then roster_sight xs ys b.roster c.roster two.roster_on one.roster_seen two.roster_seen;
   roster = then_those roster_entry xs ys (noted maker_of main_thread a.roster) (noted maker_of main_thread b.roster) (noted maker_of main_thread c.roster) one.roster two.roster;
   book = then_those book_entry xs ys (noted at_books.maker_of main_thread a.book) (noted at_books.maker_of main_thread b.book) (noted at_books.maker_of main_thread c.book) one.book two.book;
   book_on = starts_then_starts a.book b.book c.book one.book_on two.book_on;
-  book_seen =
-      subst (All (StartsWith c.book)) (sym (flat_map-append book_sight xs ys))
-      (All-append (StartsWith c.book) (book_sights xs) (book_sights ys) (seen_still b.book c.book (book_sights xs) two.book_on one.book_seen) two.book_seen);
+  book_seen = seen_then book_sight xs ys b.book c.book two.book_on one.book_seen two.book_seen;
+  ports_on = λ looper. starts_then_starts (list_at a.ports looper) (list_at b.ports looper) (list_at c.ports looper) (one.ports_on looper) (two.ports_on looper);
+  ports_seen = λ looper. seen_then (port_sight looper) xs ys (list_at b.ports looper) (list_at c.ports looper) (two.ports_on looper) (one.ports_seen looper) (two.ports_seen looper);
   ports = λ looper.
       then_those (port_entry looper) xs ys (noted at_ports.by_number main_thread (list_at a.ports looper)) (noted at_ports.by_number main_thread (list_at b.ports looper)) (noted at_ports.by_number main_thread (list_at c.ports looper))
       (one.ports looper) (two.ports looper);
@@ -61,19 +80,25 @@ records_then a b c one two = record {
 pub recorded_on : (steps more : List Step) (a b : Fronts) → GoesBy more a b → IsRecorded steps a → IsRecorded (steps ++ more) b
 recorded_on steps more a b goes is = record {
   diary = diary-append steps more is.diary goes.acts;
+  in_time = in_time_then 0 a.time b.time steps more is.in_time goes.in_time;
+  roster_seen = seen_then roster_sight steps more a.roster b.roster goes.roster_on is.roster_seen goes.roster_seen;
+  ports_seen = λ looper. seen_then (port_sight looper) steps more (list_at a.ports looper) (list_at b.ports looper) (goes.ports_on looper) (is.ports_seen looper) (goes.ports_seen looper);
   roster = then_those roster_entry steps more [] (noted maker_of main_thread a.roster) (noted maker_of main_thread b.roster) is.roster goes.roster;
   book = then_those book_entry steps more [] (noted at_books.maker_of main_thread a.book) (noted at_books.maker_of main_thread b.book) is.book goes.book;
-  book_seen =
-      subst (All (StartsWith b.book)) (sym (flat_map-append book_sight steps more))
-      (All-append (StartsWith b.book) (book_sights steps) (book_sights more) (seen_still a.book b.book (book_sights steps) goes.book_on is.book_seen) goes.book_seen);
+  book_seen = seen_then book_sight steps more a.book b.book goes.book_on is.book_seen goes.book_seen;
   ports = λ looper. then_those (port_entry looper) steps more [] (noted at_ports.by_number main_thread (list_at a.ports looper)) (noted at_ports.by_number main_thread (list_at b.ports looper)) (is.ports looper) (goes.ports looper);
 }
 
 -- no act: main made no entry
-pub nothing_goes : (a b : Fronts) → noted maker_of main_thread b.roster ≡ noted maker_of main_thread a.roster → noted at_books.maker_of main_thread b.book ≡ noted at_books.maker_of main_thread a.book → StartsWith b.book a.book
-    → ((looper : ℕ) → noted at_ports.by_number main_thread (list_at b.ports looper) ≡ noted at_ports.by_number main_thread (list_at a.ports looper)) → GoesBy [] a b
-nothing_goes a b roster book on ports = record {
+pub nothing_goes : (a b : Fronts) → b.time ≡ a.time → noted maker_of main_thread b.roster ≡ noted maker_of main_thread a.roster → StartsWith b.roster a.roster → noted at_books.maker_of main_thread b.book ≡ noted at_books.maker_of main_thread a.book → StartsWith b.book a.book
+    → ((looper : ℕ) → noted at_ports.by_number main_thread (list_at b.ports looper) ≡ noted at_ports.by_number main_thread (list_at a.ports looper)) → ((looper : ℕ) → StartsWith (list_at b.ports looper) (list_at a.ports looper)) → GoesBy [] a b
+nothing_goes a b time roster roster_on book on ports ports_on = record {
   acts = begun;
+  in_time = record { stamped = tt; time_is = sym time };
+  roster_on = roster_on;
+  roster_seen = All-nil (StartsWith b.roster);
+  ports_on = ports_on;
+  ports_seen = λ looper. All-nil (StartsWith (list_at b.ports looper));
   roster = roster ∙ sym (append-nil (noted maker_of main_thread a.roster));
   book = book ∙ sym (append-nil (noted at_books.maker_of main_thread a.book));
   book_on = on;
@@ -82,20 +107,25 @@ nothing_goes a b roster book on ports = record {
 }
 
 pub same_goes : (a b : Fronts) → b ≡ a → GoesBy [] a b
-same_goes a b same = subst (GoesBy [] a) (sym same) (nothing_goes a a refl refl ([], sym (append-nil a.book)) (λ looper. refl))
+same_goes a b same = subst (GoesBy [] a) (sym same) (nothing_goes a a refl refl (starts_itself a.roster) refl (starts_itself a.book) (λ looper. refl) (λ looper. starts_itself (list_at a.ports looper)))
 
 pub same_fronts : (a b : Fronts) → b ≡ a → Records a b
 same_fronts a b same = record { steps = []; goes = same_goes a b same; no_edits = λ looper. refl }
 
 -- ---- at the book and at one port
--- by these steps the lists of both went on, from main's seats there
-pub record GoesAtBoth (looper : ℕ) (steps : List Step) (book book' : List ReplyEntry) (port port' : List PortEntry) : Type 0 where
+-- from one time to the other the lists of both went on by these steps, from main's seats there
+pub record GoesAtBoth (looper time later : ℕ) (steps : List Step) (book book' : List ReplyEntry) (port port' : List PortEntry) : Type 0 where
+  pub in_time : AreInTime time steps later
   pub roster_none : roster_entries steps ≡ []
+  pub roster_unseen : roster_sights steps ≡ []
   pub noted_book : noted at_books.maker_of main_thread book' ≡ noted at_books.maker_of main_thread book ++ book_entries steps
   pub book_on : StartsWith book' book
   pub book_seen : All (StartsWith book') (book_sights steps)
   pub noted_port : noted at_ports.by_number main_thread port' ≡ noted at_ports.by_number main_thread port ++ port_entries looper steps
+  pub port_on : StartsWith port' port
+  pub port_seen : All (StartsWith port') (port_sights looper steps)
   pub elsewhere : (other : ℕ) → other ≢ looper → port_entries other steps ≡ []
+  pub unseen_elsewhere : (other : ℕ) → other ≢ looper → port_sights other steps ≡ []
   pub no_edits : (other : ℕ) → desk_entries other steps ≡ []
 
 -- an entry that main may make there by itself
@@ -103,14 +133,17 @@ abbrev pub May : Noted PortEntry → Type 0
 May n = MayEnterPort n.entry.event
 
 module _ (looper : ℕ) where
-  pub both_then : (xs ys : List Step) (b b1 b2 : List ReplyEntry) (p p1 p2 : List PortEntry) → GoesAtBoth looper xs b b1 p p1 → GoesAtBoth looper ys b1 b2 p1 p2 → GoesAtBoth looper (xs ++ ys) b b2 p p2
-  both_then xs ys b b1 b2 p p1 p2 one two = record {
+  pub both_then : (xs ys : List Step) (t t1 t2 : ℕ) (b b1 b2 : List ReplyEntry) (p p1 p2 : List PortEntry) → GoesAtBoth looper t t1 xs b b1 p p1 → GoesAtBoth looper t1 t2 ys b1 b2 p1 p2 → GoesAtBoth looper t t2 (xs ++ ys) b b2 p p2
+  both_then xs ys t t1 t2 b b1 b2 p p1 p2 one two = record {
+    in_time = in_time_then t t1 t2 xs ys one.in_time two.in_time;
     roster_none = nothing_after roster_entry xs ys one.roster_none two.roster_none;
+    roster_unseen = nothing_after roster_sight xs ys one.roster_unseen two.roster_unseen;
+    port_on = starts_then_starts p p1 p2 one.port_on two.port_on;
+    port_seen = seen_then (port_sight looper) xs ys p1 p2 two.port_on one.port_seen two.port_seen;
+    unseen_elsewhere = λ other differ. nothing_after (port_sight other) xs ys (one.unseen_elsewhere other differ) (two.unseen_elsewhere other differ);
     noted_book = then_those book_entry xs ys (noted at_books.maker_of main_thread b) (noted at_books.maker_of main_thread b1) (noted at_books.maker_of main_thread b2) one.noted_book two.noted_book;
     book_on = starts_then_starts b b1 b2 one.book_on two.book_on;
-    book_seen =
-        subst (All (StartsWith b2)) (sym (flat_map-append book_sight xs ys))
-        (All-append (StartsWith b2) (book_sights xs) (book_sights ys) (seen_still b1 b2 (book_sights xs) two.book_on one.book_seen) two.book_seen);
+    book_seen = seen_then book_sight xs ys b1 b2 two.book_on one.book_seen two.book_seen;
     noted_port = then_those (port_entry looper) xs ys (noted at_ports.by_number main_thread p) (noted at_ports.by_number main_thread p1) (noted at_ports.by_number main_thread p2) one.noted_port two.noted_port;
     elsewhere = λ other differ. nothing_after (port_entry other) xs ys (one.elsewhere other differ) (two.elsewhere other differ);
     no_edits = λ other. nothing_after (desk_entry other) xs ys (one.no_edits other) (two.no_edits other);
@@ -149,9 +182,29 @@ module _ (looper : ℕ) where
   no_sight [] = refl
   no_sight (n ∷ ns) = no_sight ns
 
-  pub adds_there : (notes : List (Noted PortEntry)) (book : List ReplyEntry) (p p' : List PortEntry) → noted at_ports.by_number main_thread p' ≡ noted at_ports.by_number main_thread p ++ notes → GoesAtBoth looper (steps_there notes) book book p p'
-  adds_there notes book p p' is = record {
+  no_roster_sight : (notes : List (Noted PortEntry)) → roster_sights (steps_there notes) ≡ []
+  no_roster_sight [] = refl
+  no_roster_sight (n ∷ ns) = no_roster_sight ns
+
+  no_port_sight : (other : ℕ) (notes : List (Noted PortEntry)) → port_sights other (steps_there notes) ≡ []
+  no_port_sight other [] = refl
+  no_port_sight other (n ∷ ns) = no_port_sight other ns
+
+  there_in_time : (time later : ℕ) (notes : List (Noted PortEntry)) → AreNotesInTime time notes later → AreInTime time (steps_there notes) later
+  there_in_time time later [] same = record { stamped = tt; time_is = same }
+  there_in_time time later (n ∷ ns) is =
+      let rest = there_in_time n.entry.stamp later ns is.1 in
+      record { stamped = (is.0, rest.stamped); time_is = rest.time_is }
+
+  pub adds_there : (time later : ℕ) (notes : List (Noted PortEntry)) (book : List ReplyEntry) (p p' : List PortEntry) → AreNotesInTime time notes later → StartsWith p' p → noted at_ports.by_number main_thread p' ≡ noted at_ports.by_number main_thread p ++ notes
+      → GoesAtBoth looper time later (steps_there notes) book book p p'
+  adds_there time later notes book p p' in_time on is = record {
+    in_time = there_in_time time later notes in_time;
     roster_none = no_roster notes;
+    roster_unseen = no_roster_sight notes;
+    port_on = on;
+    port_seen = subst (All (StartsWith p')) (sym (no_port_sight looper notes)) (All-nil (StartsWith p'));
+    unseen_elsewhere = λ other differ. no_port_sight other notes;
     noted_book = sym (ap (λ l. noted at_books.maker_of main_thread book ++ l) (no_book notes) ∙ append-nil (noted at_books.maker_of main_thread book));
     book_on = ([], sym (append-nil book));
     book_seen = subst (All (StartsWith book)) (sym (no_sight notes)) (All-nil (StartsWith book));
@@ -161,10 +214,19 @@ module _ (looper : ℕ) where
   }
 
   -- so main's seats go on, where that port alone went on
-  pub both_goes : (steps : List Step) (roster : List RosterEntry) (book book' : List ReplyEntry) (ports ports' : List (List PortEntry)) → IsMainDiary steps → GoesAtBoth looper steps book book' (list_at ports looper) (list_at ports' looper)
-      → ((other : ℕ) → other ≢ looper → list_at ports' other ≡ list_at ports other) → GoesBy steps (fronts roster book ports) (fronts roster book' ports')
-  both_goes steps roster book book' ports ports' acts goes others = record {
+  pub both_goes : (steps : List Step) (time later : ℕ) (roster : List RosterEntry) (book book' : List ReplyEntry) (ports ports' : List (List PortEntry)) → IsMainDiary steps → GoesAtBoth looper time later steps book book' (list_at ports looper) (list_at ports' looper)
+      → ((other : ℕ) → other ≢ looper → list_at ports' other ≡ list_at ports other) → GoesBy steps (fronts time roster book ports) (fronts later roster book' ports')
+  both_goes steps time later roster book book' ports ports' acts goes others = record {
     acts = acts;
+    in_time = goes.in_time;
+    roster_on = starts_itself roster;
+    roster_seen = subst (All (StartsWith roster)) (sym goes.roster_unseen) (All-nil (StartsWith roster));
+    ports_on = λ other. dite (ℕ_discrete other looper)
+        (λ same. subst (λ (n : ℕ). StartsWith (list_at ports' n) (list_at ports n)) (sym same) goes.port_on)
+        (λ differ. ([], others other differ ∙ sym (append-nil (list_at ports other))));
+    ports_seen = λ other. dite (ℕ_discrete other looper)
+        (λ same. subst (λ (n : ℕ). All (StartsWith (list_at ports' n)) (port_sights n steps)) (sym same) goes.port_seen)
+        (λ differ. subst (All (StartsWith (list_at ports' other))) (sym (goes.unseen_elsewhere other differ)) (All-nil (StartsWith (list_at ports' other))));
     roster = sym (ap (λ l. noted maker_of main_thread roster ++ l) goes.roster_none ∙ append-nil (noted maker_of main_thread roster));
     book = goes.noted_book;
     book_on = goes.book_on;
@@ -174,11 +236,11 @@ module _ (looper : ℕ) where
         (λ differ. ap (noted at_ports.by_number main_thread) (others other differ) ∙ sym (ap (λ l. noted at_ports.by_number main_thread (list_at ports other) ++ l) (goes.elsewhere other differ) ∙ append-nil (noted at_ports.by_number main_thread (list_at ports other))));
   }
 
-  pub port_records : (roster : List RosterEntry) (book : List ReplyEntry) (ports ports' : List (List PortEntry)) → AddsAtPort (list_at ports looper) (list_at ports' looper) → ((other : ℕ) → other ≢ looper → list_at ports' other ≡ list_at ports other)
-      → Records (fronts roster book ports) (fronts roster book ports')
-  port_records roster book ports ports' adds others =
-      let goes = adds_there adds.added book (list_at ports looper) (list_at ports' looper) adds.noted_is in
-      record { steps = steps_there adds.added; goes = both_goes (steps_there adds.added) roster book book ports ports' (there_diary adds.added adds.may) goes others; no_edits = goes.no_edits }
+  pub port_records : (time later : ℕ) (roster : List RosterEntry) (book : List ReplyEntry) (ports ports' : List (List PortEntry)) → AddsAtPort time later (list_at ports looper) (list_at ports' looper) → ((other : ℕ) → other ≢ looper → list_at ports' other ≡ list_at ports other)
+      → Records (fronts time roster book ports) (fronts later roster book ports')
+  port_records time later roster book ports ports' adds others =
+      let goes = adds_there time later adds.added book (list_at ports looper) (list_at ports' looper) adds.in_time adds.on adds.noted_is in
+      record { steps = steps_there adds.added; goes = both_goes (steps_there adds.added) time later roster book book ports ports' (there_diary adds.added adds.may) goes others; no_edits = goes.no_edits }
 
 -- ---- one port of the list
 -- behind those

@@ -1,5 +1,5 @@
 -- Main's calls through its door to one looper.
-use Rattle.std.proofs.Common.{◌≡◌, ℕ, ◌<◌, List, [], length, refl, sym, ap, ◌∙◌, subst, append-nil, Option, None, Some, Result, vec_capacity}
+use Rattle.std.proofs.Common.{◌≡◌, ℕ, ◌+◌, ◌<◌, List, [], length, refl, sym, ap, ◌∙◌, subst, append-nil, Option, None, Some, Result, vec_capacity, arith}
 use Rattle.std.specs.Prelude.{IfSome, get_or, option_map, set, slice_get}
 use Rattle.std.proofs.lemmas.List.Elements.{All-get_or}
 use Rattle.std.proofs.lemmas.List.{get_or-set_same, length-set}
@@ -8,7 +8,7 @@ use Rattle.ak_base.specs.Thread.{main_thread}
 use Rattle.ak_turn.specs.Called.{KeepsSeat}
 use Rattle.ak_turn.specs.Entries.{StartsWith}
 use Rattle.ak_turn.specs.declared.clock.Clock.{Clock}
-use Rattle.ak_turn.proofs.Surface.{answered_keeps, answered_starts, keeps_same}
+use Rattle.ak_turn.proofs.Surface.{answered_keeps, answered_starts, keeps_same, starts_then_starts}
 use Rattle.ak_roster.specs.declared.head.AppHead.{AppHead}
 use Rattle.ak_port.specs.declared.port_entry.PortEntry.{PortEntry}
 use Rattle.ak_port.specs.declared.port_entry.PortEvent.{PortEvent}
@@ -31,15 +31,16 @@ use Rattle.ak_run.specs.Counting.{started_by_main}
 use Rattle.ak_run.specs.Doing.{AskedSo, DoesSo, EnteredSo, desk_front}
 use Rattle.ak_run.specs.Doors.{KeepsDoor, KeepsSeats}
 use Rattle.ak_run.specs.Entering.{AreAtPorts}
-use Rattle.ak_run.specs.Recording.{AddsAtPort, fronts_of}
+use Rattle.ak_run.specs.Recording.{AddsAtPort, RecordsAtNew, fronts_of}
 use Rattle.ak_run.specs.Running.{IsMember, IsRunning, IsStanding, KeepsRest, Stands}
 use Rattle.ak_run.specs.Sending.{desk_seat_of, port_seat_of}
-use Rattle.ak_run.specs.Starting.{GoesOn}
+use Rattle.ak_run.specs.Starting.{GoesOn, GoesOnAtNew}
 use Rattle.ak_run.proofs.Acting.{ActsAtBoth, answers_so, ask_acts, port_acts}
 use Rattle.ak_run.proofs.Acts.{same_goes}
 use Rattle.ak_run.proofs.Doing.{does_so}
-use Rattle.ak_run.proofs.GoingOn.{goes_beside, plain_on, same_desks, set_desks}
-use Rattle.ak_run.proofs.Recorded.{beside_same, call_goes, fronts_same, record_by, sees_front}
+use Rattle.ak_run.proofs.GoingOn.{desks_then, goes_beside, plain_on, same_desks, set_desks}
+use Rattle.ak_run.proofs.RosterTurn.{RosterOn}
+use Rattle.ak_run.proofs.Recorded.{at_new, beside_same, beside_then_at_new, call_goes, fronts_same, record_by, sees_front}
 use Rattle.ak_run.proofs.Standing.{BookOn, nothing_entered, one_called, same_book, same_loopers, stands_on}
 
 -- ---- seats
@@ -71,7 +72,7 @@ module _ (r r' : Run) (place : ℕ) (m : Member) (door : Door) (within : place <
   roster_front = ([], ap (λ s. s.front) roster ∙ sym (append-nil r.roster_seat.front))
 
   abbrev pub Acts : (List Step → Type 0) → Type 0
-  Acts P = ActsAtBoth place P r.hands.book_seat.front r'.hands.book_seat.front m.door.port_seat.front door.port_seat.front
+  Acts P = ActsAtBoth place r.hands.clock.time r'.hands.clock.time P r.hands.book_seat.front r'.hands.book_seat.front m.door.port_seat.front door.port_seat.front
 
   pub one_goes : (P : List Step → Type 0) → KeepsSeats m.door door → vec_capacity r'.members ≡ vec_capacity r.members → KeepsRest r r' → BookOn r r' → Acts P → GoesOn r r'
   one_goes P keeps capacity rest book acts =
@@ -102,41 +103,77 @@ module _ (r r' : Run) (place : ℕ) (m : Member) (door : Door) (within : place <
       }
 
   -- by one entry at its port, or none, by what it answers
-  pub post_acts : (e : Option PortEvent) (k l : Clock) → m.door.port_seat.thread ≡ main_thread → IfSome e MayEnterPort → at_ports.HasAnswered e k l m.door.port_seat door.port_seat → r'.hands.book_seat ≡ r.hands.book_seat → Acts (λ steps. EnteredSo place r' steps e)
-  post_acts e k l main may answered book =
-      subst (λ (s : ReplySeat). ActsAtBoth place (λ steps. EnteredSo place r' steps e) r.hands.book_seat.front s.front m.door.port_seat.front door.port_seat.front) (sym book)
-      (answers_so place e k l m.door.port_seat door.port_seat r.hands.book_seat.front r' main (sees_front r r' place m door within there is) may answered)
+  pub post_acts : (e : Option PortEvent) → m.door.port_seat.thread ≡ main_thread → IfSome e MayEnterPort → at_ports.HasAnswered e r.hands.clock r'.hands.clock m.door.port_seat door.port_seat → r'.hands.book_seat ≡ r.hands.book_seat → Acts (λ steps. EnteredSo place r' steps e)
+  post_acts e main may answered book =
+      subst (λ (s : ReplySeat). ActsAtBoth place r.hands.clock.time r'.hands.clock.time (λ steps. EnteredSo place r' steps e) r.hands.book_seat.front s.front m.door.port_seat.front door.port_seat.front) (sym book)
+      (answers_so place e r.hands.clock r'.hands.clock m.door.port_seat door.port_seat r.hands.book_seat.front r' main (sees_front r r' place m door within there is) may answered)
 
-  pub post_goes : (e : Option PortEvent) (k l : Clock) → m.door.port_seat.thread ≡ main_thread → IfSome e MayEnterPort → at_ports.HasAnswered e k l m.door.port_seat door.port_seat → r'.hands.book_seat ≡ r.hands.book_seat → KeepsSeats m.door door
+  pub post_goes : (e : Option PortEvent) → m.door.port_seat.thread ≡ main_thread → IfSome e MayEnterPort → at_ports.HasAnswered e r.hands.clock r'.hands.clock m.door.port_seat door.port_seat → r'.hands.book_seat ≡ r.hands.book_seat → KeepsSeats m.door door
       → vec_capacity r'.members ≡ vec_capacity r.members → KeepsRest r r' → GoesOn r r'
-  post_goes e k l main may answered book keeps capacity rest = one_goes (λ steps. EnteredSo place r' steps e) keeps capacity rest (same_book r r' book) (post_acts e k l main may answered book)
+  post_goes e main may answered book keeps capacity rest = one_goes (λ steps. EnteredSo place r' steps e) keeps capacity rest (same_book r r' book) (post_acts e main may answered book)
 
   -- by an ask
-  pub asked_acts : (item : ItemData) (k l : Clock) (sent : Result Reply SendFault) → r.hands.book_seat.thread ≡ main_thread → m.door.port_seat.thread ≡ main_thread → AskTells item k l r.hands.book_seat r'.hands.book_seat m.door.port_seat door.port_seat sent
+  pub asked_acts : (item : ItemData) (sent : Result Reply SendFault) → r.hands.book_seat.thread ≡ main_thread → m.door.port_seat.thread ≡ main_thread → AskTells item r.hands.clock r'.hands.clock r.hands.book_seat r'.hands.book_seat m.door.port_seat door.port_seat sent
       → Acts (AskedSo place item sent r')
-  asked_acts item k l sent book_main main tells = ask_acts place item k l r.hands.book_seat r'.hands.book_seat m.door.port_seat door.port_seat book_main main r' (sees_front r r' place m door within there is) sent tells
+  asked_acts item sent book_main main tells = ask_acts place item r.hands.clock r'.hands.clock r.hands.book_seat r'.hands.book_seat m.door.port_seat door.port_seat book_main main r' (sees_front r r' place m door within there is) sent tells
 
-  pub ask_goes : (item : ItemData) (k l : Clock) (sent : Result Reply SendFault) → r.hands.book_seat.thread ≡ main_thread → m.door.port_seat.thread ≡ main_thread → AskTells item k l r.hands.book_seat r'.hands.book_seat m.door.port_seat door.port_seat sent
+  pub ask_goes : (item : ItemData) (sent : Result Reply SendFault) → r.hands.book_seat.thread ≡ main_thread → m.door.port_seat.thread ≡ main_thread → AskTells item r.hands.clock r'.hands.clock r.hands.book_seat r'.hands.book_seat m.door.port_seat door.port_seat sent
       → KeepsSeats m.door door → vec_capacity r'.members ≡ vec_capacity r.members → KeepsRest r r' → BookOn r r' → GoesOn r r'
-  ask_goes item k l sent book_main main tells keeps capacity rest book = one_goes (AskedSo place item sent r') keeps capacity rest book (asked_acts item k l sent book_main main tells)
+  ask_goes item sent book_main main tells keeps capacity rest book = one_goes (AskedSo place item sent r') keeps capacity rest book (asked_acts item sent book_main main tells)
 
 -- which was at its port alone, by what it made there
-pub port_alone : (place : ℕ) (book book' : ReplySeat) (a b : List PortEntry) → book' ≡ book → AddsAtPort a b → ActsAtBoth place AreAtPorts book.front book'.front a b
-port_alone place book book' a b same adds = subst (λ (s : ReplySeat). ActsAtBoth place AreAtPorts book.front s.front a b) (sym same) (port_acts place book.front a b adds)
+pub port_alone : (place time later : ℕ) (book book' : ReplySeat) (a b : List PortEntry) → book' ≡ book → AddsAtPort time later a b → ActsAtBoth place time later AreAtPorts book.front book'.front a b
+port_alone place time later book book' a b same adds = subst (λ (s : ReplySeat). ActsAtBoth place time later AreAtPorts book.front s.front a b) (sym same) (port_acts place time later book.front a b adds)
 
 -- no call at all: nothing of it changed
-pub goes_same : (r r' : Run) → KeepsRest r r' → r'.members ≡ r.members → r'.roster_seat ≡ r.roster_seat → r'.hands.book_seat ≡ r.hands.book_seat → GoesOn r r'
-goes_same r r' rest members roster book =
+pub goes_same : (r r' : Run) → KeepsRest r r' → r'.hands.clock.time ≡ r.hands.clock.time → r'.members ≡ r.members → r'.roster_seat ≡ r.roster_seat → r'.hands.book_seat ≡ r.hands.book_seat → GoesOn r r'
+goes_same r r' rest time members roster book =
     goes_beside r r' rest (λ heads next stands. nothing_entered heads r.roster_seat r'.roster_seat roster stands.roster_known)
     ([], ap (λ s. s.front) roster ∙ sym (append-nil r.roster_seat.front)) (same_book r r' book)
     (λ next heads stands. same_loopers next heads r r' members stands) (ap (λ v. length v.items) members)
-    (beside_same r r' members (ap (λ s. s.front) roster) (ap (λ s. s.front) book)) (same_desks r r' members)
+    (beside_same r r' time members (ap (λ s. s.front) roster) (ap (λ s. s.front) book)) (same_desks r r' members)
+
+-- nothing but at the port of a looper that is about to start
+pub goes_at_new : (r r' : Run) (port port' : List PortEntry) → KeepsRest r r' → r'.members ≡ r.members → r'.roster_seat ≡ r.roster_seat → r'.hands.book_seat ≡ r.hands.book_seat → RecordsAtNew port port' r r' → GoesOnAtNew port port' r r'
+goes_at_new r r' port port' rest members roster book recorded =
+    let entered : (heads : List AppHead) (next : ℕ) → Stands next heads r → RosterOn heads 0 r.roster_seat r'.roster_seat = λ heads next stands. nothing_entered heads r.roster_seat r'.roster_seat roster stands.roster_known in
+    record {
+      stands = λ next heads k. stands_on next heads 0 r r' rest (entered heads next k) (same_book r r' book) (same_loopers next heads r r' members k) k;
+      started = λ next heads k. (entered heads next k).started ∙ nothing_more (started_by_main heads r.roster_seat);
+      count = ap (λ v. length v.items) members;
+      on = ([], ap (λ s. s.front) roster ∙ sym (append-nil r.roster_seat.front));
+      shared = rest.shared;
+      apps = rest.apps;
+      recorded = recorded;
+      desks_on = same_desks r r' members;
+    }
+  where
+    nothing_more : (n : ℕ) → n + 0 ≡ n
+    nothing_more n = omega arith
+
+-- where main made entries there
+pub adds_at_new : (r r' : Run) (port port' : List PortEntry) → KeepsRest r r' → r'.members ≡ r.members → r'.roster_seat ≡ r.roster_seat → r'.hands.book_seat ≡ r.hands.book_seat → AddsAtPort r.hands.clock.time r'.hands.clock.time port port' → GoesOnAtNew port port' r r'
+adds_at_new r r' port port' rest members roster book adds =
+    goes_at_new r r' port port' rest members roster book (at_new r r' port port' members (ap (λ s. s.front) roster) (ap (λ s. s.front) book) adds)
+
+-- where main called elsewhere before
+pub goes_then_at_new : (r s t : Run) (port port' : List PortEntry) → GoesOn r s → GoesOnAtNew port port' s t → GoesOnAtNew port port' r t
+goes_then_at_new r s t port port' a b = record {
+  stands = λ next heads k. b.stands next heads (a.stands next heads k);
+  started = λ next heads k. b.started next heads (a.stands next heads k) ∙ a.started next heads k;
+  count = b.count ∙ a.count;
+  on = starts_then_starts r.roster_seat.front s.roster_seat.front t.roster_seat.front a.on b.on;
+  shared = b.shared ∙ a.shared;
+  apps = b.apps ∙ a.apps;
+  recorded = beside_then_at_new r s t port port' a.recorded b.recorded;
+  desks_on = desks_then r s t a.desks_on b.desks_on;
+}
 
 -- and main did nothing
-pub does_same : (P : List Step → Type 0) (r r' : Run) → P [] → r'.members ≡ r.members → r'.roster_seat ≡ r.roster_seat → r'.hands.book_seat.front ≡ r.hands.book_seat.front → DoesSo P r r'
-does_same P r r' so members roster book =
+pub does_same : (P : List Step → Type 0) (r r' : Run) → P [] → r'.hands.clock.time ≡ r.hands.clock.time → r'.members ≡ r.members → r'.roster_seat ≡ r.roster_seat → r'.hands.book_seat.front ≡ r.hands.book_seat.front → DoesSo P r r'
+does_same P r r' so time members roster book =
     let front = ap (λ s. s.front) roster in
-    does_so P [] r r' so (same_goes (fronts_of r) (fronts_of r') (fronts_same r r' members front book [])) (plain_on r.roster_seat r'.roster_seat ([], front ∙ sym (append-nil r.roster_seat.front))) (same_desks r r' members) (λ looper. refl)
+    does_so P [] r r' so (same_goes (fronts_of r) (fronts_of r') (fronts_same r r' time members front book [])) (plain_on r.roster_seat r'.roster_seat ([], front ∙ sym (append-nil r.roster_seat.front))) (same_desks r r' members) (λ looper. refl)
 
 -- it stands further
 pub stands_further : (r r' : Run) → GoesOn r r' → IsStanding r → IsStanding r'

@@ -1,5 +1,5 @@
 -- The application that is to start.
-use Rattle.std.proofs.Common.{◌≡◌, ℕ, zero, suc, ◌+◌, ◌<◌, List, [], ◌∷◌, length, get_or, Option, Some, refl, sym, ap, ◌∙◌, subst, arith, All}
+use Rattle.std.proofs.Common.{◌≡◌, ◌≢◌, ℕ, zero, suc, ◌+◌, ◌<◌, List, [], ◌∷◌, length, get_or, Option, Some, refl, sym, ap, ◌∙◌, subst, arith, All}
 use Rattle.std.specs.Prelude.{slice_get, option_map, unwrap_or}
 use Rattle.std.proofs.lemmas.List.{length-map}
 use Rattle.std.proofs.lemmas.List.Elements.{All-get_or}
@@ -25,10 +25,10 @@ use Rattle.ak_run.specs.declared.new_looper.Shared.{Shared}
 use Rattle.ak_run.specs.declared.new_team.Making.{Making}
 use Rattle.ak_run.specs.declared.new_team.NewTeam.{NewTeam}
 use Rattle.ak_run.specs.Greeting.{EachMains, FirstHoldsTwo, capacities_in, port_events, told_first, written_from}
-use Rattle.ak_run.specs.Launching.{Book, ComesTo, HasEntered, IsDecided, IsMade, IsRunningTeam, IsTeamOf, TellsTeam}
+use Rattle.ak_run.specs.Launching.{Book, ComesTo, HasEntered, IsDecided, IsMade, IsRunningTeam, IsTeamOf, IsTurnInTime, LaunchInTime, TellsTeam}
 use Rattle.ak_run.specs.NewTeam.{IsNewTeam}
 use Rattle.ak_run.specs.Opening.{FitPlaces}
-use Rattle.ak_run.specs.Recording.{team_fronts}
+use Rattle.ak_run.specs.Recording.{ArePortsInTime, team_fronts}
 use Rattle.ak_run.proofs.Entering.{loopers_on}
 use Rattle.ak_run.proofs.Ways.{kept_count}
 
@@ -65,6 +65,22 @@ running_told apps arguments word book book' team (answer.Started t) same is = ab
 running_told apps arguments word book book' team answer.NotFound same is = absurd is
 running_told apps arguments word book book' team answer.Limit same is = absurd is
 running_told apps arguments word book book' team answer.NoMemory same is = absurd is
+
+-- by one entry
+pub running_in_time : (time later : ℕ) (book book' : Book) (team : ℕ) (l : Launch) → IsRunningTeam book' team l → IsTurnInTime time later book book' → LaunchInTime time later book book' l
+running_in_time time later book book' team (answer.Running number first) is in_time = in_time
+running_in_time time later book book' team (answer.Started t) is in_time = absurd is
+running_in_time time later book book' team answer.NotFound is in_time = absurd is
+running_in_time time later book book' team answer.Limit is in_time = absurd is
+running_in_time time later book book' team answer.NoMemory is in_time = absurd is
+
+-- a team that was launched: its ports, and then the entry
+pub started_in_time : (time between later : ℕ) (book book' : Book) (new : NewTeam) (team first : ℕ) (l : Launch) → l ≢ answer.NoMemory → IsTeamOf new team first l → ArePortsInTime time (team_fronts new) between → IsTurnInTime between later book book' → LaunchInTime time later book book' l
+started_in_time time between later book book' new team first (answer.Started t) some is ports turn = (between, subst (λ (n : NewTeam). ArePortsInTime time (team_fronts n) between) (sym is.0) ports, turn)
+started_in_time time between later book book' new team first answer.NoMemory some is ports turn = absurd (some refl)
+started_in_time time between later book book' new team first (answer.Running number looper) some is ports turn = absurd is
+started_in_time time between later book book' new team first answer.NotFound some is ports turn = absurd is
+started_in_time time between later book book' new team first answer.Limit some is ports turn = absurd is
 
 module _ (apps : List AppText) (book : Book) (word : AppWord) (place team first : ℕ) (heads : book.heads ≡ heads_of apps) (whole : All IsWholeApp apps) (told : decision.Starts place team first ≡ decision_of (launch_of book.heads (state book) word))
     (app : AppText) (app_is : app ≡ get_or apps place app) where

@@ -1,5 +1,5 @@
 -- Main edits the handlers of a looper: one entry at its desk, or none.
-use Rattle.std.proofs.Common.{◌≡◌, ◌≢◌, ℕ, ◌<◌, ◌+◌, cond, List, [], ◌∷◌, ◌++◌, length, All, Option, Some, None, refl, sym, ap, ◌∙◌, subst, append-nil, eq-eqb, ne_eqb}
+use Rattle.std.proofs.Common.{◌≡◌, ◌≢◌, ℕ, ◌<◌, ◌+◌, cond, List, [], ◌∷◌, ◌++◌, length, map, All, Option, Some, None, refl, sym, ap, ◌∙◌, subst, append-nil, eq-eqb, ne_eqb}
 use Rattle.std.specs.Prelude.{get_or, option_map, set, slice_get, unwrap_or}
 use Rattle.std.proofs.lemmas.List.Elements.{All-cons, All-nil}
 use mathlib.Core.Logic.{dite}
@@ -9,6 +9,7 @@ use Rattle.ak_base.specs.Thread.{main_thread}
 use Rattle.ak_turn.specs.Called.{entry_now}
 use Rattle.ak_turn.specs.Entries.{StartsWith}
 use Rattle.ak_turn.specs.Noted.{Noted, StandsIn, note, noted}
+use Rattle.ak_port.specs.declared.port_entry.PortEntry.{PortEntry}
 use Rattle.ak_port.specs.PortCalls as at_ports
 use Rattle.ak_port.specs.ReplySeats.{ReplySeat}
 use Rattle.ak_desk.specs.declared.entry.DeskEvent.{DeskEvent}
@@ -22,19 +23,20 @@ use Rattle.ak_desk.specs.Shared as desks
 use Rattle.ak_diary.specs.Step.{at_desk, desk_entries}
 use Rattle.ak_headline.specs.Main.{begun, edits}
 use Rattle.ak_looper.specs.declared.door.Door.{Door}
+use Rattle.ak_looper.specs.Rosters.{RosterSeat, plain_of}
 use Rattle.ak_run.specs.declared.answers.Edited.{Edited}
 use Rattle.ak_run.specs.declared.answers.Edited.TheVariants as edited
 use Rattle.ak_run.specs.declared.member.Member.{Member}
 use Rattle.ak_run.specs.declared.run.Run.{Run}
 use Rattle.ak_run.specs.Doing.{DoesSo, EditedSo, desk_front}
-use Rattle.ak_run.specs.Recording.{Fronts, GoesBy, fronts_of, member_desk_front}
+use Rattle.ak_run.specs.Recording.{AreInTime, Fronts, GoesBy, fronts, fronts_of, list_at, member_desk_front, member_front}
 use Rattle.ak_run.specs.Sending.{IsAtPlace, edited_event}
 use Rattle.ak_run.proofs.Acting.{called_one, seen_none}
-use Rattle.ak_run.proofs.Acts.{GoesAtBoth, adds_there, one_act}
+use Rattle.ak_run.proofs.Acts.{GoesAtBoth, adds_there, both_goes, one_act}
 use Rattle.ak_run.proofs.Calls.{desk_keeps, roster_front, there_after, there_before}
 use Rattle.ak_run.proofs.Doing.{does_so}
 use Rattle.ak_run.proofs.GoingOn.{desk_in, last_of, plain_on, same_list}
-use Rattle.ak_run.proofs.Recorded.{call_goes}
+use Rattle.ak_run.proofs.Recorded.{others_still, saw_front, sees_front}
 use Rattle.ak_run.proofs.Taking.{beside_set}
 
 -- what is not for want of memory is an entry
@@ -45,25 +47,40 @@ entry_is e (answer.Refused fault) some = refl
 entry_is e answer.NoMemory some = absurd (some refl)
 
 -- at the roster, the reply book and the ports it is no entry
-edit_goes : (looper : ℕ) (n : Noted EntryData) (e : Edit) (came : EditAnswer) (a b : Fronts) → n.entry.plain.event ≡ event.Edited e came → GoesBy [] a b → GoesBy (at_desk looper n ∷ []) a b
-edit_goes looper n e came a b is goes = record {
+edit_goes : (looper : ℕ) (n : Noted EntryData) (e : Edit) (came : EditAnswer) (a b : Fronts) → n.entry.plain.event ≡ event.Edited e came → AreInTime a.time (at_desk looper n ∷ []) b.time → GoesBy [] (record a { time = b.time }) b → GoesBy (at_desk looper n ∷ []) a b
+edit_goes looper n e came a b is in_time goes = record {
   acts = one_act (at_desk looper n ∷ []) (edits looper (record { noted = n; edit = e; answer = came; event_is = is; is = refl }));
+  in_time = in_time;
   roster = goes.roster;
+  roster_on = goes.roster_on;
+  roster_seen = goes.roster_seen;
   book = goes.book;
   book_on = goes.book_on;
   book_seen = goes.book_seen;
   ports = goes.ports;
+  ports_on = goes.ports_on;
+  ports_seen = goes.ports_seen;
 }
 
 module _ (r r' : Run) (place : ℕ) (m : Member) (door : Door) (within : place < length r.members.items) (there : get_or r.members.items place m ≡ m) (is : r'.members.items ≡ set r.members.items place (record m { door = door })) (roster : r'.roster_seat ≡ r.roster_seat)
-    (book : r'.hands.book_seat ≡ r.hands.book_seat) (port : door.port_seat.front ≡ m.door.port_seat.front) (main : m.door.desk_seat.thread ≡ main_thread) (e : Edit) (k l : Clock) where
-  quiet : GoesBy [] (fronts_of r) (fronts_of r')
+    (book : r'.hands.book_seat ≡ r.hands.book_seat) (port : door.port_seat.front ≡ m.door.port_seat.front) (main : m.door.desk_seat.thread ≡ main_thread) (e : Edit) where
+  -- but for main's time nothing went on
+  quiet : GoesBy [] (fronts r'.hands.clock.time (plain_of r.roster_seat) r.hands.book_seat.front (map member_front r.members.items ++ [])) (fronts_of r')
   quiet =
-      let same : noted at_ports.by_number main_thread door.port_seat.front ≡ noted at_ports.by_number main_thread m.door.port_seat.front ++ [] =
-      ap (noted at_ports.by_number main_thread) port ∙ sym (append-nil (noted at_ports.by_number main_thread m.door.port_seat.front)) in
-      let goes : GoesAtBoth place [] r.hands.book_seat.front r'.hands.book_seat.front m.door.port_seat.front door.port_seat.front =
-      subst (λ (b : ReplySeat). GoesAtBoth place [] r.hands.book_seat.front b.front m.door.port_seat.front door.port_seat.front) (sym book) (adds_there place [] r.hands.book_seat.front m.door.port_seat.front door.port_seat.front same) in
-      call_goes r r' place m door within there is [] roster begun goes []
+      let later = r'.hands.clock.time in
+      let ports = map member_front r.members.items ++ [] in
+      let front = door.port_seat.front in
+      let was : list_at ports place ≡ m.door.port_seat.front = saw_front r r' place m door within there is in
+      let goes : GoesAtBoth place later later [] r.hands.book_seat.front r.hands.book_seat.front m.door.port_seat.front front =
+      adds_there place later later [] r.hands.book_seat.front m.door.port_seat.front front refl ([], port ∙ sym (append-nil m.door.port_seat.front)) (ap (noted at_ports.by_number main_thread) port ∙ sym (append-nil (noted at_ports.by_number main_thread m.door.port_seat.front))) in
+      let ports' = (fronts_of r').ports in
+      let same : fronts_of r' ≡ fronts later (plain_of r.roster_seat) r.hands.book_seat.front ports' =
+      ap (λ (s : RosterSeat). fronts later (plain_of s) r'.hands.book_seat.front ports') roster ∙ ap (λ (s : ReplySeat). fronts later (plain_of r.roster_seat) s.front ports') book in
+      subst (GoesBy [] (fronts later (plain_of r.roster_seat) r.hands.book_seat.front ports)) (sym same)
+      (both_goes place [] later later (plain_of r.roster_seat) r.hands.book_seat.front r.hands.book_seat.front ports ports' begun
+      (subst (λ (p : List PortEntry). GoesAtBoth place later later [] r.hands.book_seat.front r.hands.book_seat.front p (list_at ports' place)) (sym was)
+      (subst (λ (p : List PortEntry). GoesAtBoth place later later [] r.hands.book_seat.front r.hands.book_seat.front m.door.port_seat.front p) (sym (sees_front r r' place m door within there is)) goes))
+      (others_still r r' place m door within there is))
 
   -- what main had seen of its desk, and what it has; each other one is as it was
   desk_was : desk_front r place ≡ m.door.desk_seat.front
@@ -83,19 +100,19 @@ module _ (r r' : Run) (place : ℕ) (m : Member) (door : Door) (within : place <
       (λ same. subst (λ (n : ℕ). P n (desk_front r n) (desk_front r' n)) same (subst (λ l. P place l (desk_front r' place)) (sym desk_was) (subst (λ l. P place m.door.desk_seat.front l) (sym desk_at) here)))
       (λ differ. subst (λ l. P looper (desk_front r looper) l) (sym (desk_beside looper (λ same. differ (sym same)))) (beside looper (desk_front r looper) differ))
 
-  goes_on : (e' : Option DeskEvent) → desks.HasAnswered e' k l m.door.desk_seat door.desk_seat → (looper : ℕ) → StartsWith (desk_front r' looper) (desk_front r looper)
-  goes_on e' answered = at_desks (λ looper xs ys. StartsWith ys xs) (desk_keeps e' k l m.door.desk_seat door.desk_seat answered).1 (λ looper l differ. same_list l l refl)
+  goes_on : (e' : Option DeskEvent) → desks.HasAnswered e' r.hands.clock r'.hands.clock m.door.desk_seat door.desk_seat → (looper : ℕ) → StartsWith (desk_front r' looper) (desk_front r looper)
+  goes_on e' answered = at_desks (λ looper xs ys. StartsWith ys xs) (desk_keeps e' r.hands.clock r'.hands.clock m.door.desk_seat door.desk_seat answered).1 (λ looper l differ. same_list l l refl)
 
-  pub edited_does : (result : Edited) → desks.HasAnswered (edited_event e result) k l m.door.desk_seat door.desk_seat → IsAtPlace result (length door.desk_seat.front) → DoesSo (EditedSo place e result) r r'
+  pub edited_does : (result : Edited) → desks.HasAnswered (edited_event e result) r.hands.clock r'.hands.clock m.door.desk_seat door.desk_seat → IsAtPlace result (length door.desk_seat.front) → DoesSo (EditedSo place e result) r r'
   edited_does edited.NoMemory looked at =
-      does_so (EditedSo place e edited.NoMemory) [] r r' refl quiet (plain_on r.roster_seat r'.roster_seat (roster_front r r' place m door within there is roster))
+      does_so (EditedSo place e edited.NoMemory) [] r r' refl (subst (λ (t : ℕ). GoesBy [] (fronts t (plain_of r.roster_seat) r.hands.book_seat.front (map member_front r.members.items ++ [])) (fronts_of r')) (ap (λ (c : Clock). c.time) looked.clocked) quiet) (plain_on r.roster_seat r'.roster_seat (roster_front r r' place m door within there is roster))
       (record {
         on = goes_on None looked;
         same = at_desks (λ looper xs ys. noted desks.by_number main_thread ys ≡ noted desks.by_number main_thread xs) (seen_none desks.by_number m.door.desk_seat door.desk_seat main looked.seen) (λ looper l differ. refl);
       })
       (λ looper. refl)
   edited_does (edited.Entered came at_place) entered at =
-      let entry : EntryData = entry_now stamp_number (entry_with None) k entered.before (event.Edited e came) in
+      let entry : EntryData = entry_now stamp_number (entry_with None) r.hands.clock entered.before (event.Edited e came) in
       let n : Noted EntryData = note entered.before entry in
       let steps = at_desk place n ∷ [] in
       let own : desk_entries place steps ≡ n ∷ [] = ap (λ b. cond b (n ∷ []) [] ++ []) (eq-eqb place place refl) in
@@ -104,7 +121,7 @@ module _ (r r' : Run) (place : ℕ) (m : Member) (door : Door) (within : place <
         steps = steps;
         so = record { noted = n; event_is = refl; place_is = last_of door.desk_seat.front entered.before entry at_place entered.front at; is = refl };
         does = record {
-          goes = edit_goes place n e came (fronts_of r) (fronts_of r') refl quiet;
+          goes = edit_goes place n e came (fronts_of r) (fronts_of r') refl (record { stamped = (refl, tt); time_is = sym (ap (λ (c : Clock). c.time) entered.clocked) }) quiet;
           roster_on = plain_on r.roster_seat r'.roster_seat (roster_front r r' place m door within there is roster);
           desks = at_desks (λ looper xs ys. noted desks.by_number main_thread ys ≡ noted desks.by_number main_thread xs ++ desk_entries looper steps)
               (called_one desks.by_number m.door.desk_seat door.desk_seat main entry entered.before entered.called entered.front ∙ ap (λ ns. noted desks.by_number main_thread m.door.desk_seat.front ++ ns) (sym own))

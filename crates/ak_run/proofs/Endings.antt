@@ -12,9 +12,10 @@ use Rattle.ak_roster.specs.declared.head.AppHead.{AppHead}
 use Rattle.ak_roster.specs.Roster.{RosterData, plain_entries}
 use Rattle.ak_describe.specs.Whole.{heads_of}
 use Rattle.ak_diary.specs.declared.histories.Histories.{Histories}
-use Rattle.ak_diary.specs.Step.{Step}
+use Rattle.ak_diary.specs.Step.{AreStamped, Step}
 use Rattle.ak_headline.specs.Main.{IsMainDiary}
-use Rattle.ak_headline.specs.Run.{ActsIn, HasDone, HasSession, IsOfRun, IsRun, IsSession, port_list}
+use Rattle.ak_desk.specs.Entry.{EntryData}
+use Rattle.ak_headline.specs.Run.{ActsIn, HasDone, HasSession, IsOfRun, IsRun, IsSession, desk_list, desk_maker, port_list}
 use Rattle.ak_looper.specs.declared.kept_door.KeptDoor.{KeptDoor}
 use Rattle.ak_looper.specs.Rosters as rosters
 use Rattle.ak_looper.specs.Rosters.{Object, RosterSeat}
@@ -64,8 +65,8 @@ module _ (r : Run) (runs : IsRunning r) (main : RosterSeat) (on : GoesOnKnowing 
 no_session : (h : Histories) (number : ℕ) → IsSession 0 number → HasSession h number
 no_session h number within = absurd (omega (arith, within.0, within.1))
 
-pub whole : (heads : List AppHead) (short : List ℕ) (h : Histories) → IsRunOfLoopers heads short h → (main : List Step) → IsMainDiary main → HasDone h main_thread main → IsRun heads short h
-whole heads short h run main diary done = record {
+pub whole : (heads : List AppHead) (short : List ℕ) (h : Histories) → IsRunOfLoopers heads short h → (main : List Step) → IsMainDiary main → AreStamped 0 main → HasDone h main_thread main → IsRun heads short h
+whole heads short h run main diary stamped done = record {
   histories = run.histories;
   all = run.all;
   loopers = run.loopers;
@@ -73,6 +74,7 @@ whole heads short h run main diary done = record {
   short_once = run.short_once;
   main = main;
   main_diary = diary;
+  main_stamped = stamped;
   main_done = done;
   few_sessions = omega arith;
   each_session = λ number within. no_session h number within;
@@ -82,6 +84,8 @@ whole heads short h run main diary done = record {
       All-weaker (λ (entry : ReplyEntry). IsOfRun h entry.by.0) (λ (entry : ReplyEntry). ActsIn h 0 entry.by.0) (λ entry of. inl of) h.book run.book_makers;
   port_makers = λ looper.
       All-weaker (λ (entry : PortEntry). IsOfRun h entry.by.0) (λ (entry : PortEntry). ActsIn h 0 entry.by.0) (λ entry of. inl of) (port_list h looper) (run.port_makers looper);
+  desk_makers = λ looper.
+      All-weaker (λ (entry : EntryData). IsOfRun h (desk_maker entry)) (λ (entry : EntryData). ActsIn h 0 (desk_maker entry)) (λ entry of. inl of) (desk_list h looper) (run.desk_makers looper);
 }
 
 -- a run that went on, and started nothing

@@ -1,5 +1,5 @@
 -- What main enters at the roster, and how many loopers it starts.
-use Rattle.std.proofs.Common.{◌≡◌, ◌≢◌, ◌⊎◌, inl, inr, eq-eqb, ne_eqb, ℕ, zero, suc, ◌+◌, ◌<◌, ◌≤◌, Bool, true, false, cond, not, List, [], ◌∷◌, ◌++◌, length, Option, None, Some, refl, sym, ap, ◌∙◌, subst, append-nil, arith, All}
+use Rattle.std.proofs.Common.{◌≡◌, ◌≢◌, ◌⊎◌, inl, inr, eq-eqb, ne_eqb, ℕ, zero, suc, ◌+◌, ◌<◌, ◌≤◌, Bool, true, false, cond, not, List, [], ◌∷◌, ◌++◌, length, map, max, Option, None, Some, refl, sym, ap, ◌∙◌, subst, append-nil, arith, All}
 use Rattle.std.specs.Prelude.{IfSome, IsTrue, IsFalse, slice_get, unwrap_or, option_map, if◌then◌else◌}
 use Rattle.std.specs.List.{Any, find}
 use Rattle.std.proofs.lemmas.Option.{get_or_from_slice_get, slice_get_within}
@@ -29,8 +29,11 @@ use Rattle.ak_roster.proofs.Surface.{carried, loopers-after, started_facts, stat
 use Rattle.ak_headline.specs.Main.{MayEnterRoster}
 use Rattle.ak_looper.specs.declared.kept_door.KeptDoor.{KeptDoor}
 use Rattle.ak_looper.specs.Rosters.{Object}
+use Rattle.ak_looper.proofs.Surface.{last_shown}
 use Rattle.ak_run.specs.Counting.{started_in}
-use Rattle.ak_run.specs.Launching.{Book, HasEntered}
+use Rattle.ak_run.specs.Launching.{Book, HasEntered, IsTurnInTime, turn_step}
+use Rattle.ak_run.specs.Recording.{AreInTime}
+use Rattle.ak_run.proofs.Acts.{no_time}
 use Rattle.ak_run.proofs.RosterTurn.{plain-append}
 
 -- what holds of each holds at a place
@@ -43,7 +46,39 @@ gone_event team true = Some (event.Gone team)
 gone_event team false = None
 
 -- ---- one entry, or none
+-- what stands behind the same is the same
+same_behind : {X : Type 0} (xs ys zs : List X) → xs ++ ys ≡ xs ++ zs → ys ≡ zs
+same_behind [] ys zs same = same
+same_behind (x ∷ xs) ys zs same = same_behind xs ys zs (cc same)
+
+-- a turn without an entry takes no time
+pub no_turn : (time : ℕ) (book book' : Book) → book'.entries ≡ book.entries → IsTurnInTime time time book book'
+no_turn time book book' same added is =
+    let none : [] ≡ added = same_behind book.entries [] added (append-nil book.entries ∙ sym same ∙ is) in
+    subst (λ (l : List (EntryWithObjects Object)). AreInTime time (map (turn_step book.entries) l) time) none (no_time time)
+
+pub none_took_time : (time : ℕ) (book book' : Book) → HasEntered None 0 book book' → IsTurnInTime time time book book'
+none_took_time time book book' entered = no_turn time book book' (by_events entered.added entered.events entered.entries)
+  where
+    by_events : (added : List (EntryWithObjects Object)) → map (λ (entry : EntryWithObjects Object). entry.plain.event) added ≡ [] → book'.entries ≡ book.entries ++ added → book'.entries ≡ book.entries
+    by_events [] events is = is ∙ append-nil book.entries
+    by_events (x ∷ xs) events is = absurd cc
+
 module _ (book book' : Book) (clock clock' : Clock) where
+  pub one_in_time : (what : RosterEvent) (objects : List (Option Object)) (doors : List KeptDoor) → Enters what objects doors book book' clock clock' → IsTurnInTime clock.time clock'.time book book'
+  one_in_time what objects doors enters added is =
+      let entry = new_entry clock book.entries what objects in
+      let same : entry ∷ [] ≡ added = same_behind book.entries (entry ∷ []) added (sym (ap (λ (r : Book). r.entries) enters.0) ∙ is) in
+      subst (λ (l : List (EntryWithObjects Object)). AreInTime clock.time (map (turn_step book.entries) l) clock'.time) same
+      (record { stamped = (ap (λ (n : ℕ). 1 + max clock.time n) (last_shown book.entries), tt); time_is = sym (ap (λ (c : Clock). c.time) enters.1) })
+
+  pub none_in_time : Stays book book' clock clock' → IsTurnInTime clock.time clock'.time book book'
+  none_in_time stays = subst (λ (later : ℕ). IsTurnInTime clock.time later book book') (sym (ap (λ (c : Clock). c.time) stays.1)) (no_turn clock.time book book' (ap (λ (r : Book). r.entries) stays.0))
+
+  pub gone_in_time : (team : ℕ) (left : Bool) → (IsTrue left → Enters (event.Gone team) [] book.doors book book' clock clock') → (IsFalse left → Stays book book' clock clock') → IsTurnInTime clock.time clock'.time book book'
+  gone_in_time team true enters stays = one_in_time (event.Gone team) [] book.doors (enters refl)
+  gone_in_time team false enters stays = none_in_time (stays refl)
+
   pub one_entered : (n : ℕ) (what : RosterEvent) (objects : List (Option Object)) (doors : List KeptDoor) → MayEnterRoster what → clock.thread.0 ≡ main_thread → Enters what objects doors book book' clock clock' → count_of book.heads what ≡ n → HasEntered (Some what) n book book'
   one_entered n what objects doors may main enters count =
       let entry = new_entry clock book.entries what objects in

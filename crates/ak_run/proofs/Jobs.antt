@@ -23,7 +23,7 @@ use Rattle.ak_looper.specs.Rosters.{LeadsTo, RosterSeat, maker_of, plain_of}
 use Rattle.ak_looper.specs.Stands.{DoorStands, StartsTeam, doors_kept}
 use Rattle.ak_run.specs.declared.launching.Team.{Team}
 use Rattle.ak_run.specs.declared.new_looper.NewLooper.{NewLooper}
-use Rattle.ak_run.specs.Jobs.{CanStart, facts_in}
+use Rattle.ak_run.specs.Jobs.{CanStart, StartsAt, facts_in}
 
 -- threads with one number are one
 same_thread : (a b : ThreadId) → a.0 ≡ b.0 → a ≡ b
@@ -66,6 +66,10 @@ module _ (heads : List AppHead) (plans : List PlanParts) (k : ℕ) (t : Team) (n
       → All (λ (way : ℕ × Door). LeadsTo roster way.0 way.1.port_seat.lock way.1.desk_seat.lock) ds → All (DoorStands [] job.roster_seat) ds
   all_stand ds new lead = λ i d within. stands _ (new i d within) (lead i d within)
 
+  -- whatever its time
+  any_launch : (time : ℕ) → Any (StartsAt (facts_in heads t t.first s.new.desk) time) roster.front → Any (StartsTeam (facts_in heads t t.first s.new.desk)) roster.front
+  any_launch time any = (any.0, any.1, any.2, any.3, any.4.0)
+
   pub ready : IsReady job
   ready = record {
     heads = heads;
@@ -73,7 +77,7 @@ module _ (heads : List AppHead) (plans : List PlanParts) (k : ℕ) (t : Team) (n
     desk_opening = s.new.desk;
     desk_is = ap (λ (seat : desks.DeskSeat). seat.opening) own_desk ∙ s.new.opening_is;
     desk_looper = s.new.opens.looper_is ∙ sym (number ∙ s.new.number);
-    launched = subst (λ (seat : RosterSeat). Any (StartsTeam l) seat.front) (sym roster_seat) (subst (λ (f : LooperFacts). Any (StartsTeam f) roster.front) facts_are (s.launched s.new.desk));
+    launched = subst (λ (seat : RosterSeat). Any (StartsTeam l) seat.front) (sym roster_seat) (subst (λ (f : LooperFacts). Any (StartsTeam f) roster.front) facts_are (any_launch t.time (s.launched s.new.desk)));
     of_team = and_from _ _ (le-leb job.first job.number (omega (arith, first, number, s.new.number))) (lt-ltb job.number (job.first + job.loopers) (omega (arith, first, number, loopers, s.new.number, within_team)));
     within = omega (arith, first, loopers, s.within);
     book_nothing = subst (λ (seat : books.ReplySeat). noted books.maker_of seat.thread seat.front ≡ []) (sym book_seat) s.book_nothing;

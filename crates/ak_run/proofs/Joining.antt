@@ -1,5 +1,5 @@
 -- A looper whose thread was joined.
-use Rattle.std.proofs.Common.{◌≡◌, ℕ, List, ◌∷◌, All, Contains, Option, None, Some, refl, sym, ap, ◌∙◌, subst, arith}
+use Rattle.std.proofs.Common.{◌≡◌, ℕ, List, ◌∷◌, All, Any, Contains, Option, None, Some, refl, sym, ap, ◌∙◌, subst, arith}
 use Rattle.std.specs.Prelude.{slice_get}
 use Rattle.std.proofs.lemmas.List.Elements.{All-weaker, Contains-append_left, Contains-append_right}
 use Rattle.ak_base.specs.Thread.{looper_thread}
@@ -11,11 +11,12 @@ use Rattle.ak_roster.specs.declared.head.AppHead.{AppHead}
 use Rattle.ak_roster.specs.Roster.{objects_of}
 use Rattle.ak_port.specs.PortCalls.{PortSeat}
 use Rattle.ak_port.specs.ReplySeats.{ReplySeat}
+use Rattle.ak_action.specs.declared.state.DeskState.{DeskState}
 use Rattle.ak_desk.specs.Shared.{DeskSeat}
 use Rattle.ak_looper.specs.declared.door.Door.{Door}
 use Rattle.ak_looper.specs.declared.job.LooperEnd.{LooperEnd}
 use Rattle.ak_looper.specs.declared.job.LooperJob.{LooperJob}
-use Rattle.ak_looper.specs.Job.{HasLived, IsReady}
+use Rattle.ak_looper.specs.Job.{HasLived, IsReady, facts_of}
 use Rattle.ak_looper.specs.Doors.{door_object}
 use Rattle.ak_looper.specs.Rosters.{Object, RosterSeat}
 use Rattle.ak_run.specs.declared.gathering.Joined.{Joined}
@@ -23,6 +24,7 @@ use Rattle.ak_run.specs.declared.member.Member.{Member}
 use Rattle.ak_run.specs.declared.new_looper.Shared.{Shared}
 use Rattle.ak_run.specs.Doors.{HasNoNames}
 use Rattle.ak_run.specs.Gathering.{GoesOnKnowing, IsJoined, TookIn}
+use Rattle.ak_run.specs.Jobs.{StartsAt}
 use Rattle.ak_run.specs.Running.{IsMember}
 
 -- ---- a seat that takes in what another one knew
@@ -70,6 +72,7 @@ member_still heads shared roster roster' m on is =
       at_roster = is.at_roster;
       heads_are = is.heads_are;
       seen = subst (λ (front : List (EntryWithObjects Object)). StartsWith front m.job.value.roster_seat.front) (sym on.front) is.seen;
+      begins = is.begins;
       by_main = is.by_main;
       taker = is.taker;
       taker_is = is.taker_is;
@@ -98,6 +101,7 @@ joined_still heads roster roster' book book' j on_roster on_book is =
       desk = is.desk;
       desk_opening = is.desk_opening;
       job_desk = is.job_desk;
+      begins = is.begins;
       by_main = is.by_main;
       leads = ap (λ (front : List (EntryWithObjects Object)). slice_get (objects_of front) j.number) on_roster.front ∙ is.leads;
       kind = is.kind;
@@ -131,6 +135,7 @@ is_joined heads shared roster roster' book book' m end j is lived number job gav
       desk = is.desk;
       desk_opening = ap (λ (s : DeskSeat). s.opening) at_desk ∙ is.desk_opening;
       job_desk = ap (λ (job : LooperJob). job.own.desk_seat.opening) job ∙ is.job_desk;
+      begins = subst (λ (job : LooperJob). (desk : DeskState) → Any (StartsAt (facts_of job heads desk) job.hands.clock.time) job.roster_seat.front) (sym job) is.begins;
       by_main = ap (λ (s : PortSeat). s.thread) at_port ∙ is.by_main;
       leads =
           ap (λ (s : RosterSeat). slice_get (objects_of s.front) j.number) at_roster ∙ ap (slice_get (objects_of roster.front)) number ∙ is.leads

@@ -5,7 +5,6 @@ use Rattle.ak_base.specs.Thread.{main_thread}
 use Rattle.ak_base.specs.declared.app_word.AppWord.{AppWord}
 use Rattle.ak_message.specs.Message.{MessageData}
 use Rattle.ak_turn.specs.Entries.{StartsWith}
-use Rattle.ak_turn.specs.declared.clock.Clock.{Clock}
 use Rattle.ak_describe.specs.declared.described.AppText.{AppText}
 use Rattle.ak_diary.specs.Step.{Step}
 use Rattle.ak_port.specs.PortCalls as at_ports
@@ -56,13 +55,13 @@ module _ (apps : List AppText) (word : AppWord) (arguments : Option MessageData)
   runs_so answer.ThreadFault is sends = absurd is
 
 -- acts of which one thing holds are acts of which another does
-pub acts_as : (looper : ℕ) (P Q : List Step → Type 0) (book book' : List ReplyEntry) (port port' : List PortEntry) → ((steps : List Step) → P steps → Q steps) → ActsAtBoth looper P book book' port port' → ActsAtBoth looper Q book book' port port'
-acts_as looper P Q book book' port port' tells acts = record { steps = acts.steps; so = tells acts.steps acts.so; acts = acts.acts; goes = acts.goes }
+pub acts_as : (looper time later : ℕ) (P Q : List Step → Type 0) (book book' : List ReplyEntry) (port port' : List PortEntry) → ((steps : List Step) → P steps → Q steps) → ActsAtBoth looper time later P book book' port port' → ActsAtBoth looper time later Q book book' port port'
+acts_as looper time later P Q book book' port port' tells acts = record { steps = acts.steps; so = tells acts.steps acts.so; acts = acts.acts; goes = acts.goes }
 
 -- a call at one looper's port, by what its entry there tells
 pub does_as : (r r' : Run) (place : ℕ) (m : Member) (door : Door) (within : place < length r.members.items) (there : get_or r.members.items place m ≡ m) (is : r'.members.items ≡ set r.members.items place (record m { door = door })) (roster : r'.roster_seat ≡ r.roster_seat) (Q : List Step → Type 0)
-    (e : Option PortEvent) (k l : Clock) → door.desk_seat.front ≡ m.door.desk_seat.front → m.door.port_seat.thread ≡ main_thread → IfSome e MayEnterPort → at_ports.HasAnswered e k l m.door.port_seat door.port_seat → r'.hands.book_seat ≡ r.hands.book_seat
+    (e : Option PortEvent) → door.desk_seat.front ≡ m.door.desk_seat.front → m.door.port_seat.thread ≡ main_thread → IfSome e MayEnterPort → at_ports.HasAnswered e r.hands.clock r'.hands.clock m.door.port_seat door.port_seat → r'.hands.book_seat ≡ r.hands.book_seat
     → ((steps : List Step) → EnteredSo place r' steps e → Q steps) → DoesSo Q r r'
-does_as r r' place m door within there is roster Q e k l desk_front main may answered book tells =
+does_as r r' place m door within there is roster Q e desk_front main may answered book tells =
     one_does r r' place m door within there is roster Q desk_front
-    (acts_as place (λ (steps : List Step). EnteredSo place r' steps e) Q r.hands.book_seat.front r'.hands.book_seat.front m.door.port_seat.front door.port_seat.front tells (post_acts r r' place m door within there is roster e k l main may answered book))
+    (acts_as place r.hands.clock.time r'.hands.clock.time (λ (steps : List Step). EnteredSo place r' steps e) Q r.hands.book_seat.front r'.hands.book_seat.front m.door.port_seat.front door.port_seat.front tells (post_acts r r' place m door within there is roster e main may answered book))

@@ -12,27 +12,33 @@ use Rattle.ak_looper.specs.Job.{facts_of}
 use Rattle.ak_looper.specs.Rosters.{Object, RosterSeat}
 use Rattle.ak_looper.specs.Stands.{StartsTeam}
 use Rattle.ak_run.specs.declared.gathering.Joined.{Joined}
+use Rattle.ak_run.specs.Jobs.{StartsAt}
 use Rattle.ak_run.specs.Gathering.{IsJoined, IsRosterOf}
 use Rattle.ak_run.proofs.Paired.{AllAreJoined}
 use Rattle.ak_run.proofs.Placed.{number_at}
 use Rattle.ak_run.proofs.Taking.{all_at}
 use Rattle.ak_run.proofs.TeamStarts.{any_more}
 
--- the launch of its team, as its job had seen it, is in the whole list
+-- what its job had seen is in the whole list
+any_whole : (P : EntryWithObjects Object → Type 0) (heads : List AppHead) (main : RosterSeat) (book : ReplySeat) (j : Joined) (is : IsJoined heads main book j) (roster : RosterData KeptDoor Object) → IsRosterOf main roster → Any P j.job.value.roster_seat.front → Any P roster.entries
+any_whole P heads main book j is roster of any =
+    let seen : Any P main.front = subst (λ (front : List (EntryWithObjects Object)). Any P front) (sym is.seen.1) (any_more P j.job.value.roster_seat.front is.seen.0 any) in
+    subst (λ (entries : List (EntryWithObjects Object)). Any P entries) (sym of.goes_on) (any_more P main.front of.between seen)
+
+-- the launch of its team, and the stamp of that is the time at which it begins
+pub launched_at : (heads : List AppHead) (main : RosterSeat) (book : ReplySeat) (j : Joined) (is : IsJoined heads main book j) (roster : RosterData KeptDoor Object) → IsRosterOf main roster
+    → Any (StartsAt (facts_of j.job.value is.lived.heads is.lived.desk_opening) j.job.value.hands.clock.time) roster.entries
+launched_at heads main book j is roster of =
+    let both : Some is.lived.heads ≡ Some heads = sym is.lived.heads_are ∙ is.heads_are in
+    let same : is.lived.heads ≡ heads = cc both in
+    any_whole (StartsAt (facts_of j.job.value is.lived.heads is.lived.desk_opening) j.job.value.hands.clock.time) heads main book j is roster of
+    (subst (λ (hs : List AppHead). Any (StartsAt (facts_of j.job.value hs is.lived.desk_opening) j.job.value.hands.clock.time) j.job.value.roster_seat.front) (sym same) (is.begins is.lived.desk_opening))
+
 pub launched_whole : (heads : List AppHead) (main : RosterSeat) (book : ReplySeat) (j : Joined) (is : IsJoined heads main book j) (roster : RosterData KeptDoor Object) → IsRosterOf main roster
     → Any (StartsTeam (facts_of j.job.value is.lived.heads is.lived.desk_opening)) roster.entries
 launched_whole heads main book j is roster of =
-    let job = j.job.value in
-    let heads_both : Some is.ready.heads ≡ Some is.lived.heads = sym is.ready.heads_are ∙ is.lived.heads_are in
-    let desk_both : Some is.ready.desk_opening ≡ Some is.lived.desk_opening = sym is.ready.desk_is ∙ is.lived.desk_is in
-    let same_heads : is.ready.heads ≡ is.lived.heads = cc heads_both in
-    let same_desk : is.ready.desk_opening ≡ is.lived.desk_opening = cc desk_both in
-    let l = facts_of job is.lived.heads is.lived.desk_opening in
-    let first : Any (StartsTeam l) job.roster_seat.front =
-    subst (λ (d : DeskState). Any (StartsTeam (facts_of job is.lived.heads d)) job.roster_seat.front) same_desk
-    (subst (λ (hs : List AppHead). Any (StartsTeam (facts_of job hs is.ready.desk_opening)) job.roster_seat.front) same_heads is.ready.launched) in
-    let seen : Any (StartsTeam l) main.front = subst (λ (front : List (EntryWithObjects Object)). Any (StartsTeam l) front) (sym is.seen.1) (any_more (StartsTeam l) job.roster_seat.front is.seen.0 first) in
-    subst (λ (entries : List (EntryWithObjects Object)). Any (StartsTeam l) entries) (sym of.goes_on) (any_more (StartsTeam l) main.front of.between seen)
+    let any = launched_at heads main book j is roster of in
+    (any.0, any.1, any.2, any.3, any.4.0)
 
 -- the looper of that number is of a team that was launched
 pub record IsLaunched (heads : List AppHead) (entries : List (EntryWithObjects Object)) (n : ℕ) : Type 0 where

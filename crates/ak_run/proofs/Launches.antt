@@ -10,6 +10,7 @@ use Rattle.ak_message.specs.Message.{MessageData}
 use Rattle.ak_turn.specs.Noted.{note, noted}
 use Rattle.ak_base.specs.Thread.{main_thread}
 use Rattle.ak_turn.specs.Seats.{IsGiven, IsNext, KnowsWhole, at_leisure, entered_by}
+use Rattle.ak_turn.proofs.Surface.{starts_itself}
 use Rattle.ak_roster.specs.declared.answer.FindAnswer.{FindAnswer}
 use Rattle.ak_roster.specs.declared.answer.FindAnswer.TheVariants as found_by
 use Rattle.ak_roster.specs.declared.entry.EntryWithObjects.{EntryWithObjects}
@@ -23,13 +24,12 @@ use Rattle.ak_roster.specs.Heads.{team_for}
 use Rattle.ak_roster.specs.Machine.{outcome_found, runs_team, state_of}
 use Rattle.ak_roster.specs.Roster.{objects_of, plain_entries, state}
 use Rattle.ak_describe.specs.Whole.{heads_of}
-use Rattle.ak_diary.specs.Step.{Step, at_roster, desk_entries, desk_entry, port_sights, roster_sights, saw_roster}
+use Rattle.ak_diary.specs.Step.{Step, at_roster, desk_entries, desk_entry, saw_roster}
 use Rattle.ak_headline.specs.Main.{finds_gone}
 use Rattle.ak_headline.specs.Run.{roster_maker}
 use Rattle.ak_describe.specs.declared.described.AppText.{AppText}
 use Rattle.ak_port.specs.declared.port_entry.PortEntry.{PortEntry}
 use Rattle.ak_looper.specs.Rosters.{Object, RosterSeat, by_number, plain_of}
-use Rattle.ak_looper.specs.Stands.{StartsTeam}
 use Rattle.ak_run.specs.declared.answers.Found.{Found}
 use Rattle.ak_run.specs.declared.launching.Launch.{Launch}
 use Rattle.ak_run.specs.declared.launching.Launch.TheVariants as launch
@@ -42,13 +42,13 @@ use Rattle.ak_run.specs.Doing.{DoesSo, FindsAt, FoundSo, LaunchesAt, desk_front}
 use Rattle.ak_run.specs.Entering.{DoesWith, EntersLaunch, EntersRunning, LaunchesLast}
 use Rattle.ak_run.specs.Finding.{IsFoundAt, LooksUp}
 use Rattle.ak_run.specs.Greeting.{at_looper, capacities_in, made_from, start_entries, told_first, written_from}
-use Rattle.ak_run.specs.Jobs.{facts_in}
-use Rattle.ak_run.specs.Launching.{Book, ByMain, ComesTo, HasEntered, HasStarted, TellsTeam}
+use Rattle.ak_run.specs.Jobs.{StartsAt, facts_in}
+use Rattle.ak_run.specs.Launching.{Book, ByMain, ComesTo, HasEntered, HasStarted, IsTurnInTime, LaunchInTime, TellsTeam, turn_step}
 use Rattle.ak_run.specs.NewTeam.{IsNewTeam, IsOneOf}
-use Rattle.ak_run.specs.Recording.{GoesBy, fronts, fronts_of, fronts_with, list_at, member_front, new_front, team_fronts}
+use Rattle.ak_run.specs.Recording.{GoesBy, fronts, fronts_of, fronts_with, member_front, new_front, team_fronts}
 use Rattle.ak_run.specs.Running.{IsRunning, KeepsRest, Stands}
 use Rattle.ak_run.specs.Starting.{HasEnteredLaunch, launched_fronts}
-use Rattle.ak_run.proofs.Acting.{turn_no_edits, turn_step}
+use Rattle.ak_run.proofs.Acting.{turn_no_edits}
 use Rattle.ak_run.proofs.Acts.{goes_then, nothing_after, one_act}
 use Rattle.ak_run.proofs.Doing.{does_with}
 use Rattle.ak_run.proofs.GoingOn.{last_of, plain_on, same_desks, some_same}
@@ -106,6 +106,10 @@ module _ (r r' : Run) (is : IsRunning r) (keeps : KeepsRest r r') (members : r'.
   thread : r.roster_seat.thread ≡ main_thread
   thread = r.roster_thread ∙ r.main
 
+  -- main's time went on by that entry alone
+  abbrev InTime : Type 0
+  InTime = IsTurnInTime r.hands.clock.time r'.hands.clock.time book book'
+
   module _ (what : Option RosterEvent) (n : ℕ) (entered : HasEntered what n book book') where
     on : RosterOn is.heads n r.roster_seat r'.roster_seat
     on = subst (λ h. RosterOn h n r.roster_seat r'.roster_seat) heads_same (goes_on r.roster_seat given r'.roster_seat book book' n r.roster_idle thread seen known list what entered same one knows)
@@ -130,29 +134,31 @@ module _ (r r' : Run) (is : IsRunning r) (keeps : KeepsRest r r') (members : r'.
     turn_steps = map (turn_step book.entries) entered.added
 
     -- main's turn is one act of its own at most
-    turn_beside : (new : List (List PortEntry)) → GoesBy turn_steps (fronts_with r new) (fronts_with r' new)
-    turn_beside new =
+    turn_beside : (time : ℕ) → IsTurnInTime time r'.hands.clock.time book book' → (new : List (List PortEntry)) → GoesBy turn_steps (fronts time (plain_of r.roster_seat) r.hands.book_seat.front (map member_front r.members.items ++ new)) (fronts_with r' new)
+    turn_beside time in_time new =
         let ports = map member_front r.members.items ++ new in
-        subst (GoesBy turn_steps (fronts_with r new)) (sym (ap (λ l. fronts (plain_of r'.roster_seat) l (map member_front r'.members.items ++ new)) replies ∙ ap (λ v. fronts (plain_of r'.roster_seat) r.hands.book_seat.front (map member_front v.items ++ new)) members))
-        (turn_goes r.roster_seat given r'.roster_seat book book' n r.roster_idle thread seen known list what entered same one knows r.hands.book_seat.front ports)
+        let later = r'.hands.clock.time in
+        subst (GoesBy turn_steps (fronts time (plain_of r.roster_seat) r.hands.book_seat.front ports))
+        (sym (ap (λ l. fronts later (plain_of r'.roster_seat) l (map member_front r'.members.items ++ new)) replies ∙ ap (λ v. fronts later (plain_of r'.roster_seat) r.hands.book_seat.front (map member_front v.items ++ new)) members))
+        (turn_goes r.roster_seat given r'.roster_seat book book' n r.roster_idle thread seen known list what entered same one knows time later in_time r.hands.book_seat.front ports)
 
-    does_turn : (P : List Step → Type 0) → P turn_steps → DoesWith P [] r r'
-    does_turn P so = record {
+    does_turn : InTime → (P : List Step → Type 0) → P turn_steps → DoesWith P [] r r'
+    does_turn in_time P so = record {
       steps = turn_steps;
       so = so;
-      goes = turn_beside [];
+      goes = turn_beside r.hands.clock.time in_time [];
       no_edits = turn_no_edits book.entries entered.added;
       roster_on = plain_on r.roster_seat r'.roster_seat on.on;
       desks_on = same_desks r r' members;
     }
 
   -- no looper was started
-  pub runs_on : (what : Option RosterEvent) → HasEntered what 0 book book' → IsRunning r'
-  runs_on what entered = record {
+  pub runs_on : InTime → (what : Option RosterEvent) → HasEntered what 0 book book' → IsRunning r'
+  runs_on in_time what entered = record {
     heads = is.heads;
     stands = now what 0 entered;
     all = started what 0 entered ∙ nothing_more (length r'.members.items);
-    recorded = record_on (fronts_of r) (fronts_of r') (desk_front r) (desk_front r') (record { steps = map (turn_step book.entries) entered.added; goes = turn_beside what 0 entered []; no_edits = turn_no_edits book.entries entered.added })
+    recorded = record_on (fronts_of r) (fronts_of r') (desk_front r) (desk_front r') (record { steps = map (turn_step book.entries) entered.added; goes = turn_beside what 0 entered r.hands.clock.time in_time []; no_edits = turn_no_edits book.entries entered.added })
         (same_desks r r' members).same is.recorded;
   }
     where
@@ -164,9 +170,9 @@ module _ (r r' : Run) (is : IsRunning r) (keeps : KeepsRest r r') (members : r'.
   count_before what entered = count what 0 entered ∙ sym (count' what 0 entered)
 
   -- ---- a look-up
-  pub finds : (word : AppWord) (found : Option Running) (place : ℕ) → HasEntered (Some (event.Find word (outcome_found found))) 0 book book' → team_for book.heads (state book).running word ≡ found → length r'.roster_seat.front ≡ place + 1
+  pub finds : InTime → (word : AppWord) (found : Option Running) (place : ℕ) → HasEntered (Some (event.Find word (outcome_found found))) 0 book book' → team_for book.heads (state book).running word ≡ found → length r'.roster_seat.front ≡ place + 1
       → DoesSo (FindsAt (heads_of r.apps.items) word found place) r r'
-  finds word found place entered is_found at =
+  finds in_time word found place entered is_found at =
       let what = event.Find word (outcome_found found) in
       let x = one_event what entered.added entered.events in
       let before = plain_entries book.entries in
@@ -178,41 +184,28 @@ module _ (r r' : Run) (is : IsRunning r) (keeps : KeepsRest r r') (members : r'.
         place_is = last_of r'.roster_seat.front book.entries x.0 place (whole (Some what) 0 entered ∙ entered.entries ∙ ap (λ l. book.entries ++ l) x.1) at ∙ sym (length-map book.entries (λ (entry : EntryWithObjects Object). entry.plain));
         is = ap (map (turn_step book.entries)) x.1;
       } in
-      does_with (FindsAt (heads_of r.apps.items) word found place) (FindsAt (heads_of r.apps.items) word found place) r r' (λ steps does. does) (does_turn (Some what) 0 entered (FindsAt (heads_of r.apps.items) word found place) so)
+      does_with (FindsAt (heads_of r.apps.items) word found place) (FindsAt (heads_of r.apps.items) word found place) r r' (λ steps does. does) (does_turn (Some what) 0 entered in_time (FindsAt (heads_of r.apps.items) word found place) so)
 
-  pub finds_nothing : HasEntered None 0 book book' → DoesSo (λ steps. steps ≡ []) r r'
-  finds_nothing entered =
+  pub finds_nothing : InTime → HasEntered None 0 book book' → DoesSo (λ steps. steps ≡ []) r r'
+  finds_nothing in_time entered =
       let none : map (turn_step book.entries) entered.added ≡ [] = ap (map (turn_step book.entries)) (no_event entered.added entered.events) in
-      does_with (λ steps. steps ≡ []) (λ steps. steps ≡ []) r r' (λ steps does. does) (does_turn None 0 entered (λ steps. steps ≡ []) none)
+      does_with (λ steps. steps ≡ []) (λ steps. steps ≡ []) r r' (λ steps does. does) (does_turn None 0 entered in_time (λ steps. steps ≡ []) none)
 
   -- whatever it comes to
-  pub found_does : (word : AppWord) (a : FindAnswer) (result : Found) → LooksUp word a book book' → IsFoundAt a (length r'.roster_seat.front) result → DoesSo (FoundSo (heads_of r.apps.items) word result) r r'
-  found_does word (found_by.Team team first loopers) result looks at =
-      let does = finds word (Some (record { team = team; description = looks.0; first = first; loopers = loopers })) at.0 looks.2 looks.1 at.2 in
+  pub found_does : InTime → (word : AppWord) (a : FindAnswer) (result : Found) → LooksUp word a book book' → IsFoundAt a (length r'.roster_seat.front) result → DoesSo (FoundSo (heads_of r.apps.items) word result) r r'
+  found_does in_time word (found_by.Team team first loopers) result looks at =
+      let does = finds in_time word (Some (record { team = team; description = looks.0; first = first; loopers = loopers })) at.0 looks.2 looks.1 at.2 in
       subst (λ (f : Found). DoesSo (FoundSo (heads_of r.apps.items) word f) r r') (sym at.1) (record { steps = does.steps; so = (looks.0, does.so); does = does.does })
-  found_does word found_by.NoTeam result looks at = subst (λ (f : Found). DoesSo (FoundSo (heads_of r.apps.items) word f) r r') (sym at.1) (finds word None at.0 looks.1 looks.0 at.2)
-  found_does word found_by.NoMemory result looks at = subst (λ (f : Found). DoesSo (FoundSo (heads_of r.apps.items) word f) r r') (sym at) (finds_nothing looks)
+  found_does in_time word found_by.NoTeam result looks at = subst (λ (f : Found). DoesSo (FoundSo (heads_of r.apps.items) word f) r r') (sym at.1) (finds in_time word None at.0 looks.1 looks.0 at.2)
+  found_does in_time word found_by.NoMemory result looks at = subst (λ (f : Found). DoesSo (FoundSo (heads_of r.apps.items) word f) r r') (sym at) (finds_nothing in_time looks)
 
   -- ---- a team is ended
-  ports_still : (looper : ℕ) → StartsWith (list_at (fronts_of r').ports looper) (list_at (fronts_of r).ports looper)
-  ports_still looper = ([], ap (λ v. list_at (map member_front v.items ++ []) looper) members ∙ sym (append-nil (list_at (fronts_of r).ports looper)))
-
   -- by such steps, at the roster alone
-  closes : (P : List Step → List Step → Type 0) (what : Option RosterEvent) (entered : HasEntered what 0 book book') (steps : List Step) → ((so_far : List Step) → IsRecordedAtRoster so_far r → P so_far steps) → GoesBy steps (fronts_of r) (fronts_of r') → ((looper : ℕ) → desk_entries looper steps ≡ []) → All (StartsWith (plain_of r'.roster_seat)) (roster_sights steps)
-      → ((looper : ℕ) → port_sights looper steps ≡ []) → ClosesSo P r r'
-  closes P what entered steps so goes no_edits seen none = record {
-    steps = steps;
-    so = so;
-    goes = goes;
-    no_edits = no_edits;
-    roster_on = plain_on r.roster_seat r'.roster_seat (on what 0 entered).on;
-    ports_on = ports_still;
-    roster_seen = seen;
-    ports_seen = λ looper. subst (All (StartsWith (list_at (fronts_of r').ports looper))) (sym (none looper)) (All-nil (StartsWith (list_at (fronts_of r').ports looper)));
-  }
+  closes : (P : List Step → List Step → Type 0) (steps : List Step) → ((so_far : List Step) → IsRecordedAtRoster so_far r → P so_far steps) → GoesBy steps (fronts_of r) (fronts_of r') → ((looper : ℕ) → desk_entries looper steps ≡ []) → ClosesSo P r r'
+  closes P steps so goes no_edits = record { steps = steps; so = so; goes = goes; no_edits = no_edits }
 
-  pub leaves : (team : ℕ) (o : Option Running) → LeavesBook team o book book' → ClosesSo (λ so_far. LeavesSo (heads_of r.apps.items) so_far team o) r r'
-  leaves team (Some running) left =
+  pub leaves : InTime → (team : ℕ) (o : Option Running) → LeavesBook team o book book' → ClosesSo (λ so_far. LeavesSo (heads_of r.apps.items) so_far team o) r r'
+  leaves in_time team (Some running) left =
       let what = Some (event.Gone team) in
       let entered = left.1 in
       let x = one_event (event.Gone team) entered.added entered.events in
@@ -220,22 +213,32 @@ module _ (r r' : Run) (is : IsRunning r) (keeps : KeepsRest r r') (members : r'.
       let heads : book.heads ≡ heads_of r.apps.items = heads_same ∙ is.stands.heads_are in
       let n = note before x.0.plain in
       let steps : List Step = at_roster n ∷ [] in
-      let goes : GoesBy steps (fronts_of r) (fronts_of r') = subst (λ (l : List (EntryWithObjects Object)). GoesBy (map (turn_step book.entries) l) (fronts_of r) (fronts_of r')) x.1 (turn_beside what 0 entered []) in
-      closes (λ so_far. EntersGone (heads_of r.apps.items) team running) what entered steps (λ so_far is_told. record { noted = n; event_is = x.2; runs = ap (λ hs. find (runs_team team) (state_of hs before).running) (sym heads) ∙ left.0; is = refl }) goes
-      (λ looper. refl) (All-nil (StartsWith (plain_of r'.roster_seat))) (λ looper. refl)
-  leaves team None left =
+      let goes : GoesBy steps (fronts_of r) (fronts_of r') = subst (λ (l : List (EntryWithObjects Object)). GoesBy (map (turn_step book.entries) l) (fronts_of r) (fronts_of r')) x.1 (turn_beside what 0 entered r.hands.clock.time in_time []) in
+      closes (λ so_far. EntersGone (heads_of r.apps.items) team running) steps (λ so_far is_told. record { noted = n; event_is = x.2; runs = ap (λ hs. find (runs_team team) (state_of hs before).running) (sym heads) ∙ left.0; is = refl }) goes (λ looper. refl)
+  leaves in_time team None left =
       let entered = left.1 in
       let seen = plain_of r'.roster_seat in
       let steps : List Step = saw_roster seen ∷ [] in
       let none = no_event entered.added entered.events in
       let list : seen ≡ plain_entries book.entries = ap (λ (l : List (EntryWithObjects Object)). plain_entries l) (whole None 0 entered ∙ entered.entries ∙ ap (λ l. book.entries ++ l) none ∙ append-nil book.entries) in
       let heads : book.heads ≡ heads_of r.apps.items = heads_same ∙ is.stands.heads_are in
-      let quiet : GoesBy [] (fronts_of r) (fronts_of r') = subst (λ (l : List (EntryWithObjects Object)). GoesBy (map (turn_step book.entries) l) (fronts_of r) (fronts_of r')) none (turn_beside None 0 entered []) in
-      let goes : GoesBy steps (fronts_of r) (fronts_of r') =
-      record { acts = one_act steps (finds_gone team tt seen refl); roster = quiet.roster; book = quiet.book; book_on = quiet.book_on; book_seen = quiet.book_seen; ports = quiet.ports } in
-      closes (λ so_far. FindsGone (heads_of r.apps.items) so_far team) None entered steps
+      let quiet : GoesBy [] (fronts_of r) (fronts_of r') = subst (λ (l : List (EntryWithObjects Object)). GoesBy (map (turn_step book.entries) l) (fronts_of r) (fronts_of r')) none (turn_beside None 0 entered r.hands.clock.time in_time []) in
+      let goes : GoesBy steps (fronts_of r) (fronts_of r') = record {
+        acts = one_act steps (finds_gone team tt seen refl);
+        in_time = record { stamped = (tt, tt); time_is = quiet.in_time.time_is };
+        roster = quiet.roster;
+        roster_on = quiet.roster_on;
+        roster_seen = All-cons (StartsWith seen) seen [] (starts_itself seen) (All-nil (StartsWith seen));
+        book = quiet.book;
+        book_on = quiet.book_on;
+        book_seen = quiet.book_seen;
+        ports = quiet.ports;
+        ports_on = quiet.ports_on;
+        ports_seen = quiet.ports_seen;
+      } in
+      closes (λ so_far. FindsGone (heads_of r.apps.items) so_far team) steps
       (λ so_far is_told. record { seen = seen; mine = quiet.roster ∙ append-nil (noted roster_maker main_thread (plain_of r.roster_seat)) ∙ is_told; gone = ap (λ (l : List RosterEntry). find (runs_team team) (state_of (heads_of r.apps.items) l).running) list ∙ ap (λ hs. find (runs_team team) (state_of hs (plain_entries book.entries)).running) (sym heads) ∙ left.0; is = refl })
-      goes (λ looper. refl) (All-cons (StartsWith seen) seen [] ([], sym (append-nil seen)) (All-nil (StartsWith seen))) (λ looper. refl)
+      goes (λ looper. refl)
 
   -- ---- a launch
   module _ (word : AppWord) where
@@ -250,21 +253,22 @@ module _ (r r' : Run) (is : IsRunning r) (keeps : KeepsRest r r') (members : r'.
           is = ap (map (turn_step book.entries)) x.1;
         }
 
-    launches_last : (came : LaunchOutcome) → HasEntered (Some (event.Launch word came)) 0 book book' → DoesWith (LaunchesLast word came r') [] r r'
-    launches_last came entered = does_turn (Some (event.Launch word came)) 0 entered (LaunchesLast word came r') (last_there came 0 entered)
+    launches_last : InTime → (came : LaunchOutcome) → HasEntered (Some (event.Launch word came)) 0 book book' → DoesWith (LaunchesLast word came r') [] r r'
+    launches_last in_time came entered = does_turn (Some (event.Launch word came)) 0 entered in_time (LaunchesLast word came r') (last_there came 0 entered)
 
     module _ (arguments : Option MessageData) where
       -- a team runs
-      running_last : (team first : ℕ) → HasEntered (Some (event.Launch word (outcome.AlreadyRunning team))) 0 book book' → TellsTeam r.apps.items arguments word book (launch.Running team first) → DoesWith (EntersRunning r.apps.items word team first r') [] r r'
-      running_last team first entered told =
+      running_last : InTime → (team first : ℕ) → HasEntered (Some (event.Launch word (outcome.AlreadyRunning team))) 0 book book' → TellsTeam r.apps.items arguments word book (launch.Running team first) → DoesWith (EntersRunning r.apps.items word team first r') [] r r'
+      running_last in_time team first entered told =
           let came = outcome.AlreadyRunning team in
           let heads : book.heads ≡ heads_of r.apps.items = heads_same ∙ is.stands.heads_are in
           let runs : find (runs_team team) (state_of (heads_of r.apps.items) (plain_entries book.entries)).running ≡ Some told.0 = ap (λ hs. find (runs_team team) (state_of hs (plain_entries book.entries)).running) (sym heads) ∙ told.1 in
-          does_turn (Some (event.Launch word came)) 0 entered (EntersRunning r.apps.items word team first r') (record { launches = last_there came 0 entered; running = told.0; runs = runs; first_is = told.2 })
+          does_turn (Some (event.Launch word came)) 0 entered in_time (EntersRunning r.apps.items word team first r') (record { launches = last_there came 0 entered; running = told.0; runs = runs; first_is = told.2 })
 
       -- the ports of a team were made, its first looper was greeted, and its launch entered
-      team_enters : (t : StartedTeam) → HasStarted r.apps.items r.shared word book book' t → TellsTeam r.apps.items arguments word book (launch.Started t) → DoesWith (EntersLaunch r.apps.items word arguments (launch.Started t) r') (team_fronts t.new) r r'
-      team_enters t h told =
+      team_enters : (t : StartedTeam) → HasStarted r.apps.items r.shared word book book' t → TellsTeam r.apps.items arguments word book (launch.Started t) → LaunchInTime r.hands.clock.time r'.hands.clock.time book book' (launch.Started t)
+          → DoesWith (EntersLaunch r.apps.items word arguments (launch.Started t) r') (team_fronts t.new) r r'
+      team_enters t h told in_time =
           let came = outcome.Started h.description t.team.number t.team.first in
           let what = Some (event.Launch word came) in
           let ports = map member_front r.members.items in
@@ -275,10 +279,13 @@ module _ (r r' : Run) (is : IsRunning r) (keeps : KeepsRest r r') (members : r'.
           let first : length ports ≡ t.team.first = length-map r.members.items member_front ∙ sym (h.first ∙ count what t.team.loopers h.entered) in
           let capacities = capacities_in greeted.app.loopers in
           let written = written_from 0 (told_first arguments) in
-          let made : MakesPorts (start_entries t.team.first capacities arguments) (fronts_of r) (fronts_with r new) =
-          subst (λ (l : List (List PortEntry)). MakesPorts (start_entries t.team.first capacities arguments) (fronts (plain_of r.roster_seat) r.hands.book_seat.front l) (fronts_with r new)) (sym (append-nil ports))
-          (subst (λ (n : ℕ). MakesPorts (made_from n capacities ++ at_looper n written) (fronts (plain_of r.roster_seat) r.hands.book_seat.front ports) (fronts_with r new)) first
-          (team_begins (plain_of r.roster_seat) r.hands.book_seat.front ports capacities written new (one_at_least (new_front t.new.own) (map new_front t.new.others.items)) greeted.ports)) in
+          let time = r.hands.clock.time in
+          let between = in_time.0 in
+          let made_to = fronts between (plain_of r.roster_seat) r.hands.book_seat.front (ports ++ new) in
+          let made : MakesPorts (start_entries t.team.first capacities arguments) (fronts_of r) made_to =
+          subst (λ (l : List (List PortEntry)). MakesPorts (start_entries t.team.first capacities arguments) (fronts time (plain_of r.roster_seat) r.hands.book_seat.front l) made_to) (sym (append-nil ports))
+          (subst (λ (n : ℕ). MakesPorts (made_from n capacities ++ at_looper n written) (fronts time (plain_of r.roster_seat) r.hands.book_seat.front ports) made_to) first
+          (team_begins (plain_of r.roster_seat) r.hands.book_seat.front time between ports capacities written new (one_at_least (new_front t.new.own) (map new_front t.new.others.items)) greeted.ports in_time.1)) in
           let turn = map (turn_step book.entries) h.entered.added in
           record {
             steps = made.steps ++ turn;
@@ -292,30 +299,30 @@ module _ (r r' : Run) (is : IsRunning r) (keeps : KeepsRest r r') (members : r'.
               launches = last_there came t.team.loopers h.entered;
               is = refl;
             };
-            goes = goes_then made.steps turn (fronts_of r) (fronts_with r new) (fronts_with r' new) made.goes (turn_beside what t.team.loopers h.entered new);
+            goes = goes_then made.steps turn (fronts_of r) made_to (fronts_with r' new) made.goes (turn_beside what t.team.loopers h.entered between in_time.2 new);
             no_edits = λ looper. nothing_after (desk_entry looper) made.steps turn (made.no_edits looper) (turn_no_edits book.entries h.entered.added looper);
             roster_on = plain_on r.roster_seat r'.roster_seat (on what t.team.loopers h.entered).on;
             desks_on = same_desks r r' members;
           }
 
       -- so what main did, whatever it comes to
-      pub enters : (l : Launch) → ComesTo r.apps.items r.shared word book book' l → TellsTeam r.apps.items arguments word book l → DoesWith (EntersLaunch r.apps.items word arguments l r') (launched_fronts l) r r'
-      enters (launch.Started t) comes told = team_enters t comes told
-      enters (launch.Running team first) comes told = running_last team first comes.0 told
-      enters launch.NotFound comes told = launches_last outcome.NotFound comes
-      enters launch.Limit comes told = launches_last outcome.Limit comes
-      enters launch.NoMemory comes told = does_turn None 0 comes (λ steps. Unit {0}) tt
+      pub enters : (l : Launch) → ComesTo r.apps.items r.shared word book book' l → TellsTeam r.apps.items arguments word book l → LaunchInTime r.hands.clock.time r'.hands.clock.time book book' l → DoesWith (EntersLaunch r.apps.items word arguments l r') (launched_fronts l) r r'
+      enters (launch.Started t) comes told in_time = team_enters t comes told in_time
+      enters (launch.Running team first) comes told in_time = running_last in_time team first comes.0 told
+      enters launch.NotFound comes told in_time = launches_last in_time outcome.NotFound comes
+      enters launch.Limit comes told in_time = launches_last in_time outcome.Limit comes
+      enters launch.NoMemory comes told in_time = does_turn None 0 comes in_time (λ steps. Unit {0}) tt
 
       -- a team was started
-      team_starts : (t : StartedTeam) → HasStarted r.apps.items r.shared word book book' t → TellsTeam r.apps.items arguments word book (launch.Started t) → HasEnteredLaunch r r' (launch.Started t)
-      team_starts t h told =
+      team_starts : (t : StartedTeam) → HasStarted r.apps.items r.shared word book book' t → TellsTeam r.apps.items arguments word book (launch.Started t) → LaunchInTime r.hands.clock.time r'.hands.clock.time book book' (launch.Started t) → HasEnteredLaunch r r' (launch.Started t)
+      team_starts t h told in_time =
           let n = t.team.loopers in
           let what = Some (event.Launch word (outcome.Started h.description t.team.number t.team.first)) in
           let entered = h.entered in
           let next : t.team.first ≡ length r'.members.items = h.first ∙ count what n entered ∙ sym (count' what n entered) in
           let all : n ≡ length t.new.others.items + 1 = h.count ∙ h.all in
           let objects : objects_of r'.roster_seat.front ≡ objects_of book.entries ++ map object h.kept = ap objects_of (whole what n entered) ∙ h.objects in
-          let does = team_enters t h told in (
+          let does = team_enters t h told in_time in (
             is.heads,
             h.plans,
             h.kept,
@@ -331,7 +338,7 @@ module _ (r r' : Run) (is : IsRunning r) (keeps : KeepsRest r r') (members : r'.
               loopers = h.count;
               all = h.all;
               within = h.within;
-              launched = λ desk. subst (Any (StartsTeam (facts_in is.heads t.team t.team.first desk))) (sym (whole what n entered)) (subst (λ hs. Any (StartsTeam (facts_in hs t.team t.team.first desk)) book'.entries) heads_same (h.launched desk));
+              launched = λ desk. subst (Any (StartsAt (facts_in is.heads t.team t.team.first desk) t.team.time)) (sym (whole what n entered)) (subst (λ hs. Any (StartsAt (facts_in hs t.team t.team.first desk) t.team.time) book'.entries) heads_same (h.launched desk));
               ways_are = λ desk. own_ways h.plans t.team.number t.team.first r.shared t.new h.kept n (objects_of book.entries) r'.roster_seat is.heads desk h.new all h.before objects;
               paired = all_paired h.plans t.team.number t.team.first r.shared t.new h.kept (objects_of book.entries) r'.roster_seat h.new h.before objects;
             },
@@ -340,11 +347,11 @@ module _ (r r' : Run) (is : IsRunning r) (keeps : KeepsRest r r') (members : r'.
             record_on (fronts_of r) (fronts_with r' (team_fronts t.new)) (desk_front r) (desk_front r') (record { steps = does.steps; goes = does.goes; no_edits = does.no_edits }) does.desks_on.same is.recorded,
           )
 
-      pub has_entered : (l : Launch) → ComesTo r.apps.items r.shared word book book' l → TellsTeam r.apps.items arguments word book l → HasEnteredLaunch r r' l
-      has_entered (launch.Started t) comes told = team_starts t comes told
-      has_entered (launch.Running team first) comes told =
+      pub has_entered : (l : Launch) → ComesTo r.apps.items r.shared word book book' l → TellsTeam r.apps.items arguments word book l → LaunchInTime r.hands.clock.time r'.hands.clock.time book book' l → HasEnteredLaunch r r' l
+      has_entered (launch.Started t) comes told in_time = team_starts t comes told in_time
+      has_entered (launch.Running team first) comes told in_time =
           let what = Some (event.Launch word (outcome.AlreadyRunning team)) in
-          (runs_on what comes.0, subst (λ m. first < m) (count_before what comes.0) comes.1)
-      has_entered launch.NotFound comes told = runs_on (Some (event.Launch word outcome.NotFound)) comes
-      has_entered launch.Limit comes told = runs_on (Some (event.Launch word outcome.Limit)) comes
-      has_entered launch.NoMemory comes told = runs_on None comes
+          (runs_on in_time what comes.0, subst (λ m. first < m) (count_before what comes.0) comes.1)
+      has_entered launch.NotFound comes told in_time = runs_on in_time (Some (event.Launch word outcome.NotFound)) comes
+      has_entered launch.Limit comes told in_time = runs_on in_time (Some (event.Launch word outcome.Limit)) comes
+      has_entered launch.NoMemory comes told in_time = runs_on in_time None comes

@@ -17,8 +17,8 @@ use Rattle.ak_looper.specs.Rosters.{Object}
 use Rattle.ak_run.specs.declared.answers.Found.{Found}
 use Rattle.ak_run.specs.Doing.{IsStartedTeam}
 use Rattle.ak_run.specs.Finding.{IsEntered, IsFoundAt, LooksUp}
-use Rattle.ak_run.specs.Launching.{Book, HasEntered}
-use Rattle.ak_run.proofs.Entering.{all_started, none_entered, one_entered, some_started}
+use Rattle.ak_run.specs.Launching.{Book, HasEntered, IsTurnInTime}
+use Rattle.ak_run.proofs.Entering.{all_started, none_entered, none_in_time, one_entered, one_in_time, some_started}
 use Rattle.ak_run.proofs.Recorded.{one_event}
 
 -- whatever is found, main entered one entry or none
@@ -66,6 +66,12 @@ module _ (book book' : Book) (clock clock' : Clock) (main : clock.thread.0 ≡ m
   looks_so (answer.Team team first loopers) told enters stays = team_so team first loopers sought refl told enters
   looks_so answer.NoTeam told enters stays = none_so sought refl told enters
   looks_so answer.NoMemory told enters stays = none_entered book book' clock clock' stays
+
+  -- in time
+  pub looks_in_time : (a : FindAnswer) → OnFound a HasFound → UnlessFound a (Stays book book' clock clock') → IsTurnInTime clock.time clock'.time book book'
+  looks_in_time (answer.Team team first loopers) enters stays = one_in_time book book' clock clock' (event.Find word (find_of book.heads (state book) word)) [] book.doors enters
+  looks_in_time answer.NoTeam enters stays = one_in_time book book' clock clock' (event.Find word (find_of book.heads (state book) word)) [] book.doors enters
+  looks_in_time answer.NoMemory enters stays = none_in_time book book' clock clock' stays
 
 -- so they are among as many
 pub found_started : (word : AppWord) (a : FindAnswer) (book book' : Book) (many seen : ℕ) (result : Found) → length (state book).loopers ≡ many → LooksUp word a book book' → IsFoundAt a seen result → IsStartedTeam many result

@@ -80,7 +80,9 @@ main_done steps f h is roster book ports desks = record {
   at_book = noted_at_end at_books.maker_of f.book h.book book ∙ is.book;
   at_ports = λ looper. ports_at_end f.ports h.ports.items ports looper ∙ is.ports looper;
   at_desks = desks;
+  roster_seen = seen_still f.roster h.roster.items (roster_sights steps) (roster.between, roster.goes_on) is.roster_seen;
   book_seen = seen_still f.book h.book (book_sights steps) (book.between, book.goes_on) is.book_seen;
+  ports_seen = λ looper. seen_still (list_at f.ports looper) (port_list h looper) (port_sights looper steps) (ports_go_on f.ports h.ports.items ports looper) (is.ports_seen looper);
 }
 
 -- ---- of what was gathered
@@ -220,12 +222,13 @@ at_end heads r r' h steps closed done quiet all left ends =
       closing = closed.steps;
       closes = record {
         ends = closed.so steps done.recorded.roster;
-        roster_seen = All-weaker (StartsWith (plain_of r'.roster_seat)) (StartsWith h.roster.items) (λ (seen : List RosterEntry) starts. starts_then_starts seen (plain_of r'.roster_seat) h.roster.items starts left.roster) (roster_sights closed.steps) closed.roster_seen;
+        roster_seen = All-weaker (StartsWith (plain_of r'.roster_seat)) (StartsWith h.roster.items) (λ (seen : List RosterEntry) starts. starts_then_starts seen (plain_of r'.roster_seat) h.roster.items starts left.roster) (roster_sights closed.steps) closed.goes.roster_seen;
         ports_seen = λ looper.
             let list = list_at (fronts_of r').ports looper in
-            All-weaker (StartsWith list) (StartsWith (port_list h looper)) (λ (seen : List PortEntry) starts. starts_then_starts seen list (port_list h looper) starts (left.port_lists looper)) (port_sights looper closed.steps) (closed.ports_seen looper);
+            All-weaker (StartsWith list) (StartsWith (port_list h looper)) (λ (seen : List PortEntry) starts. starts_then_starts seen list (port_list h looper) starts (left.port_lists looper)) (port_sights looper closed.steps) (closed.goes.ports_seen looper);
       };
       diary = recorded.diary;
+      stamped = recorded.in_time.stamped;
       done = all (steps ++ closed.steps) recorded (λ looper.
           quiet.same looper ∙ done.desks looper
           ∙ sym (flat_map-append (desk_entry looper) steps closed.steps ∙ ap (λ l. desk_entries looper steps ++ l) (closed.no_edits looper) ∙ append-nil (desk_entries looper steps)));

@@ -27,7 +27,7 @@ use Rattle.ak_desk.specs.Desk.{DeskData}
 use Rattle.ak_desk.specs.Entry.{EntryData}
 use Rattle.ak_desk.specs.Shared as desks
 use Rattle.ak_diary.specs.declared.histories.Histories.{Histories}
-use Rattle.ak_headline.specs.Run.{IsOfRun, port_list}
+use Rattle.ak_headline.specs.Run.{IsOfRun, desk_list, desk_maker, port_list}
 use Rattle.ak_looper.specs.declared.kept_door.KeptDoor.{KeptDoor}
 use Rattle.ak_looper.specs.Rosters as rosters
 use Rattle.ak_looper.specs.Rosters.{Object, RosterSeat}
@@ -168,15 +168,22 @@ module _ (heads : List AppHead) (main : RosterSeat) (at_book : ReplySeat) (js la
     pub its : LooperData
     pub there : slice_get (state_of heads (plain_entries roster.entries)).loopers n ≡ Some its
     pub makers : All (λ (entry : EntryData). Contains (holders n its) (desks.by_number entry)) desk.entries
+    pub no_keeper : All (λ (entry : EntryData). desks.by_number entry ≢ keeper_thread) desk.entries
 
   pub edited_by_holders : (n : ℕ) (desk : DeskData) → slice_get h.desks.items n ≡ Some desk → EditedByHolders n desk
   edited_by_holders n desk at =
       let of = desk_of n desk at in
       let keeper = keeper_at n of.looper of.there in
+      let kept = keeper.kept in
+      let seat = kept.desk_seat in
+      let known = part_known desks.by_number seat of.looper.door.desk_seat desk.entries of.is.known keeper.head.took.at_desk in
       record {
         its = keeper.its;
         there = keeper.its_there;
         makers = by_holders desks.by_number desk.entries n keeper.its keeper.kept.port_seat.names keeper.kept.head keeper.told (λ names are. of.is.named names (keeper.head.desk_names ∙ keeper.kept.names ∙ are));
+        no_keeper = none_by desks.by_number keeper_thread desk.entries
+            (ap (λ (t : ℕ). made_by desks.by_number t desk.entries) (sym kept.desk_keeper) ∙ known_is_made desks.by_number desk.entries (part_of seat) known
+            ∙ ap (λ (t : ℕ). made_by desks.by_number t seat.front) kept.desk_keeper ∙ kept.desk_keeper_idle);
       }
 
   -- ---- all entries of the roster are by main and the loopers
@@ -246,6 +253,21 @@ module _ (heads : List AppHead) (main : RosterSeat) (at_book : ReplySeat) (js la
         past : (length h.ports.items ≤ n) × (slice_get h.ports.items n ≡ None) → All (λ (entry : PortEntry). IsOfRun h entry.by.0) (port_list h n)
         past at =
             subst (λ (o : Option PortData). All (λ (entry : PortEntry). IsOfRun h entry.by.0) (unwrap_or (option_map (λ (port : PortData). port.entries) o) [])) (sym at.1) (All-nil (λ (entry : PortEntry). IsOfRun h entry.by.0))
+
+    pub desk_makers : (n : ℕ) → All (λ (entry : EntryData). IsOfRun h (desk_maker entry)) (desk_list h n)
+    desk_makers n = ⊎_elim within past (slice_get_cases h.desks.items n).1
+      where
+        within : (desk : DeskData) × (n < length h.desks.items) × (slice_get h.desks.items n ≡ Some desk) × (get_or h.desks.items n desk ≡ desk) → All (λ (entry : EntryData). IsOfRun h (desk_maker entry)) (desk_list h n)
+        within at =
+            let made = edited_by_holders n at.0 at.2 in
+            let low : n < length js = omega (arith, at.1, as_many_desks later h.ports.items h.desks.items g.kept, g.gains.count) in
+            subst (λ (o : Option DeskData). All (λ (entry : EntryData). IsOfRun h (desk_maker entry)) (unwrap_or (option_map (λ (desk : DeskData). desk.entries) o) [])) (sym at.2)
+            (All-both (λ (entry : EntryData). Contains (holders n made.its) (desks.by_number entry)) (λ (entry : EntryData). desks.by_number entry ≢ keeper_thread) (λ (entry : EntryData). IsOfRun h (desk_maker entry))
+            (λ entry holds other. of_run (desks.by_number entry) (holder_of_run n made.its low made.there (desks.by_number entry) holds other)) at.0.entries made.makers made.no_keeper)
+
+        past : (length h.desks.items ≤ n) × (slice_get h.desks.items n ≡ None) → All (λ (entry : EntryData). IsOfRun h (desk_maker entry)) (desk_list h n)
+        past at =
+            subst (λ (o : Option DeskData). All (λ (entry : EntryData). IsOfRun h (desk_maker entry)) (unwrap_or (option_map (λ (desk : DeskData). desk.entries) o) [])) (sym at.1) (All-nil (λ (entry : EntryData). IsOfRun h (desk_maker entry)))
 
     pub book_makers : AreBelow (length js) at_book.names → All (λ (entry : ReplyEntry). IsOfRun h entry.by.0) h.book
     book_makers names =

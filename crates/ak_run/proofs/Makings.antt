@@ -1,8 +1,9 @@
 -- A team that is made, looper by looper.
-use Rattle.std.proofs.Common.{◌≡◌, ℕ, suc, ◌+◌, ◌≤◌, List, [], ◌∷◌, ◌++◌, length, map, refl, sym, ap, ◌∙◌, subst, append_assoc, arith}
+use Rattle.std.proofs.Common.{◌≡◌, ℕ, suc, ◌+◌, ◌≤◌, List, [], ◌∷◌, ◌++◌, length, map, All, refl, sym, ap, ◌∙◌, subst, append_assoc, arith}
 use Rattle.std.specs.Prelude.{slice_index_or}
 use Rattle.std.specs.List.{remove}
 use Rattle.std.proofs.lemmas.List.{map-append}
+use Rattle.ak_base.specs.Thread.{main_thread}
 use Rattle.ak_port.specs.declared.port_entry.PortEntry.{PortEntry}
 use Rattle.ak_port.specs.declared.port_entry.PortEvent.{PortEvent}
 use Rattle.ak_action.specs.declared.plan.PlanParts.{PlanParts}
@@ -18,7 +19,8 @@ use Rattle.ak_run.specs.NewLooper.{IsKept, IsNewLooper, IsNewOther, IsNewOwn, ow
 use Rattle.ak_run.specs.NewTeam.{AreOthers, IsNewTeam, IsOther}
 use Rattle.ak_run.specs.Greeting.{AreMains, EachMains, FirstHoldsTwo, capacities_in, made_event, made_events, port_events}
 use Rattle.ak_run.specs.Opening.{AreOpened, IsOpenedAt, opened_front}
-use Rattle.ak_run.specs.Recording.{new_front, team_fronts}
+use Rattle.ak_run.specs.Recording.{AddsAtPort, AreMadeInTime, ArePortsInTime, new_front, team_fronts}
+use Rattle.ak_run.proofs.PortsAtStart.{written_in_time}
 use Rattle.ak_run.proofs.Teams.{others_push}
 
 module _ (plans : List PlanParts) (team first : ℕ) where
@@ -99,6 +101,33 @@ pub grows_ports : (events : List (List PortEvent)) (fronts fronts' : List (List 
 grows_ports events fronts fronts' x all rest is grown each =
     subst (EachMains events) (sym (ap (λ (fs : List (List PortEntry)). fs ++ map opened_front rest) grown ∙ append_assoc fronts (opened_front x ∷ []) (map opened_front rest)))
     (subst (λ (os : List Opened). EachMains events (fronts ++ map opened_front os)) is each)
+
+-- in time: the first one is what was made and written, and the others follow
+pub greeted_in_time : (time between later : ℕ) (os : List Opened) (o : Opened) (rest : List Opened) (capacity : ℕ) (written : List PortEvent) (front : List PortEntry) (fronts : List (List PortEntry)) → 1 ≤ length os → o ≡ slice_index_or os 0 o → rest ≡ remove os 0
+    → AreMadeInTime time (map opened_front os) between → AreMains (made_event capacity ∷ []) (opened_front o) → AreMains (made_event capacity ∷ written) front → AddsAtPort between later (opened_front o) front → fronts ≡ front ∷ []
+    → ArePortsInTime time (fronts ++ map opened_front rest) later
+greeted_in_time time between later [] o rest capacity written front fronts some is left made first mains adds are = absurd (omega (arith, some))
+greeted_in_time time between later (x ∷ os) o rest capacity written front fronts some is left made first mains adds are =
+    subst (λ (fs : List (List PortEntry)). ArePortsInTime time (fs ++ map opened_front rest) later) (sym are)
+    (by_lists (opened_front o) front first mains adds
+    (subst (λ (y : Opened). AreMadeInTime time (opened_front y ∷ map opened_front rest) between) (sym is) (subst (λ (ys : List Opened). AreMadeInTime time (opened_front x ∷ map opened_front ys) between) (sym left) made)))
+  where
+    by_lists : (one all : List PortEntry) → AreMains (made_event capacity ∷ []) one → AreMains (made_event capacity ∷ written) all → AddsAtPort between later one all → AreMadeInTime time (one ∷ map opened_front rest) between → ArePortsInTime time (all ∷ map opened_front rest) later
+    by_lists [] all is_one is_all grows at = absurd (cc is_one.events_are)
+    by_lists (e ∷ f ∷ more) all is_one is_all grows at = absurd (cc is_one.events_are)
+    by_lists (e ∷ []) [] is_one is_all grows at = absurd (cc is_all.events_are)
+    by_lists (e ∷ []) (d ∷ more) is_one is_all grows at =
+        let on : d ∷ more ≡ e ∷ grows.on.0 = grows.on.1 in
+        let same : d ≡ e = cc on in
+        let adds_all : AddsAtPort between later (e ∷ []) (e ∷ more) = subst (λ (x : PortEntry). AddsAtPort between later (e ∷ []) (x ∷ more)) same grows in
+        let mine : All (λ (entry : PortEntry). entry.by.0 ≡ main_thread) (e ∷ more) = subst (λ (x : PortEntry). All (λ (entry : PortEntry). entry.by.0 ≡ main_thread) (x ∷ more)) same is_all.mine in
+        subst (λ (x : PortEntry). ArePortsInTime time ((x ∷ more) ∷ map opened_front rest) later) (sym same) (between, at, written_in_time between later e more mine adds_all)
+
+-- one looper more
+pub grows_in_time : (time later : ℕ) (fronts fronts' : List (List PortEntry)) (x : Opened) (all rest : List Opened) → all ≡ x ∷ rest → fronts' ≡ fronts ++ opened_front x ∷ [] → ArePortsInTime time (fronts ++ map opened_front all) later → ArePortsInTime time (fronts' ++ map opened_front rest) later
+grows_in_time time later fronts fronts' x all rest is grown in_time =
+    subst (λ (fs : List (List PortEntry)). ArePortsInTime time fs later) (sym (ap (λ (fs : List (List PortEntry)). fs ++ map opened_front rest) grown ∙ append_assoc fronts (opened_front x ∷ []) (map opened_front rest)))
+    (subst (λ (os : List Opened). ArePortsInTime time (fronts ++ map opened_front os) later) is in_time)
 
 -- its own looper's port and the others', with one more
 pub fronts_push : (t t' : NewTeam) (n : NewLooper) (front : List PortEntry) → t'.own ≡ t.own → t'.others.items ≡ t.others.items ++ n ∷ [] → new_front n ≡ front → team_fronts t' ≡ team_fronts t ++ front ∷ []

@@ -12,7 +12,6 @@ use Rattle.ak_looper.specs.declared.door.Door.{Door}
 use Rattle.ak_looper.specs.Doors.{IsNewDoor}
 use Rattle.ak_looper.proofs.Surface.{new_door}
 use Rattle.ak_run.specs.Doors.{HasGivenUpNames, HasNames, HasNoNames, HasParted, IsNewAt, IsPartOf, KeepsDoor, KnowsBoth}
-use Rattle.ak_run.proofs.Acting.{adds_then}
 use Rattle.ak_run.proofs.Heads.{made_nothing}
 
 -- ---- names
@@ -110,5 +109,4 @@ keeps_then_keeps a b c one other = record {
   desk_seat = other.desk_seat ∙ one.desk_seat;
   known = λ known. other.known (one.known known);
   taking = λ thread room can. other.taking thread room (one.taking thread room can);
-  adds = λ main. adds_then a.port_seat.front b.port_seat.front c.port_seat.front (one.adds main) (other.adds (one.port_seat.thread ∙ main));
 }

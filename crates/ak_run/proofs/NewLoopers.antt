@@ -19,8 +19,6 @@ use Rattle.ak_run.specs.declared.opening.Opened.{Opened}
 use Rattle.ak_run.specs.Doors.{HasNames, HasNoNames, IsKeptOf, IsNewAt, IsPartOf, KeepsDoor, KnowsBoth}
 use Rattle.ak_run.specs.NewLooper.{AreSame, IsKept, IsNewLooper, IsWay}
 use Rattle.ak_run.specs.Opening.{IsOpenedAt}
-use Rattle.ak_run.specs.Recording.{AddsAtPort}
-use Rattle.ak_run.proofs.Acting.{adds_then}
 use Rattle.ak_run.proofs.NewDoors.{LeadsAsBefore, new_beside, new_part, part_no_head, part_takes}
 use Rattle.ak_run.proofs.Teams.{keeper_is_none, loopers_differ, main_is_none}
 
@@ -110,7 +108,6 @@ module _ (plans : List PlanParts) (team first : ℕ) where
           opens = p.opens;
           port_opening = leads.port_opening ∙ p.takes.taker;
           desk_opening = leads.desk_opening ∙ p.desk_is;
-          made = subst (AddsAtPort []) (sym leads.port_front) p.made;
           desk_front = leads.desk_front ∙ p.desk_front;
           no_head = no_head;
           own_no_head = part_no_head (looper_thread o.number) o.door n.own part;
@@ -142,7 +139,6 @@ module _ (plans : List PlanParts) (team first : ℕ) where
               at_port = keeps.port_seat.names ∙ p.names_are.at_port;
               at_desk = ap (λ (s : desks.DeskSeat). s.names) keeps.desk_seat ∙ p.names_are.at_desk;
             };
-            made = adds_then [] o.door.port_seat.front o'.door.port_seat.front p.made (keeps.adds p.by_main);
             desk_front = ap (λ (s : desks.DeskSeat). s.front) keeps.desk_seat ∙ p.desk_front;
           };
         }

@@ -45,8 +45,8 @@ no_edits_yet r none looper = ap (λ (ms : List Member). noted at_desks.by_number
 
 -- the run itself
 pub begins : (heads : List AppHead) (roster book : LockId) (r : Run) → All IsWholeApp r.apps.items → heads ≡ heads_of r.apps.items → r.roster_seat ≡ first_seat roster heads [] [] main_thread → r.hands.book_seat ≡ first_seat book tt [] [] main_thread
-    → r.members.items ≡ [] → looper_limit ≤ vec_capacity r.members → HasRoomToEnd r → IsRunning r
-begins heads roster book r whole heads_are roster_is book_is none room ready =
+    → r.members.items ≡ [] → looper_limit ≤ vec_capacity r.members → HasRoomToEnd r → r.hands.clock.time ≡ 0 → IsRunning r
+begins heads roster book r whole heads_are roster_is book_is none room ready time =
     let few : length r.members.items ≡ 0 = ap length none in
     record {
       heads = heads;
@@ -66,16 +66,16 @@ begins heads roster book r whole heads_are roster_is book_is none room ready =
         ready = ready;
       };
       all = ap (started_by_main heads) roster_is ∙ sym few;
-      recorded = record { did = []; recorded = nothing_yet r (ap (λ (s : RosterSeat). s.front) roster_is) (ap (λ (s : ReplySeat). s.front) book_is) none; edits = no_edits_yet r none };
+      recorded = record { did = []; recorded = nothing_yet r time (ap (λ (s : RosterSeat). s.front) roster_is) (ap (λ (s : ReplySeat). s.front) book_is) none; edits = no_edits_yet r none };
     }
   where
     main_below : (n : ℕ) → AreBelow n (Some (main_thread ∷ []))
     main_below n = All-cons (IsBelow n) main_thread [] (inl refl) (All-nil (IsBelow n))
 
 -- and main has done nothing
-pub done_nothing : (r : Run) → r.roster_seat.front ≡ [] → r.hands.book_seat.front ≡ [] → r.members.items ≡ [] → HasDoneSoFar [] r
-done_nothing r roster book none = record {
-  recorded = nothing_yet r roster book none;
+pub done_nothing : (r : Run) → r.roster_seat.front ≡ [] → r.hands.book_seat.front ≡ [] → r.members.items ≡ [] → r.hands.clock.time ≡ 0 → HasDoneSoFar [] r
+done_nothing r roster book none time = record {
+  recorded = nothing_yet r time roster book none;
   desks = no_edits_yet r none;
   edits = λ looper. All-nil (StandsIn (desk_front r looper));
 }

@@ -21,7 +21,6 @@ use Rattle.ak_desk.specs.Shared as desks
 use Rattle.ak_run.specs.declared.opening.Opened.{Opened}
 use Rattle.ak_run.specs.declared.opening.Place.{Place}
 use Rattle.ak_run.specs.Opening.{FitPlaces, IsOpened}
-use Rattle.ak_run.specs.Recording.{AddsAtPort}
 
 -- a plan's number is below the limit
 pub number_fits : (plan : PlanParts) (number first : ℕ) (names : List (List ℕ)) → FitsPlace plan number first names → number < looper_limit
@@ -39,8 +38,8 @@ pub opened_so : (place : Place) (plan : PlanParts) (names : List (List ℕ)) (o 
     → FitsPlace plan place.number place.first names → thread ≡ main_thread → o.number ≡ place.number → taker.0 ≡ looper_thread place.number
     → deque_capacity o.queue ≡ capacity → deque_len o.queue ≡ 0 → o.queue.items ≡ [] → Opens plan place.number place.team place.first names state
     → o.door.desk_seat ≡ first_seat desk_lock state [] [] thread → o.door.port_seat ≡ first_seat port_lock taker entries own thread
-    → KnowsWhole ports.by_number o.door.port_seat → CanTake taker capacity o.door.port_seat → AddsAtPort [] entries → IsOpened place plan names o
-opened_so place plan names o taker capacity thread desk_lock port_lock state entries own fits main number taker_is room empty none opens desk port known takes made =
+    → KnowsWhole ports.by_number o.door.port_seat → CanTake taker capacity o.door.port_seat → IsOpened place plan names o
+opened_so place plan names o taker capacity thread desk_lock port_lock state entries own fits main number taker_is room empty none opens desk port known takes =
     let free : capacity ≡ deque_capacity o.queue - deque_len o.queue = omega (arith, room, empty) in
     record {
       number = number;
@@ -61,6 +60,5 @@ opened_so place plan names o taker capacity thread desk_lock port_lock state ent
         at_port = ap (λ (s : ports.PortSeat). s.names) port ∙ ap (λ (t : ℕ). Some (t ∷ [])) main;
         at_desk = ap (λ (s : desks.DeskSeat). s.names) desk ∙ ap (λ (t : ℕ). Some (t ∷ [])) main;
       };
-      made = subst (AddsAtPort []) (sym (ap (λ (s : ports.PortSeat). s.front) port)) made;
       desk_front = ap (λ (s : desks.DeskSeat). s.front) desk;
     }

@@ -37,7 +37,7 @@ use Rattle.ak_run.specs.declared.run.Run.{Run}
 use Rattle.ak_run.specs.Doing.{EnteredSo}
 use Rattle.ak_run.specs.Greeting.{AnswersSend, AreMains, EachMains, EntersEach, HasSent, IsAlone, SendsEach, arguments_told, at_looper, events_of, from_main, greeting_item, items_told, made_event, capacities_in, made_events, made_from, port_events, written_from}
 use Rattle.ak_run.specs.Opening.{opened_front}
-use Rattle.ak_run.specs.Recording.{Fronts, GoesBy, fronts, list_at}
+use Rattle.ak_run.specs.Recording.{AddsAtPort, AreEntriesInTime, AreMadeInTime, AreNotesInTime, ArePortsInTime, Fronts, GoesBy, fronts, list_at}
 use Rattle.ak_run.proofs.Acts.{GoesAtBoth, May, adds_there, both_goes, goes_then, none_behind, nothing_after, push_other, same_goes, seam_other, steps_there, there_diary}
 
 -- ---- main's own entries, each with what stands before it
@@ -61,6 +61,15 @@ noted_on xs (y ∷ ys) mine =
 may_notes : (xs ys : List PortEntry) → All MayMake ys → All May (notes_on xs ys)
 may_notes xs [] may = All-nil May
 may_notes xs (y ∷ ys) may = All-cons May (note xs y) (notes_on (xs ++ y ∷ []) ys) (All-head MayMake y ys may) (may_notes (xs ++ y ∷ []) ys (All-tail MayMake y ys may))
+
+-- in time, each with what stands before it
+notes_in_time : (time later : ℕ) (xs ys : List PortEntry) → AreEntriesInTime time xs ys later → AreNotesInTime time (notes_on xs ys) later
+notes_in_time time later xs [] same = same
+notes_in_time time later xs (y ∷ ys) is = (is.0, notes_in_time y.stamp later (xs ++ y ∷ []) ys is.1)
+
+entries_in_time : (time later : ℕ) (xs ys : List PortEntry) → AreNotesInTime time (notes_on xs ys) later → AreEntriesInTime time xs ys later
+entries_in_time time later xs [] same = same
+entries_in_time time later xs (y ∷ ys) is = (is.0, entries_in_time y.stamp later (xs ++ y ∷ []) ys is.1)
 
 -- ---- just these entries
 enters_then : (es fs : List (ℕ × PortEvent)) (xs ys : List Step) → EntersEach es xs → EntersEach fs ys → EntersEach (es ++ fs) (xs ++ ys)
@@ -88,68 +97,76 @@ makes_then es fs a b c one two = record {
 
 module _ (roster : List RosterEntry) (book : List ReplyEntry) where
   -- one port more, behind the others
-  new_port : (xs : List (List PortEntry)) (x : List PortEntry) (events : List PortEvent) → AreMains events x → MakesPorts (at_looper (length xs) events) (fronts roster book xs) (fronts roster book (xs ++ x ∷ []))
-  new_port xs x events mains =
+  new_port : (time later : ℕ) (xs : List (List PortEntry)) (x : List PortEntry) (events : List PortEvent) → AreMains events x → AreEntriesInTime time [] x later → MakesPorts (at_looper (length xs) events) (fronts time roster book xs) (fronts later roster book (xs ++ x ∷ []))
+  new_port time later xs x events mains in_time =
       let looper = length xs in
       let notes = notes_on [] x in
-      let there : GoesAtBoth looper (steps_there looper notes) book book [] x = adds_there looper notes book [] x (noted_on [] x mains.mine) in
+      let there : GoesAtBoth looper time later (steps_there looper notes) book book [] x = adds_there looper time later notes book [] x (notes_in_time time later [] x in_time) (x, refl) (noted_on [] x mains.mine) in
       record {
         steps = steps_there looper notes;
         enters = subst (λ (es : List PortEvent). EntersEach (at_looper looper es) (steps_there looper notes)) mains.events_are (notes_enter looper [] x);
         goes =
-            both_goes looper (steps_there looper notes) roster book book xs (xs ++ x ∷ []) (there_diary looper notes (may_notes [] x mains.may))
-            (subst (λ (p : List PortEntry). GoesAtBoth looper (steps_there looper notes) book book p (list_at (xs ++ x ∷ []) looper)) (sym (none_behind xs))
-            (subst (λ (p : List PortEntry). GoesAtBoth looper (steps_there looper notes) book book [] p) (sym (get_or-append_seam xs x [] [])) there))
+            both_goes looper (steps_there looper notes) time later roster book book xs (xs ++ x ∷ []) (there_diary looper notes (may_notes [] x mains.may))
+            (subst (λ (p : List PortEntry). GoesAtBoth looper time later (steps_there looper notes) book book p (list_at (xs ++ x ∷ []) looper)) (sym (none_behind xs))
+            (subst (λ (p : List PortEntry). GoesAtBoth looper time later (steps_there looper notes) book book [] p) (sym (get_or-append_seam xs x [] [])) there))
             (λ other differ. push_other xs x other differ);
         no_edits = there.no_edits;
       }
 
   -- and one after another
-  ports_made : (xs : List (List PortEntry)) (capacities : List ℕ) (new : List (List PortEntry)) → EachMains (made_events capacities) new → MakesPorts (made_from (length xs) capacities) (fronts roster book xs) (fronts roster book (xs ++ new))
-  ports_made xs [] [] each = record { steps = []; enters = refl; goes = same_goes (fronts roster book xs) (fronts roster book (xs ++ [])) (ap (fronts roster book) (append-nil xs)); no_edits = λ looper. refl }
-  ports_made xs (c ∷ capacities) (x ∷ new) each =
+  ports_made : (time later : ℕ) (xs : List (List PortEntry)) (capacities : List ℕ) (new : List (List PortEntry)) → EachMains (made_events capacities) new → AreMadeInTime time new later → MakesPorts (made_from (length xs) capacities) (fronts time roster book xs) (fronts later roster book (xs ++ new))
+  ports_made time later xs [] [] each in_time = record {
+    steps = [];
+    enters = refl;
+    goes = same_goes (fronts time roster book xs) (fronts later roster book (xs ++ [])) (ap (λ (t : ℕ). fronts t roster book (xs ++ [])) (sym in_time) ∙ ap (fronts time roster book) (append-nil xs));
+    no_edits = λ looper. refl;
+  }
+  ports_made time later xs (c ∷ capacities) (x ∷ new) each in_time =
       let more = xs ++ x ∷ [] in
+      let between = in_time.0 in
       let next : length more ≡ suc (length xs) = omega (arith, length-append xs (x ∷ [])) in
-      let rest = subst (λ (l : List (List PortEntry)). MakesPorts (made_from (suc (length xs)) capacities) (fronts roster book more) (fronts roster book l)) (append_assoc xs (x ∷ []) new)
-      (subst (λ (n : ℕ). MakesPorts (made_from n capacities) (fronts roster book more) (fronts roster book (more ++ new))) next (ports_made more capacities new each.1)) in
-      makes_then (at_looper (length xs) (made_event c ∷ [])) (made_from (suc (length xs)) capacities) (fronts roster book xs) (fronts roster book more) (fronts roster book (xs ++ x ∷ new)) (new_port xs x (made_event c ∷ []) each.0) rest
-  ports_made xs [] (x ∷ new) each = absurd each
-  ports_made xs (c ∷ capacities) [] each = absurd each
+      let rest = subst (λ (l : List (List PortEntry)). MakesPorts (made_from (suc (length xs)) capacities) (fronts between roster book more) (fronts later roster book l)) (append_assoc xs (x ∷ []) new)
+      (subst (λ (n : ℕ). MakesPorts (made_from n capacities) (fronts between roster book more) (fronts later roster book (more ++ new))) next (ports_made between later more capacities new each.1 in_time.2)) in
+      makes_then (at_looper (length xs) (made_event c ∷ [])) (made_from (suc (length xs)) capacities) (fronts time roster book xs) (fronts between roster book more) (fronts later roster book (xs ++ x ∷ new)) (new_port time between xs x (made_event c ∷ []) each.0 in_time.1) rest
+  ports_made time later xs [] (x ∷ new) each in_time = absurd each
+  ports_made time later xs (c ∷ capacities) [] each in_time = absurd each
 
   -- the list of one of them goes on
-  port_goes_on : (xs ys : List (List PortEntry)) (x more : List PortEntry) (events : List PortEvent) → AreMains events more → MakesPorts (at_looper (length xs) events) (fronts roster book (xs ++ x ∷ ys)) (fronts roster book (xs ++ (x ++ more) ∷ ys))
-  port_goes_on xs ys x more events mains =
+  port_goes_on : (time later : ℕ) (xs ys : List (List PortEntry)) (x more : List PortEntry) (events : List PortEvent) → AreMains events more → AreEntriesInTime time x more later
+      → MakesPorts (at_looper (length xs) events) (fronts time roster book (xs ++ x ∷ ys)) (fronts later roster book (xs ++ (x ++ more) ∷ ys))
+  port_goes_on time later xs ys x more events mains in_time =
       let looper = length xs in
       let notes = notes_on x more in
       let all = x ++ more in
-      let there : GoesAtBoth looper (steps_there looper notes) book book x all = adds_there looper notes book x all (noted_on x more mains.mine) in
+      let there : GoesAtBoth looper time later (steps_there looper notes) book book x all = adds_there looper time later notes book x all (notes_in_time time later x more in_time) (more, refl) (noted_on x more mains.mine) in
       record {
         steps = steps_there looper notes;
         enters = subst (λ (es : List PortEvent). EntersEach (at_looper looper es) (steps_there looper notes)) mains.events_are (notes_enter looper x more);
         goes =
-            both_goes looper (steps_there looper notes) roster book book (xs ++ x ∷ ys) (xs ++ all ∷ ys) (there_diary looper notes (may_notes x more mains.may))
-            (subst (λ (p : List PortEntry). GoesAtBoth looper (steps_there looper notes) book book p (list_at (xs ++ all ∷ ys) looper)) (sym (get_or-append_seam xs x ys []))
-            (subst (λ (p : List PortEntry). GoesAtBoth looper (steps_there looper notes) book book x p) (sym (get_or-append_seam xs all ys [])) there))
+            both_goes looper (steps_there looper notes) time later roster book book (xs ++ x ∷ ys) (xs ++ all ∷ ys) (there_diary looper notes (may_notes x more mains.may))
+            (subst (λ (p : List PortEntry). GoesAtBoth looper time later (steps_there looper notes) book book p (list_at (xs ++ all ∷ ys) looper)) (sym (get_or-append_seam xs x ys []))
+            (subst (λ (p : List PortEntry). GoesAtBoth looper time later (steps_there looper notes) book book x p) (sym (get_or-append_seam xs all ys [])) there))
             (λ other differ. seam_other xs ys x all other differ);
         no_edits = there.no_edits;
       }
 
   -- those of a team: they are made, and then the first one goes on
-  pub team_begins : (xs : List (List PortEntry)) (capacities : List ℕ) (written : List PortEvent) (ports : List (List PortEntry)) → 1 ≤ length ports → EachMains (port_events capacities written) ports
-      → MakesPorts (made_from (length xs) capacities ++ at_looper (length xs) written) (fronts roster book xs) (fronts roster book (xs ++ ports))
-  team_begins xs (c ∷ capacities) written ((e ∷ more) ∷ ports) some each =
+  pub team_begins : (time later : ℕ) (xs : List (List PortEntry)) (capacities : List ℕ) (written : List PortEvent) (ports : List (List PortEntry)) → 1 ≤ length ports → EachMains (port_events capacities written) ports → ArePortsInTime time ports later
+      → MakesPorts (made_from (length xs) capacities ++ at_looper (length xs) written) (fronts time roster book xs) (fronts later roster book (xs ++ ports))
+  team_begins time later xs (c ∷ capacities) written ((e ∷ more) ∷ ports) some each in_time =
       let first = each.0 in
+      let between = in_time.0 in
       let is : e.event ∷ events_of more ≡ made_event c ∷ written = first.events_are in
       let made_is : e.event ≡ made_event c = cc is in
       let made : AreMains (made_event c ∷ []) (e ∷ []) =
       record { events_are = ap (λ (x : PortEvent). x ∷ []) made_is; mine = All-cons Mine e [] (All-head Mine e more first.mine) (All-nil Mine); may = All-cons MayMake e [] (All-head MayMake e more first.may) (All-nil MayMake) } in
       let rest : AreMains written more = record { events_are = cc is; mine = All-tail Mine e more first.mine; may = All-tail MayMake e more first.may } in
-      makes_then (made_from (length xs) (c ∷ capacities)) (at_looper (length xs) written) (fronts roster book xs) (fronts roster book (xs ++ (e ∷ []) ∷ ports)) (fronts roster book (xs ++ (e ∷ more) ∷ ports))
-      (ports_made xs (c ∷ capacities) ((e ∷ []) ∷ ports) (made, each.1)) (port_goes_on xs ports (e ∷ []) more written rest)
-  team_begins xs (c ∷ capacities) written ([] ∷ ports) some each = absurd (cc each.0.events_are)
-  team_begins xs (c ∷ capacities) written [] some each = absurd each
-  team_begins xs [] written [] some each = absurd (omega (arith, some))
-  team_begins xs [] written (p ∷ ports) some each = absurd each
+      makes_then (made_from (length xs) (c ∷ capacities)) (at_looper (length xs) written) (fronts time roster book xs) (fronts between roster book (xs ++ (e ∷ []) ∷ ports)) (fronts later roster book (xs ++ (e ∷ more) ∷ ports))
+      (ports_made time between xs (c ∷ capacities) ((e ∷ []) ∷ ports) (made, each.1) in_time.1) (port_goes_on between later xs ports (e ∷ []) more written rest in_time.2)
+  team_begins time later xs (c ∷ capacities) written ([] ∷ ports) some each in_time = absurd in_time
+  team_begins time later xs (c ∷ capacities) written [] some each in_time = absurd in_time
+  team_begins time later xs [] written [] some each in_time = absurd in_time
+  team_begins time later xs [] written (p ∷ ports) some each in_time = absurd each
 
 pub one_at_least : {X : Type 0} (x : X) (xs : List X) → 1 ≤ length (x ∷ xs)
 one_at_least x xs = omega arith
@@ -160,6 +177,20 @@ each_push [] [] e f each mains = (mains, tt)
 each_push (x ∷ es) (y ∷ fs) e f each mains = (each.0, each_push es fs e f each.1 mains)
 each_push [] (y ∷ fs) e f each mains = absurd each
 each_push (x ∷ es) [] e f each mains = absurd each
+
+-- one port more, behind the others
+pub made_push : (time between later : ℕ) (ports : List (List PortEntry)) (x : List PortEntry) → AreMadeInTime time ports between → AreEntriesInTime between [] x later → AreMadeInTime time (ports ++ x ∷ []) later
+made_push time between later [] x same in_time = (later, subst (λ (t : ℕ). AreEntriesInTime t [] x later) (sym same) in_time, refl)
+made_push time between later (p ∷ ports) x made in_time = (made.0, made.1, made_push made.0 between later ports x made.2 in_time)
+
+-- what was written to the first one
+pub written_in_time : (time later : ℕ) (e : PortEntry) (more : List PortEntry) → All Mine (e ∷ more) → AddsAtPort time later (e ∷ []) (e ∷ more) → AreEntriesInTime time (e ∷ []) more later
+written_in_time time later e more mine adds =
+    let first : noted at_ports.by_number main_thread (e ∷ []) ≡ note [] e ∷ [] = noted_on [] (e ∷ []) (All-cons Mine e [] (All-head Mine e more mine) (All-nil Mine)) in
+    let all : noted at_ports.by_number main_thread (e ∷ more) ≡ note [] e ∷ notes_on (e ∷ []) more = noted_on [] (e ∷ more) mine in
+    let both : note [] e ∷ notes_on (e ∷ []) more ≡ note [] e ∷ adds.added = sym all ∙ adds.noted_is ∙ ap (λ l. l ++ adds.added) first in
+    let same : adds.added ≡ notes_on (e ∷ []) more = cc both in
+    entries_in_time time later (e ∷ []) more (subst (λ (notes : List (Noted PortEntry)). AreNotesInTime time notes later) same adds.in_time)
 
 -- the ports of so many plans, with the next one's
 pub ports_push : (plans : List PlanParts) (index : ℕ) (plan : PlanParts) (os : List Opened) (o : Opened) (os' : List Opened) → slice_get plans index ≡ Some plan → os' ≡ os ++ o ∷ [] → EachMains (made_events (capacities_in (take index plans))) (map opened_front os) → AreMains (made_event plan.capacity ∷ []) (opened_front o)

@@ -23,10 +23,10 @@ use Rattle.ak_looper.specs.declared.door.Door.{Door}
 use Rattle.ak_looper.specs.Rosters.{Object, RosterSeat, by_number, plain_of}
 use Rattle.ak_run.specs.declared.member.Member.{Member}
 use Rattle.ak_run.specs.declared.run.Run.{Run}
-use Rattle.ak_run.specs.Launching.{Book, HasEntered}
-use Rattle.ak_run.specs.Recording.{AddsAtPort, Fronts, GoesBy, HasRecord, IsRecorded, Records, RecordsBeside, RecordsStart, StartsQuietly, fronts, fronts_of, fronts_with, list_at, member_front}
-use Rattle.ak_run.proofs.Acting.{roster_goes, turn_no_edits, turn_step}
-use Rattle.ak_run.proofs.Acts.{GoesAtBoth, both_goes, port_records, recorded_on, records_then, same_fronts, seam_other, set_before, then_those}
+use Rattle.ak_run.specs.Launching.{Book, HasEntered, IsTurnInTime, turn_step}
+use Rattle.ak_run.specs.Recording.{AddsAtPort, Fronts, GoesBy, HasRecord, IsRecorded, Records, RecordsAtNew, RecordsBeside, RecordsStart, StartsQuietly, fronts, fronts_of, fronts_with, list_at, member_front}
+use Rattle.ak_run.proofs.Acting.{roster_goes, turn_no_edits}
+use Rattle.ak_run.proofs.Acts.{GoesAtBoth, both_goes, no_time, port_records, recorded_on, records_then, same_fronts, seam_other, set_before, then_those}
 use Rattle.ak_run.proofs.RosterTurn.{sees_all}
 
 -- ---- main's diary
@@ -47,26 +47,37 @@ module _ (a b : Fronts) (xs ys : ℕ → List EntryData) where
       record_by more.steps more.goes (λ looper. same looper ∙ sym (ap (λ l. edits_in (xs looper) ++ l) (more.no_edits looper) ∙ append-nil (edits_in (xs looper)))) has
 
 -- nothing was done
-pub nothing_yet : (r : Run) → r.roster_seat.front ≡ [] → r.hands.book_seat.front ≡ [] → r.members.items ≡ [] → IsRecorded [] (fronts_of r)
-nothing_yet r roster book none =
-    let is : fronts_of r ≡ fronts [] [] [] =
-    ap (λ l. fronts (plain_entries l) r.hands.book_seat.front (map member_front r.members.items ++ [])) roster ∙ ap (λ l. fronts [] l (map member_front r.members.items ++ [])) book
-    ∙ ap (λ (ms : List Member). fronts [] [] (map member_front ms ++ [])) none in
-    subst (IsRecorded []) (sym is) (record { diary = begun; roster = refl; book = refl; book_seen = All-nil (StartsWith []); ports = λ looper. none_there looper })
+pub nothing_yet : (r : Run) → r.hands.clock.time ≡ 0 → r.roster_seat.front ≡ [] → r.hands.book_seat.front ≡ [] → r.members.items ≡ [] → IsRecorded [] (fronts_of r)
+nothing_yet r time roster book none =
+    let is : fronts_of r ≡ fronts 0 [] [] [] =
+    ap (λ (t : ℕ). fronts t (plain_of r.roster_seat) r.hands.book_seat.front (map member_front r.members.items ++ [])) time
+    ∙ ap (λ l. fronts 0 (plain_entries l) r.hands.book_seat.front (map member_front r.members.items ++ [])) roster ∙ ap (λ l. fronts 0 [] l (map member_front r.members.items ++ [])) book
+    ∙ ap (λ (ms : List Member). fronts 0 [] [] (map member_front ms ++ [])) none in
+    subst (IsRecorded []) (sym is) (record {
+      diary = begun;
+      in_time = no_time 0;
+      roster = refl;
+      roster_seen = All-nil (StartsWith []);
+      book = refl;
+      book_seen = All-nil (StartsWith []);
+      ports = λ looper. none_there looper;
+      ports_seen = λ looper. All-nil (StartsWith (list_at [] looper));
+    })
   where
     none_there : (looper : ℕ) → noted at_ports.by_number main_thread (list_at [] looper) ≡ []
     none_there zero = refl
     none_there (suc n) = refl
 
--- where no front changed
-pub fronts_same : (r r' : Run) → r'.members ≡ r.members → r'.roster_seat.front ≡ r.roster_seat.front → r'.hands.book_seat.front ≡ r.hands.book_seat.front → (new : List (List PortEntry)) → fronts_with r' new ≡ fronts_with r new
-fronts_same r r' members roster book new =
-    ap (λ l. fronts (plain_entries l) r'.hands.book_seat.front (map member_front r'.members.items ++ new)) roster
-    ∙ ap (λ l. fronts (plain_of r.roster_seat) l (map member_front r'.members.items ++ new)) book
-    ∙ ap (λ v. fronts (plain_of r.roster_seat) r.hands.book_seat.front (map member_front v.items ++ new)) members
+-- where neither the time nor a front changed
+pub fronts_same : (r r' : Run) → r'.hands.clock.time ≡ r.hands.clock.time → r'.members ≡ r.members → r'.roster_seat.front ≡ r.roster_seat.front → r'.hands.book_seat.front ≡ r.hands.book_seat.front → (new : List (List PortEntry)) → fronts_with r' new ≡ fronts_with r new
+fronts_same r r' time members roster book new =
+    ap (λ (t : ℕ). fronts t (plain_of r'.roster_seat) r'.hands.book_seat.front (map member_front r'.members.items ++ new)) time
+    ∙ ap (λ l. fronts r.hands.clock.time (plain_entries l) r'.hands.book_seat.front (map member_front r'.members.items ++ new)) roster
+    ∙ ap (λ l. fronts r.hands.clock.time (plain_of r.roster_seat) l (map member_front r'.members.items ++ new)) book
+    ∙ ap (λ v. fronts r.hands.clock.time (plain_of r.roster_seat) r.hands.book_seat.front (map member_front v.items ++ new)) members
 
-pub beside_same : (r r' : Run) → r'.members ≡ r.members → r'.roster_seat.front ≡ r.roster_seat.front → r'.hands.book_seat.front ≡ r.hands.book_seat.front → RecordsBeside r r'
-beside_same r r' members roster book = λ new. same_fronts (fronts_with r new) (fronts_with r' new) (fronts_same r r' members roster book new)
+pub beside_same : (r r' : Run) → r'.hands.clock.time ≡ r.hands.clock.time → r'.members ≡ r.members → r'.roster_seat.front ≡ r.roster_seat.front → r'.hands.book_seat.front ≡ r.hands.book_seat.front → RecordsBeside r r'
+beside_same r r' time members roster book = λ new. same_fronts (fronts_with r new) (fronts_with r' new) (fronts_same r r' time members roster book new)
 
 pub beside_then : (r s t : Run) → RecordsBeside r s → RecordsBeside s t → RecordsBeside r t
 beside_then r s t one two = λ new. records_then (fronts_with r new) (fronts_with s new) (fronts_with t new) (one new) (two new)
@@ -97,19 +108,20 @@ module _ (r r' : Run) (place : ℕ) (m : Member) (door : Door) (within : place <
     abbrev from_here : List (List PortEntry) → Fronts → Type 0
     from_here new f = GoesBy steps (fronts_with r new) f
 
-    fronts_are : (new : List (List PortEntry)) → fronts_with r' new ≡ fronts (plain_of r.roster_seat) r'.hands.book_seat.front (set (before new) place front)
+    fronts_are : (new : List (List PortEntry)) → fronts_with r' new ≡ fronts r'.hands.clock.time (plain_of r.roster_seat) r'.hands.book_seat.front (set (before new) place front)
     fronts_are new =
-        ap (λ (s : RosterSeat). fronts (plain_of s) r'.hands.book_seat.front (map member_front r'.members.items ++ new)) roster ∙ ap (λ l. fronts (plain_of r.roster_seat) r'.hands.book_seat.front l) (ports_are new)
+        ap (λ (s : RosterSeat). fronts r'.hands.clock.time (plain_of s) r'.hands.book_seat.front (map member_front r'.members.items ++ new)) roster
+        ∙ ap (λ l. fronts r'.hands.clock.time (plain_of r.roster_seat) r'.hands.book_seat.front l) (ports_are new)
 
     -- by what main did there and at the book
-    pub call_goes : IsMainDiary steps → GoesAtBoth place steps r.hands.book_seat.front r'.hands.book_seat.front m.door.port_seat.front door.port_seat.front → (new : List (List PortEntry)) → GoesBy steps (fronts_with r new) (fronts_with r' new)
+    pub call_goes : IsMainDiary steps → GoesAtBoth place r.hands.clock.time r'.hands.clock.time steps r.hands.book_seat.front r'.hands.book_seat.front m.door.port_seat.front door.port_seat.front → (new : List (List PortEntry)) → GoesBy steps (fronts_with r new) (fronts_with r' new)
     call_goes acts goes new =
         let ports = before new in
         let at_place : list_at (set ports place front) place ≡ front = get_or-set_same ports place front [] (within_all new) in
         subst (from_here new) (sym (fronts_are new))
-        (both_goes place steps (plain_of r.roster_seat) r.hands.book_seat.front r'.hands.book_seat.front ports (set ports place front) acts
-        (subst (λ (p : List PortEntry). GoesAtBoth place steps r.hands.book_seat.front r'.hands.book_seat.front p (list_at (set ports place front) place)) (sym (there r.members.items new place m within here))
-        (subst (λ (p : List PortEntry). GoesAtBoth place steps r.hands.book_seat.front r'.hands.book_seat.front m.door.port_seat.front p) (sym at_place) goes))
+        (both_goes place steps r.hands.clock.time r'.hands.clock.time (plain_of r.roster_seat) r.hands.book_seat.front r'.hands.book_seat.front ports (set ports place front) acts
+        (subst (λ (p : List PortEntry). GoesAtBoth place r.hands.clock.time r'.hands.clock.time steps r.hands.book_seat.front r'.hands.book_seat.front p (list_at (set ports place front) place)) (sym (there r.members.items new place m within here))
+        (subst (λ (p : List PortEntry). GoesAtBoth place r.hands.clock.time r'.hands.clock.time steps r.hands.book_seat.front r'.hands.book_seat.front m.door.port_seat.front p) (sym at_place) goes))
         (λ other differ. get_or-set_other ports place other front [] differ))
 
   -- main has seen its list so far
@@ -125,46 +137,64 @@ module _ (r r' : Run) (place : ℕ) (m : Member) (door : Door) (within : place <
 
 -- ---- a new port
 -- main made entries there, while it is the first one of the new ones
-pub new_port_acts : (roster : List RosterEntry) (book : List ReplyEntry) (xs ys : List (List PortEntry)) (x y : List PortEntry) → AddsAtPort x y → Records (fronts roster book (xs ++ x ∷ ys)) (fronts roster book (xs ++ y ∷ ys))
-new_port_acts roster book xs ys x y adds =
-    port_records (length xs) roster book (xs ++ x ∷ ys) (xs ++ y ∷ ys)
-    (subst (λ (p : List PortEntry). AddsAtPort p (list_at (xs ++ y ∷ ys) (length xs))) (sym (get_or-append_seam xs x ys [])) (subst (λ (p : List PortEntry). AddsAtPort x p) (sym (get_or-append_seam xs y ys [])) adds))
+pub new_port_acts : (time later : ℕ) (roster : List RosterEntry) (book : List ReplyEntry) (xs ys : List (List PortEntry)) (x y : List PortEntry) → AddsAtPort time later x y → Records (fronts time roster book (xs ++ x ∷ ys)) (fronts later roster book (xs ++ y ∷ ys))
+new_port_acts time later roster book xs ys x y adds =
+    port_records (length xs) time later roster book (xs ++ x ∷ ys) (xs ++ y ∷ ys)
+    (subst (λ (p : List PortEntry). AddsAtPort time later p (list_at (xs ++ y ∷ ys) (length xs))) (sym (get_or-append_seam xs x ys [])) (subst (λ (p : List PortEntry). AddsAtPort time later x p) (sym (get_or-append_seam xs y ys [])) adds))
     (λ other differ. seam_other xs ys x y other differ)
+
+-- no other list changed
+pub at_new : (r r' : Run) (x y : List PortEntry) → r'.members ≡ r.members → r'.roster_seat.front ≡ r.roster_seat.front → r'.hands.book_seat.front ≡ r.hands.book_seat.front → AddsAtPort r.hands.clock.time r'.hands.clock.time x y → RecordsAtNew x y r r'
+at_new r r' x y members roster book adds = λ new.
+    let ms = map member_front r.members.items in
+    let later = r'.hands.clock.time in
+    let same : fronts_with r' (y ∷ new) ≡ fronts later (plain_of r.roster_seat) r.hands.book_seat.front (ms ++ y ∷ new) =
+    ap (λ l. fronts later (plain_entries l) r'.hands.book_seat.front (map member_front r'.members.items ++ y ∷ new)) roster
+    ∙ ap (λ l. fronts later (plain_of r.roster_seat) l (map member_front r'.members.items ++ y ∷ new)) book
+    ∙ ap (λ v. fronts later (plain_of r.roster_seat) r.hands.book_seat.front (map member_front v.items ++ y ∷ new)) members in
+    subst (Records (fronts_with r (x ∷ new))) (sym same) (new_port_acts r.hands.clock.time later (plain_of r.roster_seat) r.hands.book_seat.front ms new x y adds)
+
+-- main called elsewhere before
+pub beside_then_at_new : (r s t : Run) (x y : List PortEntry) → RecordsBeside r s → RecordsAtNew x y s t → RecordsAtNew x y r t
+beside_then_at_new r s t x y one two = λ new. records_then (fronts_with r (x ∷ new)) (fronts_with s (x ∷ new)) (fronts_with t (y ∷ new)) (one (x ∷ new)) (two new)
+
+-- nothing was done
+pub at_new_same : (r : Run) (x y : List PortEntry) → y ≡ x → RecordsAtNew x y r r
+at_new_same r x y same = λ new. same_fronts (fronts_with r (x ∷ new)) (fronts_with r (y ∷ new)) (ap (λ (l : List PortEntry). fronts_with r (l ∷ new)) same)
 
 -- ---- a looper that starts
 -- the run goes on, main shuts its port or does nothing there, and the looper is put behind the others
-pub start_acts : (r s u v : Run) (door : Door) (front : List PortEntry) (x : Member) → s.members ≡ r.members → s.roster_seat.front ≡ r.roster_seat.front → s.hands.book_seat.front ≡ r.hands.book_seat.front → RecordsBeside s u
-    → AddsAtPort front door.port_seat.front → x.door ≡ door → v.members.items ≡ u.members.items ++ x ∷ [] → v.roster_seat ≡ u.roster_seat → v.hands ≡ u.hands → RecordsStart front r v
-start_acts r s u v door front x members roster book goes adds x_door v_items v_roster v_hands = record {
+pub start_acts : (r s u v : Run) (door : Door) (front : List PortEntry) (x : Member) → s.hands.clock.time ≡ r.hands.clock.time → s.members ≡ r.members → s.roster_seat.front ≡ r.roster_seat.front → s.hands.book_seat.front ≡ r.hands.book_seat.front
+    → RecordsAtNew front door.port_seat.front s u → x.door ≡ door → v.members.items ≡ u.members.items ++ x ∷ [] → v.roster_seat ≡ u.roster_seat → v.hands ≡ u.hands → RecordsStart front r v
+start_acts r s u v door front x time members roster book goes x_door v_items v_roster v_hands = record {
   beside = λ new.
       let last = door.port_seat.front in
       let us = map member_front u.members.items in
-      let split = beside_same r s members roster book (front ∷ new) in
-      let closed = new_port_acts (plain_of u.roster_seat) u.hands.book_seat.front us new front last adds in
       let pushed : map member_front v.members.items ++ new ≡ us ++ last ∷ new =
       ap (λ (ms : List Member). map member_front ms ++ new) v_items ∙ ap (λ l. l ++ new) (map-append member_front u.members.items (x ∷ [])) ∙ append_assoc us (member_front x ∷ []) new ∙ ap (λ (d : Door). us ++ d.port_seat.front ∷ new) x_door in
-      let same : fronts_with v new ≡ fronts (plain_of u.roster_seat) u.hands.book_seat.front (us ++ last ∷ new) =
-      ap (λ (y : RosterSeat). fronts (plain_of y) v.hands.book_seat.front (map member_front v.members.items ++ new)) v_roster
-      ∙ ap (λ h. fronts (plain_of u.roster_seat) h.book_seat.front (map member_front v.members.items ++ new)) v_hands
-      ∙ ap (fronts (plain_of u.roster_seat) u.hands.book_seat.front) pushed in
-      records_then (fronts_with r (front ∷ new)) (fronts_with s (front ∷ new)) (fronts_with v new) split
-      (records_then (fronts_with s (front ∷ new)) (fronts_with u (front ∷ new)) (fronts_with v new) (goes (front ∷ new)) (subst (Records (fronts_with u (front ∷ new))) (sym same) closed));
+      let same : fronts_with v new ≡ fronts_with u (last ∷ new) =
+      ap (λ (y : RosterSeat). fronts v.hands.clock.time (plain_of y) v.hands.book_seat.front (map member_front v.members.items ++ new)) v_roster
+      ∙ ap (λ h. fronts h.clock.time (plain_of u.roster_seat) h.book_seat.front (map member_front v.members.items ++ new)) v_hands
+      ∙ ap (fronts u.hands.clock.time (plain_of u.roster_seat) u.hands.book_seat.front) pushed in
+      records_then (fronts_with r (front ∷ new)) (fronts_with s (front ∷ new)) (fronts_with v new) (beside_same r s time members roster book (front ∷ new)) (subst (Records (fronts_with s (front ∷ new))) (sym same) (goes new));
 }
 
 -- nothing was done at its port, and nothing else changed
-pub start_quiet : (r s v : Run) (front : List PortEntry) (x : Member) → s.members ≡ r.members → s.roster_seat.front ≡ r.roster_seat.front → s.hands.book_seat.front ≡ r.hands.book_seat.front → x.door.port_seat.front ≡ front
+pub start_quiet : (r s v : Run) (front : List PortEntry) (x : Member) → s.hands.clock.time ≡ r.hands.clock.time → s.members ≡ r.members → s.roster_seat.front ≡ r.roster_seat.front → s.hands.book_seat.front ≡ r.hands.book_seat.front → x.door.port_seat.front ≡ front
     → v.members.items ≡ s.members.items ++ x ∷ [] → v.roster_seat ≡ s.roster_seat → v.hands ≡ s.hands → StartsQuietly front r v
-start_quiet r s v front x members roster book x_front v_items v_roster v_hands = record {
+start_quiet r s v front x time members roster book x_front v_items v_roster v_hands = record {
   same = λ new.
       let ms = map member_front r.members.items in
+      let now = r.hands.clock.time in
       let pushed : map member_front v.members.items ++ new ≡ ms ++ front ∷ new =
       ap (λ (xs : List Member). map member_front xs ++ new) v_items ∙ ap (λ l. l ++ new) (map-append member_front s.members.items (x ∷ [])) ∙ append_assoc (map member_front s.members.items) (member_front x ∷ []) new
       ∙ ap (λ v. map member_front v.items ++ member_front x ∷ new) members ∙ ap (λ l. ms ++ l ∷ new) x_front in
-      ap (λ (y : RosterSeat). fronts (plain_of y) v.hands.book_seat.front (map member_front v.members.items ++ new)) v_roster
-      ∙ ap (λ l. fronts (plain_entries l) v.hands.book_seat.front (map member_front v.members.items ++ new)) roster
-      ∙ ap (λ h. fronts (plain_of r.roster_seat) h.book_seat.front (map member_front v.members.items ++ new)) v_hands
-      ∙ ap (λ l. fronts (plain_of r.roster_seat) l (map member_front v.members.items ++ new)) book
-      ∙ ap (fronts (plain_of r.roster_seat) r.hands.book_seat.front) pushed;
+      ap (λ h. fronts h.clock.time (plain_of v.roster_seat) h.book_seat.front (map member_front v.members.items ++ new)) v_hands
+      ∙ ap (λ (t : ℕ). fronts t (plain_of v.roster_seat) s.hands.book_seat.front (map member_front v.members.items ++ new)) time
+      ∙ ap (λ (y : RosterSeat). fronts now (plain_of y) s.hands.book_seat.front (map member_front v.members.items ++ new)) v_roster
+      ∙ ap (λ l. fronts now (plain_entries l) s.hands.book_seat.front (map member_front v.members.items ++ new)) roster
+      ∙ ap (λ l. fronts now (plain_of r.roster_seat) l (map member_front v.members.items ++ new)) book
+      ∙ ap (fronts now (plain_of r.roster_seat) r.hands.book_seat.front) pushed;
 }
 
 -- ---- main's turn at the roster
@@ -174,14 +204,14 @@ module _ (seat given seat' : RosterSeat) (book book' : Book) (more : ℕ) (idle 
   abbrev pub turn_steps : List Step
   turn_steps = map (turn_step book.entries) entered.added
 
-  pub turn_goes : (replies : List ReplyEntry) (ports : List (List PortEntry)) → GoesBy turn_steps (fronts (plain_of seat) replies ports) (fronts (plain_of seat') replies ports)
-  turn_goes replies ports =
+  pub turn_goes : (time later : ℕ) → IsTurnInTime time later book book' → (replies : List ReplyEntry) (ports : List (List PortEntry)) → GoesBy turn_steps (fronts time (plain_of seat) replies ports) (fronts later (plain_of seat') replies ports)
+  turn_goes time later in_time replies ports =
       let all : seat'.front ≡ book.entries ++ entered.added = sees_all seat given seat' book book' more idle thread seen known list what entered same one knows ∙ entered.entries in
-      subst (λ (l : List (EntryWithObjects Object)). GoesBy turn_steps (fronts (plain_of seat) replies ports) (fronts (plain_entries l) replies ports)) (sym all)
-      (roster_goes seat.front seen.between book.entries entered.added replies ports (list ∙ ap (λ (s : RosterSeat). s.front) seen.after) (subst (λ (t : ℕ). AreByOthers by_number t seen.between) thread seen.others) entered.one entered.by_main entered.may)
+      subst (λ (l : List (EntryWithObjects Object)). GoesBy turn_steps (fronts time (plain_of seat) replies ports) (fronts later (plain_entries l) replies ports)) (sym all)
+      (roster_goes time later seat.front seen.between book.entries entered.added replies ports (list ∙ ap (λ (s : RosterSeat). s.front) seen.after) (subst (λ (t : ℕ). AreByOthers by_number t seen.between) thread seen.others) entered.one entered.by_main entered.may (in_time entered.added entered.entries))
 
-  pub turn_acts : (replies : List ReplyEntry) (ports : List (List PortEntry)) → Records (fronts (plain_of seat) replies ports) (fronts (plain_of seat') replies ports)
-  turn_acts replies ports = record { steps = turn_steps; goes = turn_goes replies ports; no_edits = turn_no_edits book.entries entered.added }
+  pub turn_acts : (time later : ℕ) → IsTurnInTime time later book book' → (replies : List ReplyEntry) (ports : List (List PortEntry)) → Records (fronts time (plain_of seat) replies ports) (fronts later (plain_of seat') replies ports)
+  turn_acts time later in_time replies ports = record { steps = turn_steps; goes = turn_goes time later in_time replies ports; no_edits = turn_no_edits book.entries entered.added }
 
 -- of one entry the event
 pub one_event : (what : RosterEvent) (added : List (EntryWithObjects Object)) → map (λ (entry : EntryWithObjects Object). entry.plain.event) added ≡ what ∷ [] → (x : EntryWithObjects Object) × (added ≡ x ∷ []) × (x.plain.event ≡ what)

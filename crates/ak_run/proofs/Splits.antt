@@ -16,15 +16,18 @@ use Rattle.ak_roster.specs.declared.head.AppHead.{AppHead}
 use Rattle.ak_roster.specs.declared.entry.EntryWithObjects.{EntryWithObjects}
 use Rattle.ak_roster.specs.declared.entry.RosterEntry.{RosterEntry}
 use Rattle.ak_roster.specs.Roster.{plain_entries}
+use Rattle.ak_port.specs.declared.port_entry.PortEntry.{PortEntry}
 use Rattle.ak_port.specs.ReplySeats as books
 use Rattle.ak_port.specs.ReplySeats.{ReplySeat}
 use Rattle.ak_action.specs.declared.plan.PlanParts.{PlanParts}
 use Rattle.ak_action.specs.Opening.{Opens}
+use Rattle.ak_action.specs.declared.state.DeskState.{DeskState}
 use Rattle.ak_desk.specs.Shared.{DeskSeat}
 use Rattle.ak_describe.specs.Whole.{IsWholeApp, heads_of, looper_names}
+use Rattle.ak_diary.specs.Looper.{LooperFacts}
 use Rattle.ak_looper.specs.declared.door.Door.{Door}
 use Rattle.ak_looper.specs.declared.job.LooperJob.{LooperJob}
-use Rattle.ak_looper.specs.Job.{IsReady}
+use Rattle.ak_looper.specs.Job.{IsReady, facts_of}
 use Rattle.ak_looper.specs.Rosters as rosters
 use Rattle.ak_looper.specs.Rosters.{LeadsTo, Object, RosterSeat, maker_of, plain_of}
 use Rattle.ak_run.specs.declared.launching.Team.{Team}
@@ -35,14 +38,14 @@ use Rattle.ak_run.specs.declared.run.Run.{Run}
 use Rattle.ak_run.specs.Counting.{started_by_main}
 use Rattle.ak_run.specs.Doors.{HasNoNames}
 use Rattle.ak_run.specs.Gathering.{HasRoomFor, HoldsNothing}
-use Rattle.ak_run.specs.Jobs.{CanStart, IsJobOf}
+use Rattle.ak_run.specs.Jobs.{CanStart, IsJobOf, StartsAt, facts_in}
 use Rattle.ak_run.specs.Members.{IsLifeOf, StillLeads}
 use Rattle.ak_run.specs.NewLooper.{IsNewLooper}
 use Rattle.ak_run.specs.Opened.{IsLaunchOf}
 use Rattle.ak_run.specs.Opening.{names_in}
 use Rattle.ak_run.specs.Recording.{member_desk_front}
 use Rattle.ak_run.specs.Running.{AreBelow, IsBelow, IsMember, IsOpenedAs, KeepsRest, Stands}
-use Rattle.ak_run.specs.Starting.{GoesOn, GoesOnWith, HasSplit, MayStart}
+use Rattle.ak_run.specs.Starting.{GoesOnAtNew, GoesOnWith, HasSplit, MayStart}
 use Rattle.ak_run.proofs.GoingOn.{desks_then, push_desks, same_desks, some_same}
 use Rattle.ak_run.proofs.Heads.{by_others, nothing_by_new}
 use Rattle.ak_run.proofs.Standing.{leads_still, member_sees}
@@ -125,7 +128,6 @@ module _ (heads : List AppHead) (plans : List PlanParts) (k : ℕ) (t : Team) (n
     opens = m.new.opens;
     port_opening = m.new.port_opening;
     desk_opening = m.new.desk_opening;
-    made = m.new.made;
     desk_front = m.new.desk_front;
     no_head = m.new.no_head;
     own_no_head = m.new.own_no_head;
@@ -184,14 +186,14 @@ module _ (heads : List AppHead) (plans : List PlanParts) (k : ℕ) (t : Team) (n
     }
 
     -- there is room for it, however the run went on
-    pub room_there : (u : Run) → GoesOn s u → length u.members.items < vec_capacity u.members
-    room_there u goes =
+    pub room_there : (u : Run) (port port' : List PortEntry) → GoesOnAtNew port port' s u → length u.members.items < vec_capacity u.members
+    room_there u port port' goes =
         let stood = goes.stands (count + 1) heads stands_split in
         let same : length u.members.items ≡ count = goes.count ∙ ap (λ w. length w.items) split.members in
         omega (arith, same, stood.room, m.new.within, m.next)
 
     -- then the run went on, and the looper was put behind the others
-    module _ (u : Run) (goes : GoesOn s u) (v : Run) (kept : KeepsRest u v) (v_hands : v.hands ≡ u.hands) (v_roster : v.roster_seat ≡ u.roster_seat)
+    module _ (u : Run) (port port' : List PortEntry) (goes : GoesOnAtNew port port' s u) (v : Run) (kept : KeepsRest u v) (v_hands : v.hands ≡ u.hands) (v_roster : v.roster_seat ≡ u.roster_seat)
         (x : Member) (v_items : v.members.items ≡ u.members.items ++ x ∷ []) (v_room : vec_capacity v.members ≡ vec_capacity u.members)
         (door : Door) (job : LooperJob) (book : ReplySeat) (roster : RosterSeat) (book_so : book ≡ book_seat) (roster_so : roster ≡ roster_seat)
         (job_is : IsJobOf t n book roster job) (ready : IsReady job) (leads : StillLeads n.door door) (x_number : x.number ≡ n.number) (x_door : x.door ≡ door) (x_job : x.job.value ≡ job) (life : IsLifeOf job x.life) where
@@ -211,6 +213,14 @@ module _ (heads : List AppHead) (plans : List PlanParts) (k : ℕ) (t : Team) (n
           (subst (λ lock. LeadsTo u.roster_seat n.number lock (arc_value n.door.desk)) port
           (leads_still n.number (arc_value n.door.port) (arc_value n.door.desk) r.roster_seat u.roster_seat (starts_then_starts r.roster_seat.front s.roster_seat.front u.roster_seat.front on goes.on) m.paired)))
 
+      -- its time begins at the launch of its team, which the job has seen
+      begins_there : (desk : DeskState) → Any (StartsAt (facts_of job heads desk) job.hands.clock.time) job.roster_seat.front
+      begins_there desk =
+          let facts : facts_in heads t n.number desk ≡ facts_of job heads desk = cc (job_is.number, job_is.team, job_is.first, job_is.loopers) in
+          let front : r.roster_seat.front ≡ job.roster_seat.front = sym (ap (λ (y : RosterSeat). y.front) (job_is.roster_seat ∙ roster_so)) in
+          subst (λ (time : ℕ). Any (StartsAt (facts_of job heads desk) time) job.roster_seat.front) (sym job_is.time)
+          (subst (λ (l : List (EntryWithObjects Object)). Any (StartsAt (facts_of job heads desk) t.time) l) front (subst (λ (f : LooperFacts). Any (StartsAt f t.time) r.roster_seat.front) facts (m.launched desk)))
+
       new_member : IsMember heads u.shared u.roster_seat x
       new_member = record {
         number = ap (λ (j : LooperJob). j.number) x_job ∙ job_is.number ∙ sym x_number;
@@ -228,6 +238,7 @@ module _ (heads : List AppHead) (plans : List PlanParts) (k : ℕ) (t : Team) (n
         heads_are = ap (λ (j : LooperJob). j.roster_seat.opening) x_job ∙ ap (λ (b : RosterSeat). b.opening) (job_is.roster_seat ∙ roster_so) ∙ m.stands.opening;
         seen = subst (StartsWith u.roster_seat.front) (sym (ap (λ (j : LooperJob). j.roster_seat.front) x_job ∙ ap (λ (b : RosterSeat). b.front) (job_is.roster_seat ∙ roster_so)))
             (starts_then_starts r.roster_seat.front s.roster_seat.front u.roster_seat.front on goes.on);
+        begins = subst (λ (j : LooperJob). (desk : DeskState) → Any (StartsAt (facts_of j heads desk) j.hands.clock.time) j.roster_seat.front) (sym x_job) (λ desk. begins_there desk);
         by_main = ap (λ (d : Door). d.port_seat.thread) x_door ∙ leads.port_kept.thread ∙ m.new.by_main;
         taker = m.new.taker;
         taker_is = m.new.taker_is ∙ ap looper_thread (sym m.new.number ∙ sym x_number);

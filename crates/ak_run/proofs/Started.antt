@@ -27,7 +27,7 @@ use Rattle.ak_run.specs.declared.launching.StartedTeam.{StartedTeam}
 use Rattle.ak_run.specs.declared.new_looper.Shared.{Shared}
 use Rattle.ak_run.specs.declared.new_team.Making.{Making}
 use Rattle.ak_run.specs.declared.new_team.NewTeam.{NewTeam}
-use Rattle.ak_run.specs.Jobs.{facts_in}
+use Rattle.ak_run.specs.Jobs.{StartsAt, facts_in}
 use Rattle.ak_run.specs.Launching.{Book, HasEntered, HasStarted, IsDecided, IsMade}
 use Rattle.ak_run.specs.NewTeam.{IsNewTeam}
 use Rattle.ak_run.proofs.Counting.{threads}
@@ -54,7 +54,7 @@ module _ (book book' : Book) (clock clock' : Clock) (main : clock.thread.0 ≡ m
       subst (AreKept threads (length (state book).loopers) m.kept.items) (sym all) (subst (λ n. AreKept threads n m.kept.items (replicate (length m.kept.items) (new main_thread))) facts.first_is kept)
 
   module _ (roster : IsRoster object threads book) (rest : IsAtRest book) (enters : Enters (event.Launch word (launch_of book.heads (state book) word)) (map object m.kept.items) (book.doors ++ m.kept.items) book book' clock clock')
-      (apps : List AppText) (shared : Shared) (made : IsMade apps shared m description team first) (t : StartedTeam) (number_is : t.team.number ≡ team) (first_is : t.team.first ≡ first) (loopers_is : t.team.loopers ≡ length m.kept.items) (new_is : t.new ≡ m.team) where
+      (apps : List AppText) (shared : Shared) (made : IsMade apps shared m description team first) (t : StartedTeam) (number_is : t.team.number ≡ team) (first_is : t.team.first ≡ first) (loopers_is : t.team.loopers ≡ length m.kept.items) (time_is : t.team.time ≡ clock'.time) (new_is : t.new ≡ m.team) where
     first_next : first ≡ length (state book).loopers
     first_next = (started_facts book.heads (state book) word description team first decided.starts).first_is
 
@@ -73,11 +73,12 @@ module _ (book book' : Book) (clock clock' : Clock) (main : clock.thread.0 ≡ m
     loopers_there : loopers_at book.heads description ≡ t.team.loopers
     loopers_there = decided.many ∙ sym loopers_is
 
-    launched_there : (desk : DeskState) → Any (StartsTeam (facts_in book.heads t.team t.team.first desk)) book'.entries
+    launched_there : (desk : DeskState) → Any (StartsAt (facts_in book.heads t.team t.team.first desk) t.team.time) book'.entries
     launched_there desk =
         let starts_it : StartsTeam (facts_in book.heads t.team t.team.first desk) entry =
         (word, description, ap (event.Launch word) (decided.starts ∙ ap (λ n. launch.Started description n first) (sym number_is) ∙ ap (launch.Started description t.team.number) (sym first_is)), loopers_there) in
-        subst (Any (StartsTeam (facts_in book.heads t.team t.team.first desk))) (sym grown) (Any-push (StartsTeam (facts_in book.heads t.team t.team.first desk)) book.entries entry starts_it)
+        let at_time : entry.plain.stamp ≡ t.team.time = sym (time_is ∙ ap (λ (c : Clock). c.time) enters.1) in
+        subst (Any (StartsAt (facts_in book.heads t.team t.team.first desk) t.team.time)) (sym grown) (Any-push (StartsAt (facts_in book.heads t.team t.team.first desk) t.team.time) book.entries entry (starts_it, at_time))
 
     new_team : IsNewTeam made.plans t.team.number t.team.first shared t.new m.kept.items
     new_team =

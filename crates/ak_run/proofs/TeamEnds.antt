@@ -29,7 +29,7 @@ use Rattle.ak_run.specs.declared.run.Run.{Run}
 use Rattle.ak_run.specs.Closing.{ClosesSo, EndsTeam, EndsTeams, IsRecordedAtRoster, LeavesBook, LeavesSo, ports_of}
 use Rattle.ak_run.specs.Launching.{Book, HasEntered}
 use Rattle.ak_run.specs.Recording.{GoesBy, fronts_of, list_at}
-use Rattle.ak_run.proofs.Acting.{ActsAtBoth, SeesShut}
+use Rattle.ak_run.proofs.Acting.{ActsAtBoth}
 use Rattle.ak_run.proofs.Acts.{goes_then, nothing_after, same_goes, then_those}
 use Rattle.ak_run.proofs.Entering.{all_started, none_entered, one_entered}
 use Rattle.ak_run.proofs.Recorded.{call_goes, fronts_same, others_still, saw_front, sees_front}
@@ -56,10 +56,6 @@ range_push a (suc n) =
     ap (range_with_len a) more ∙ ap (λ (l : List ℕ). a ∷ l) (range_push (a + 1) n ∙ ap (λ (m : ℕ). range_with_len (a + 1) n ++ m ∷ []) same)
 
 -- ---- calls
--- what is a beginning of a list is one of what the list goes on to
-still : {L : Type 0} (xs ys : List L) (seen : List (List L)) → StartsWith ys xs → All (StartsWith xs) seen → All (StartsWith ys) seen
-still xs ys seen on all = All-weaker (StartsWith xs) (StartsWith ys) (λ front starts. starts_then_starts front xs ys starts on) seen all
-
 -- what main had entered at the roster, and then by such steps
 recorded_further : (so_far steps : List Step) (r s : Run) → GoesBy steps (fronts_of r) (fronts_of s) → IsRecordedAtRoster so_far r → IsRecordedAtRoster (so_far ++ steps) s
 recorded_further so_far steps r s goes is = then_those roster_entry so_far steps [] (noted roster_maker main_thread (plain_of r.roster_seat)) (noted roster_maker main_thread (plain_of s.roster_seat)) is goes.roster
@@ -70,37 +66,16 @@ closes_then P Q S r s t tells one two = record {
   so = λ so_far is. tells so_far one.steps two.steps (one.so so_far is) (two.so (so_far ++ one.steps) (recorded_further so_far one.steps r s one.goes is));
   goes = goes_then one.steps two.steps (fronts_of r) (fronts_of s) (fronts_of t) one.goes two.goes;
   no_edits = λ looper. nothing_after (desk_entry looper) one.steps two.steps (one.no_edits looper) (two.no_edits looper);
-  roster_on = starts_then_starts (plain_of r.roster_seat) (plain_of s.roster_seat) (plain_of t.roster_seat) one.roster_on two.roster_on;
-  ports_on = λ looper. starts_then_starts (list_at (fronts_of r).ports looper) (list_at (fronts_of s).ports looper) (list_at (fronts_of t).ports looper) (one.ports_on looper) (two.ports_on looper);
-  roster_seen =
-      subst (All (StartsWith (plain_of t.roster_seat))) (sym (flat_map-append roster_sight one.steps two.steps))
-      (All-append (StartsWith (plain_of t.roster_seat)) (roster_sights one.steps) (roster_sights two.steps) (still (plain_of s.roster_seat) (plain_of t.roster_seat) (roster_sights one.steps) two.roster_on one.roster_seen) two.roster_seen);
-  ports_seen = λ looper.
-      subst (All (StartsWith (list_at (fronts_of t).ports looper))) (sym (flat_map-append (port_sight looper) one.steps two.steps))
-      (All-append (StartsWith (list_at (fronts_of t).ports looper)) (port_sights looper one.steps) (port_sights looper two.steps)
-      (still (list_at (fronts_of s).ports looper) (list_at (fronts_of t).ports looper) (port_sights looper one.steps) (two.ports_on looper) (one.ports_seen looper)) (two.ports_seen looper));
 }
 
 pub closes_as : (P Q : List Step → List Step → Type 0) (r r' : Run) → ((so_far steps : List Step) → P so_far steps → Q so_far steps) → ClosesSo P r r' → ClosesSo Q r r'
-closes_as P Q r r' tells one = record { steps = one.steps; so = λ so_far is. tells so_far one.steps (one.so so_far is); goes = one.goes; no_edits = one.no_edits; roster_on = one.roster_on; ports_on = one.ports_on; roster_seen = one.roster_seen; ports_seen = one.ports_seen }
-
-same_on : {L : Type 0} (xs ys : List L) → ys ≡ xs → StartsWith ys xs
-same_on xs ys same = ([], same ∙ sym (append-nil xs))
+closes_as P Q r r' tells one = record { steps = one.steps; so = λ so_far is. tells so_far one.steps (one.so so_far is); goes = one.goes; no_edits = one.no_edits }
 
 -- nothing was done
-pub closes_same : (P : List Step → List Step → Type 0) (r r' : Run) → ((so_far : List Step) → P so_far []) → r'.members ≡ r.members → r'.roster_seat ≡ r.roster_seat → r'.hands.book_seat.front ≡ r.hands.book_seat.front → ClosesSo P r r'
-closes_same P r r' so members roster book =
-    let same = fronts_same r r' members (ap (λ s. s.front) roster) book [] in
-    record {
-      steps = [];
-      so = λ so_far is. so so_far;
-      goes = same_goes (fronts_of r) (fronts_of r') same;
-      no_edits = λ looper. refl;
-      roster_on = same_on (plain_of r.roster_seat) (plain_of r'.roster_seat) (ap plain_of roster);
-      ports_on = λ looper. same_on (list_at (fronts_of r).ports looper) (list_at (fronts_of r').ports looper) (ap (λ f. list_at f.ports looper) same);
-      roster_seen = All-nil (StartsWith (plain_of r'.roster_seat));
-      ports_seen = λ looper. All-nil (StartsWith (list_at (fronts_of r').ports looper));
-    }
+pub closes_same : (P : List Step → List Step → Type 0) (r r' : Run) → ((so_far : List Step) → P so_far []) → r'.hands.clock.time ≡ r.hands.clock.time → r'.members ≡ r.members → r'.roster_seat ≡ r.roster_seat → r'.hands.book_seat.front ≡ r.hands.book_seat.front → ClosesSo P r r'
+closes_same P r r' so time members roster book =
+    let same = fronts_same r r' time members (ap (λ s. s.front) roster) book [] in
+    record { steps = []; so = λ so_far is. so so_far; goes = same_goes (fronts_of r) (fronts_of r') same; no_edits = λ looper. refl }
 
 -- the team is gone, and its ports are shut
 pub ends_so : (heads : List AppHead) (so_far : List Step) (team : ℕ) (running : Option Running) (xs ys : List Step) → LeavesSo heads so_far team running xs → ShutsAll (ports_of running) ys → EndsTeam heads so_far team (xs ++ ys)
@@ -111,34 +86,8 @@ ends_gone heads so_far team steps leaves = record { running = None; gone = steps
 
 -- ---- a port is shut
 module _ (r r' : Run) (place : ℕ) (m : Member) (door : Door) (within : place < length r.members.items) (here : get_or r.members.items place m ≡ m) (is : r'.members.items ≡ set r.members.items place (record m { door = door })) (roster : r'.roster_seat ≡ r.roster_seat) where
-  abbrev front : List PortEntry
-  front = door.port_seat.front
-
-  front_is : list_at (fronts_of r').ports place ≡ front
-  front_is = sees_front r r' place m door within here is
-
-  on_there : StartsWith front m.door.port_seat.front → (other : ℕ) → StartsWith (list_at (fronts_of r').ports other) (list_at (fronts_of r).ports other)
-  on_there on other = dite (ℕ_discrete other place)
-      (λ same. subst (λ (n : ℕ). StartsWith (list_at (fronts_of r').ports n) (list_at (fronts_of r).ports n)) (sym same)
-      (subst (λ (l : List PortEntry). StartsWith l (list_at (fronts_of r).ports place)) (sym front_is) (subst (StartsWith front) (sym (saw_front r r' place m door within here is)) on)))
-      (λ differ. same_on (list_at (fronts_of r).ports other) (list_at (fronts_of r').ports other) (others_still r r' place m door within here is other differ))
-
-  seen_there : (steps : List Step) → SeesShut place front steps → (other : ℕ) → All (StartsWith (list_at (fronts_of r').ports other)) (port_sights other steps)
-  seen_there steps sees other = dite (ℕ_discrete other place)
-      (λ same. subst (λ (n : ℕ). All (StartsWith (list_at (fronts_of r').ports n)) (port_sights n steps)) (sym same) (subst (λ (l : List PortEntry). All (StartsWith l) (port_sights place steps)) (sym front_is) sees.ports_seen))
-      (λ differ. subst (All (StartsWith (list_at (fronts_of r').ports other))) (sym (sees.elsewhere other differ)) (All-nil (StartsWith (list_at (fronts_of r').ports other))))
-
-  pub shut_closes : StartsWith front m.door.port_seat.front → ActsAtBoth place (SeesShut place front) r.hands.book_seat.front r'.hands.book_seat.front m.door.port_seat.front front → ClosesSo (λ so_far. Shuts place) r r'
-  shut_closes on acts = record {
-    steps = acts.steps;
-    so = λ so_far is. acts.so.shuts;
-    goes = call_goes r r' place m door within here is acts.steps roster acts.acts acts.goes [];
-    no_edits = acts.goes.no_edits;
-    roster_on = same_on (plain_of r.roster_seat) (plain_of r'.roster_seat) (ap plain_of roster);
-    ports_on = on_there on;
-    roster_seen = subst (All (StartsWith (plain_of r'.roster_seat))) (sym acts.so.no_roster) (All-nil (StartsWith (plain_of r'.roster_seat)));
-    ports_seen = seen_there acts.steps acts.so;
-  }
+  pub shut_closes : ActsAtBoth place r.hands.clock.time r'.hands.clock.time (Shuts place) r.hands.book_seat.front r'.hands.book_seat.front m.door.port_seat.front door.port_seat.front → ClosesSo (λ so_far. Shuts place) r r'
+  shut_closes acts = record { steps = acts.steps; so = λ so_far is. acts.so; goes = call_goes r r' place m door within here is acts.steps roster acts.acts acts.goes []; no_edits = acts.goes.no_edits }
 
 -- ---- in main's turn at the roster
 -- a team is found exactly where the search tells so

@@ -19,7 +19,7 @@ use Rattle.ak_run.specs.declared.launching.Team.{Team}
 use Rattle.ak_run.specs.declared.new_looper.NewLooper.{NewLooper}
 use Rattle.ak_run.specs.declared.new_team.NewTeam.{NewTeam}
 use Rattle.ak_run.specs.declared.run.Run.{Run}
-use Rattle.ak_run.specs.Jobs.{HasWays, IsStartedFrom, IsStartedIn, facts_in}
+use Rattle.ak_run.specs.Jobs.{HasWays, IsStartedFrom, IsStartedIn, StartsAt, facts_in}
 use Rattle.ak_run.specs.NewTeam.{AreOthers, IsOneOf}
 use Rattle.ak_run.specs.Opened.{IsLaunchOf}
 use Rattle.ak_run.specs.Starting.{GoesOnWith, IsPaired, IsStarting, MayStart, MayStartTeam}
@@ -65,7 +65,7 @@ started_still plans t r s apps on is = record {
 }
 
 pub launched_still : (heads : List AppHead) (t : Team) (desk : DeskState) (seat seat' : RosterSeat) → StartsWith seat'.front seat.front → IsStartedIn heads t desk seat → IsStartedIn heads t desk seat'
-launched_still heads t desk seat seat' on launched = subst (Any (StartsTeam (facts_in heads t t.first desk))) (sym on.1) (any_more (StartsTeam (facts_in heads t t.first desk)) seat.front on.0 launched)
+launched_still heads t desk seat seat' on launched = subst (Any (StartsAt (facts_in heads t t.first desk) t.time)) (sym on.1) (any_more (StartsAt (facts_in heads t t.first desk) t.time) seat.front on.0 launched)
 
 paired_still : (seat seat' : RosterSeat) (ns : List NewLooper) → StartsWith seat'.front seat.front → All (IsPaired seat) ns → All (IsPaired seat') ns
 paired_still seat seat' ns on all = All-weaker (IsPaired seat) (IsPaired seat') (λ n is. leads_still n.number (arc_value n.door.port) (arc_value n.door.desk) seat seat' on is) ns all

@@ -3,14 +3,14 @@ use Rattle.std.proofs.Common.{◌≡◌, ◌≢◌, ◌<◌, ◌≤◌, ◌==◌
 use Rattle.std.specs.Prelude.{get_or, option_map, slice_get, unwrap_or}
 use Rattle.std.specs.List.{list_any}
 use Rattle.std.proofs.lemmas.List.{get_or-map, length-map}
-use Rattle.std.proofs.lemmas.List.Elements.{All-cons, All-contains, All-map, All-weaker}
+use Rattle.std.proofs.lemmas.List.Elements.{All-cons, All-contains, All-map, All-nil, All-weaker}
 use Rattle.std.proofs.lemmas.Option.{slice_get_cases, slice_get_within}
 use Rattle.ak_base.specs.Thread.{looper_thread}
 use Rattle.ak_base.specs.declared.thread.ThreadId.{ThreadId}
 use Rattle.ak_turn.specs.Entries.{AreByOthers, StartsWith}
 use Rattle.ak_turn.specs.Noted.{noted}
 use Rattle.ak_turn.specs.Seats.{part_of}
-use Rattle.ak_turn.proofs.Surface.{known_is_made, noted-others, starts_then_starts}
+use Rattle.ak_turn.proofs.Surface.{known_is_made, noted-others, seen_still, starts_then_starts}
 use Rattle.ak_roster.specs.declared.entry.EntryWithObjects.{EntryWithObjects}
 use Rattle.ak_roster.specs.declared.entry.RosterEntry.{RosterEntry}
 use Rattle.ak_roster.specs.declared.head.AppHead.{AppHead}
@@ -34,9 +34,9 @@ use Rattle.ak_diary.specs.declared.histories.Histories.{Histories}
 use Rattle.ak_diary.specs.Diary.{by_quit, by_team, without_memory}
 use Rattle.ak_diary.specs.Laws.{HasDiary}
 use Rattle.ak_diary.specs.Looper.{LooperFacts, desk_list, doors_got, is_of_team, last_quits}
-use Rattle.ak_diary.specs.Step.{book_entries, book_sights, desk_entries, port_entries, ran_short, roster_entries}
+use Rattle.ak_diary.specs.Step.{book_entries, book_sights, desk_entries, port_entries, port_sights, ran_short, roster_entries, roster_sights}
 use Rattle.ak_headline.specs.Run as headline
-use Rattle.ak_headline.specs.Run.{HasLooper, StartedTeam, port_list}
+use Rattle.ak_headline.specs.Run.{HasLooper, StartedAt, port_list}
 use Rattle.ak_looper.specs.declared.door.Door.{Door}
 use Rattle.ak_looper.specs.declared.job.LooperEnd.{LooperEnd}
 use Rattle.ak_looper.specs.declared.job.LooperJob.{LooperJob}
@@ -45,24 +45,25 @@ use Rattle.ak_looper.specs.Job.{facts_of}
 use Rattle.ak_looper.specs.Living.{kind_of}
 use Rattle.ak_looper.specs.Rosters as rosters
 use Rattle.ak_looper.specs.Rosters.{Object, RosterSeat}
-use Rattle.ak_looper.specs.Stands.{DoorStands, StartsTeam, doors_kept}
-use Rattle.ak_looper.proofs.Surface.{is_stranger, no_entries}
+use Rattle.ak_looper.specs.Stands.{DoorStands, doors_kept}
+use Rattle.ak_looper.proofs.Surface.{is_stranger, no_entries, no_sights, plain_starts}
 use Rattle.ak_run.specs.declared.gathering.Joined.{Joined}
 use Rattle.ak_run.specs.Ending.{IsRunOfLoopers}
 use Rattle.ak_run.specs.Gathering.{IsGaining, IsJoined, IsTakenIn, IsWayIn, TookBothIn, is_short, short_of}
+use Rattle.ak_run.specs.Jobs.{StartsAt}
 use Rattle.ak_run.specs.Running.{AreBelow}
 use Rattle.ak_run.proofs.Books.{all_desks, all_ports, as_many_desks, as_many_ports}
 use Rattle.ak_run.proofs.Elsewhere.{elsewhere}
 use Rattle.ak_run.proofs.Knowing.{known_told, part_known, plain_told}
-use Rattle.ak_run.proofs.Launched.{launched_whole}
-use Rattle.ak_run.proofs.Makers.{IsGathered, as_many, book_makers, desk_of, edited_by_holders, history, made_by_holders, port_makers, port_of, roster_made}
+use Rattle.ak_run.proofs.Launched.{launched_at, launched_whole}
+use Rattle.ak_run.proofs.Makers.{IsGathered, as_many, book_makers, desk_makers, desk_of, edited_by_holders, history, made_by_holders, port_makers, port_of, roster_made}
 use Rattle.ak_run.proofs.Paired.{AllAreJoined, all_started, ways_lead}
 use Rattle.ak_run.proofs.Placed.{BooksAt, books_at, number_at, short_at, short_below, short_rise, way_to}
 use Rattle.ak_run.proofs.Taking.{all_at, and_there, at_place, some_and}
 
 -- ---- the launch that a looper's job has seen, as the journal shows it
-any_plain : (l : LooperFacts) (entries : List (EntryWithObjects Object)) → Any (StartsTeam l) entries → Any (StartedTeam l) (plain_entries entries)
-any_plain l entries there =
+any_plain : (l : LooperFacts) (time : ℕ) (entries : List (EntryWithObjects Object)) → Any (StartsAt l time) entries → Any (StartedAt l time) (plain_entries entries)
+any_plain l time entries there =
     let plain : EntryWithObjects Object → RosterEntry = λ e. e.plain in
     let x = there.1 in
     let within : there.0 < length (plain_entries entries) = omega (arith, length-map entries plain, there.2) in
@@ -189,6 +190,16 @@ module _ (heads : List AppHead) (main : RosterSeat) (at_book : ReplySeat) (js la
       let stands = All-contains (DoorStands is.lived.steps end.roster_seat) end.doors.items way is.lived.doors has in
       known_told ports.by_number seat of.looper.door.port_seat port.entries of.is.known both.at_port thread (way_thread way has) ∙ stands.port.noted_is ∙ ap (λ (m : ℕ). port_entries m is.lived.steps) same
 
+  seen_at_way : (n : ℕ) (port : PortData) → slice_get h.ports.items n ≡ Some port → (way : ℕ × Door) → Contains end.doors.items way → way.0 ≡ n → All (StartsWith port.entries) (port_sights n is.lived.steps)
+  seen_at_way n port at way has same =
+      let of = port_of heads main at_book js later roster book h all g n port at in
+      let took : IsTakenIn later way = All-contains (IsTakenIn later) end.doors.items way (all_at (λ (x : Joined). All (IsTakenIn later) x.end.value.doors.items) js k j g.ways_in there) has in
+      let seat = way.1.port_seat in
+      let both = and_there (TookBothIn seat way.1.desk_seat) (slice_get later way.0) of.looper (ap (slice_get later) same ∙ of.there) took in
+      let stands = All-contains (DoorStands is.lived.steps end.roster_seat) end.doors.items way is.lived.doors has in
+      let begins = (part_known ports.by_number seat of.looper.door.port_seat port.entries of.is.known both.at_port).begins in
+      subst (λ (m : ℕ). All (StartsWith port.entries) (port_sights m is.lived.steps)) same (seen_still seat.front port.entries (port_sights way.0 is.lived.steps) begins stands.port.seen)
+
   -- at the desk behind a door it made nothing
   desk_at_way : (n : ℕ) (desk : DeskData) → slice_get h.desks.items n ≡ Some desk → (way : ℕ × Door) → Contains end.doors.items way → way.0 ≡ n → noted desks.by_number thread desk.entries ≡ []
   desk_at_way n desk at way has same =
@@ -305,8 +316,41 @@ module _ (heads : List AppHead) (main : RosterSeat) (at_book : ReplySeat) (js la
         ∙ plain_told thread roster.entries (part_of end.roster_seat) roster_thread (part_known rosters.by_number end.roster_seat main roster.entries all.of.known is.at_roster)
         ∙ is.lived.roster.noted_is
 
-    started : Any (StartedTeam l) h.roster.items
-    started = subst (λ (es : List RosterEntry). Any (StartedTeam l) es) (sym g.h_roster) (any_plain l roster.entries (launched_whole heads main at_book j is roster all.of))
+    started : Any (StartedAt l job.hands.clock.time) h.roster.items
+    started = subst (λ (es : List RosterEntry). Any (StartedAt l job.hands.clock.time) es) (sym g.h_roster) (any_plain l job.hands.clock.time roster.entries (launched_at heads main at_book j is roster all.of))
+
+    -- ---- what it saw without an entry
+    roster_seen : All (StartsWith h.roster.items) (roster_sights is.lived.steps)
+    roster_seen =
+        let begins = (part_known rosters.by_number end.roster_seat main roster.entries all.of.known is.at_roster).begins in
+        subst (λ (es : List RosterEntry). All (StartsWith es) (roster_sights is.lived.steps)) (sym g.h_roster)
+        (seen_still (plain_entries end.roster_seat.front) (plain_entries roster.entries) (roster_sights is.lived.steps) (plain_starts end.roster_seat.front roster.entries begins) is.lived.roster.seen)
+
+    seen_at_own : (n : ℕ) (port : PortData) → slice_get h.ports.items n ≡ Some port → n ≡ job.number → All (StartsWith port.entries) (port_sights n is.lived.steps)
+    seen_at_own n port at same =
+        let both : Some own.port ≡ Some port = sym own.port_there ∙ ap (slice_get h.ports.items) (sym (same ∙ number)) ∙ at in
+        let one : own.port ≡ port = cc both in
+        let begins = (part_known ports.by_number end.own.port_seat mine.door.port_seat own.port.entries own.port_is.known (gaining.port.parts (part_of end.own.port_seat) is.at_port)).begins in
+        subst (λ (p : PortData). All (StartsWith p.entries) (port_sights n is.lived.steps)) one
+        (subst (λ (m : ℕ). All (StartsWith own.port.entries) (port_sights m is.lived.steps)) (sym same) (seen_still end.own.port_seat.front own.port.entries (port_sights job.number is.lived.steps) begins is.lived.port.seen))
+
+    nothing_seen : (n : ℕ) (entries : List PortEntry) → All (λ m. m ≢ n) ways → All (StartsWith entries) (port_sights n is.lived.steps)
+    nothing_seen n entries none =
+        subst (All (StartsWith entries)) (sym (no_sights ways n (λ has. All-contains (λ m. m ≢ n) ways n none has refl) is.lived.steps is.lived.at_ways)) (All-nil (StartsWith entries))
+
+    seen_there : (n : ℕ) (port : PortData) → slice_get h.ports.items n ≡ Some port → (b : Bool) → (n == job.number) ≡ b → All (StartsWith port.entries) (port_sights n is.lived.steps)
+    seen_there n port at true same = seen_at_own n port at (eqb-true n job.number same)
+    seen_there n port at false other =
+        ⊎_elim (λ found. seen_at_way n port at found.0 found.1 found.2)
+        (λ none. nothing_seen n port.entries (All-cons (λ m. m ≢ n) end.number (map (λ (way : ℕ × Door). way.0) end.doors.items)
+        (λ same. (let bad : true ≡ false = sym (eq-eqb n job.number (sym (sym is.lived.number ∙ same))) ∙ other in absurd cc)) none)) (way_to end.doors.items n)
+
+    ports_seen : (n : ℕ) → All (StartsWith (port_list h n)) (port_sights n is.lived.steps)
+    ports_seen n =
+        ⊎_elim
+        (λ at. subst (λ (es : List PortEntry). All (StartsWith es) (port_sights n is.lived.steps)) (sym (list_there n at.0 at.2)) (seen_there n at.0 at.2 (n == job.number) refl))
+        (λ past. nothing_seen n (port_list h n) (ways_within n past.0))
+        (slice_get_cases h.ports.items n).1
 
     short_is : (short : List ℕ) → short ≡ short_of js → ran_short is.lived.steps ≡ list_any (λ n. n == k) short
     short_is short are =
@@ -320,10 +364,12 @@ module _ (heads : List AppHead) (main : RosterSeat) (at_book : ReplySeat) (js la
       of_team = subst (λ (n : ℕ). is_of_team l n ≡ true) number is.ready.of_team;
       heads_are = same_heads;
       opened = opened mine gaining own;
+      time = job.hands.clock.time;
       started = started;
+      stamped = is.lived.stamped;
       steps = is.lived.steps;
       diary = has_diary mine gaining own;
-      done = record { at_roster = roster_told; at_book = book_told; at_ports = at_ports; at_desks = at_desks; book_seen = book_seen };
+      done = record { at_roster = roster_told; at_book = book_told; at_ports = at_ports; at_desks = at_desks; roster_seen = roster_seen; book_seen = book_seen; ports_seen = ports_seen };
       short_is = short_is short are;
     }
 
@@ -360,4 +406,5 @@ module _ (heads : List AppHead) (main : RosterSeat) (at_book : ReplySeat) (js la
     roster_makers = roster_made heads main at_book js later roster book h all g roster_names told launches;
     book_makers = book_makers heads main at_book js later roster book h all g roster_names told launches book_names;
     port_makers = port_makers heads main at_book js later roster book h all g roster_names told launches;
+    desk_makers = desk_makers heads main at_book js later roster book h all g roster_names told launches;
   }

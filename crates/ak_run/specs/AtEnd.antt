@@ -5,7 +5,7 @@ use Rattle.ak_turn.specs.Entries.{StartsWith}
 use Rattle.ak_turn.specs.Noted.{StandsIn}
 use Rattle.ak_roster.specs.declared.head.AppHead.{AppHead}
 use Rattle.ak_diary.specs.declared.histories.Histories.{Histories}
-use Rattle.ak_diary.specs.Step.{Step, desk_entries, port_sights, roster_sights}
+use Rattle.ak_diary.specs.Step.{AreStamped, Step, desk_entries, port_sights, roster_sights}
 use Rattle.ak_headline.specs.Main.{IsMainDiary}
 use Rattle.ak_headline.specs.Run.{HasDone, desk_list, port_list}
 use Rattle.ak_run.specs.Closing.{EndsAllTeams}
@@ -17,10 +17,11 @@ pub record IsClosing (heads : List AppHead) (so_far : List Step) (h : Histories)
   pub ports_seen : (looper : ℕ) → All (StartsWith (port_list h looper)) (port_sights looper steps)
 
 -- its diary goes on from these steps, by those of its closing; it has all that main made at the roster, at the reply book, at each port and at
--- each desk, and the edits stand at the desks
+-- each desk, with the stamps that are due from 0 on, and the edits stand at the desks
 pub record DoneAtEnd (heads : List AppHead) (steps : List Step) (h : Histories) : Type 0 where
   pub closing : List Step
   pub closes : IsClosing heads steps h closing
   pub diary : IsMainDiary (steps ++ closing)
+  pub stamped : AreStamped 0 (steps ++ closing)
   pub done : HasDone h main_thread (steps ++ closing)
   pub edits : (looper : ℕ) → All (StandsIn (desk_list h looper)) (desk_entries looper steps)

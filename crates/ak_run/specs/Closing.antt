@@ -1,8 +1,7 @@
 -- What main does to end a run: team after team, each that runs is ended.
-use Rattle.std.specs.Prelude.{◌≡◌, ◌+◌, ◌≤◌, ℕ, List, [], ◌∷◌, ◌++◌, length, All, Option, None, Some}
+use Rattle.std.specs.Prelude.{◌≡◌, ◌+◌, ◌≤◌, ℕ, List, [], ◌∷◌, ◌++◌, length, Option, None, Some}
 use Rattle.std.specs.List.{find, range_with_len}
 use Rattle.ak_base.specs.Thread.{main_thread}
-use Rattle.ak_turn.specs.Entries.{StartsWith}
 use Rattle.ak_turn.specs.Noted.{Noted, noted}
 use Rattle.ak_roster.specs.Limits.{team_limit}
 use Rattle.ak_roster.specs.Machine.{runs_team, state_of}
@@ -11,13 +10,13 @@ use Rattle.ak_roster.specs.declared.entry.RosterEntry.{RosterEntry}
 use Rattle.ak_roster.specs.declared.entry.RosterEvent.TheVariants as event
 use Rattle.ak_roster.specs.declared.head.AppHead.{AppHead}
 use Rattle.ak_roster.specs.declared.team.Running.{Running}
-use Rattle.ak_diary.specs.Step.{Step, at_roster, desk_entries, port_sights, roster_entries, roster_sights, saw_roster}
+use Rattle.ak_diary.specs.Step.{Step, at_roster, desk_entries, roster_entries, saw_roster}
 use Rattle.ak_diary.specs.Turns.{ShutsAll}
 use Rattle.ak_headline.specs.Run.{roster_maker}
 use Rattle.ak_looper.specs.Rosters.{plain_of}
 use Rattle.ak_run.specs.declared.run.Run.{Run}
 use Rattle.ak_run.specs.Launching.{Book, HasEntered}
-use Rattle.ak_run.specs.Recording.{GoesBy, fronts_of, list_at}
+use Rattle.ak_run.specs.Recording.{GoesBy, fronts_of}
 
 -- ---- one team
 -- it ran, as that; that it is gone is one entry at the roster
@@ -67,17 +66,12 @@ EndsAllTeams heads so_far steps = EndsTeams heads so_far (range_with_len 1 team_
 abbrev pub IsRecordedAtRoster : List Step → Run → Type 0
 IsRecordedAtRoster so_far r = noted roster_maker main_thread (plain_of r.roster_seat) ≡ roster_entries so_far
 
--- By steps of which none is at a desk main's own entries went on, and so did what it knows of the roster and of each port; what it saw there
--- without an entry is a beginning of that. Behind whatever steps tell what it had entered at the roster they are such steps
+-- By steps of which none is at a desk main's own entries went on. Behind whatever steps tell what it had entered at the roster they are such steps
 pub record ClosesSo (P : List Step → List Step → Type 0) (r r' : Run) : Type 0 where
   pub steps : List Step
   pub so : (so_far : List Step) → IsRecordedAtRoster so_far r → P so_far steps
   pub goes : GoesBy steps (fronts_of r) (fronts_of r')
   pub no_edits : (looper : ℕ) → desk_entries looper steps ≡ []
-  pub roster_on : StartsWith (plain_of r'.roster_seat) (plain_of r.roster_seat)
-  pub ports_on : (looper : ℕ) → StartsWith (list_at (fronts_of r').ports looper) (list_at (fronts_of r).ports looper)
-  pub roster_seen : All (StartsWith (plain_of r'.roster_seat)) (roster_sights steps)
-  pub ports_seen : (looper : ℕ) → All (StartsWith (list_at (fronts_of r').ports looper)) (port_sights looper steps)
 
 -- in a turn at the roster: one entry tells that the team is gone, where it ran, and its loopers were started
 abbrev pub LeavesBook : ℕ → Option Running → Book → Book → Type 0

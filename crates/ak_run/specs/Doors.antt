@@ -1,7 +1,6 @@
 -- The doors to a looper that is about to start.
 use Rattle.std.specs.Prelude.{◌≡◌, ℕ, List, None, Some}
 use Rattle.std.specs.Arc.{arc_value}
-use Rattle.ak_base.specs.Thread.{main_thread}
 use Rattle.ak_base.specs.declared.thread.ThreadId.{ThreadId}
 use Rattle.ak_turn.specs.Called.{KeepsSeat}
 use Rattle.ak_turn.specs.Seats.{KnowsWhole, new_seat, titled_seat}
@@ -11,7 +10,6 @@ use Rattle.ak_port.specs.PortCalls.{CanTake}
 use Rattle.ak_desk.specs.Shared as desks
 use Rattle.ak_looper.specs.declared.door.Door.{Door}
 use Rattle.ak_looper.specs.declared.kept_door.KeptDoor.{KeptDoor}
-use Rattle.ak_run.specs.Recording.{AddsAtPort}
 
 -- its seats know the port's list and the desk's
 pub record KnowsBoth (d : Door) : Type 0 where
@@ -61,8 +59,7 @@ pub record HasGivenUpNames (door door' : Door) : Type 0 where
   pub port_seat : door'.port_seat ≡ titled_seat None door.port_seat
   pub desk_seat : door'.desk_seat ≡ titled_seat None door.desk_seat
 
--- what no send at its port changes: which port and which desk, the seats there, and that they know the lists; a taker can take as before.
--- What main itself made there is what it may make
+-- what no send at its port changes: which port and which desk, the seats there, and that they know the lists; a taker can take as before
 pub record KeepsDoor (door door' : Door) : Type 0 where
   pub port : door'.port ≡ door.port
   pub desk : door'.desk ≡ door.desk
@@ -70,7 +67,6 @@ pub record KeepsDoor (door door' : Door) : Type 0 where
   pub desk_seat : door'.desk_seat ≡ door.desk_seat
   pub known : KnowsWhole ports.by_number door.port_seat → KnowsWhole ports.by_number door'.port_seat
   pub taking : (thread : ThreadId) (room : ℕ) → CanTake thread room door.port_seat → CanTake thread room door'.port_seat
-  pub adds : door.port_seat.thread ≡ main_thread → AddsAtPort door.port_seat.front door'.port_seat.front
 
 -- what no call at its port changes: which port and which desk, whose seats they are, and what was seen of the desk
 pub record KeepsSeats (door door' : Door) : Type 0 where

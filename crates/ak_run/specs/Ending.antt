@@ -11,7 +11,8 @@ use Rattle.ak_port.specs.declared.reply_entry.ReplyEntry.{ReplyEntry}
 use Rattle.ak_port.specs.PortCalls as at_ports
 use Rattle.ak_diary.specs.declared.histories.Histories.{Histories}
 use Rattle.ak_diary.specs.Histories.{AreHistories}
-use Rattle.ak_headline.specs.Run.{HasLooper, IsOfRun, desk_list, port_list}
+use Rattle.ak_desk.specs.Entry.{EntryData}
+use Rattle.ak_headline.specs.Run.{HasLooper, IsOfRun, desk_list, desk_maker, port_list}
 use Rattle.ak_looper.specs.Rosters.{plain_of}
 use Rattle.ak_run.specs.declared.run.Run.{Run}
 use Rattle.ak_run.specs.Doing.{desk_front}
@@ -19,7 +20,7 @@ use Rattle.ak_run.specs.Recording.{fronts_of, list_at}
 
 -- Each list is one that its object's machine allows; there are a port and a desk for each looper that was started, and no others. Each
 -- looper has its diary, which has all that its thread did; those with these numbers, in order and each once, found no memory. No thread but main and the loopers'
--- made an entry at the roster, at the reply book or at a port
+-- made an entry at the roster, at the reply book, at a port or at a desk
 pub record IsRunOfLoopers (heads : List AppHead) (short : List ℕ) (h : Histories) : Type 0 where
   pub histories : AreHistories heads h
   pub all : length h.ports.items ≡ length (state_of heads h.roster.items).loopers
@@ -29,6 +30,7 @@ pub record IsRunOfLoopers (heads : List AppHead) (short : List ℕ) (h : Histori
   pub roster_makers : All (λ (entry : RosterEntry). IsOfRun h entry.by.0) h.roster.items
   pub book_makers : All (λ (entry : ReplyEntry). IsOfRun h entry.by.0) h.book
   pub port_makers : (looper : ℕ) → All (λ (entry : PortEntry). IsOfRun h entry.by.0) (port_list h looper)
+  pub desk_makers : (looper : ℕ) → All (λ (entry : EntryData). IsOfRun h (desk_maker entry)) (desk_list h looper)
 
 -- The histories are those of this run
 pub record EndsAs (r : Run) (h : Histories) : Type 0 where

@@ -1,5 +1,5 @@
 -- What main knows of the loopers whose threads it joined.
-use Rattle.std.specs.Prelude.{◌≡◌, ◌+◌, ◌≤◌, ℕ, suc, List, [], ◌∷◌, ◌++◌, length, map, filter, All, Bool, true, false, Contains, IsSomeAnd, Some, set, slice_get, Vec, vec_capacity}
+use Rattle.std.specs.Prelude.{◌≡◌, ◌+◌, ◌≤◌, ℕ, suc, List, [], ◌∷◌, ◌++◌, length, map, filter, All, Any, Bool, true, false, Contains, IsSomeAnd, Some, set, slice_get, Vec, vec_capacity}
 use Rattle.std.specs.Arc.{arc_value}
 use Rattle.std.specs.declared.alloc.Global.{Global}
 use Rattle.ak_base.specs.Thread.{looper_thread, main_thread}
@@ -28,13 +28,14 @@ use Rattle.ak_looper.specs.declared.door.Door.{Door}
 use Rattle.ak_looper.specs.declared.job.EndKind.{EndKind}
 use Rattle.ak_looper.specs.declared.job.EndKind.TheVariants as kind
 use Rattle.ak_looper.specs.Doors.{door_object}
-use Rattle.ak_looper.specs.Job.{HasLived, IsReady}
+use Rattle.ak_looper.specs.Job.{HasLived, IsReady, facts_of}
 use Rattle.ak_looper.specs.declared.kept_door.KeptDoor.{KeptDoor}
 use Rattle.ak_looper.specs.Rosters as rosters
 use Rattle.ak_looper.specs.Rosters.{LeadsTo, Object, RosterSeat}
 use Rattle.ak_run.specs.declared.gathering.AllJoined.{AllJoined}
 use Rattle.ak_run.specs.declared.gathering.Joined.{Joined}
 use Rattle.ak_run.specs.Doors.{HasNoNames}
+use Rattle.ak_run.specs.Jobs.{StartsAt}
 use Rattle.ak_run.specs.Recording.{EndsByOthers}
 
 module _ {O L : Type 0} where
@@ -61,6 +62,7 @@ pub record IsJoined (heads : List AppHead) (roster : RosterSeat) (book : ReplySe
   pub lived : HasLived j.job.value j.end.value
   pub heads_are : j.job.value.roster_seat.opening ≡ Some heads
   pub seen : StartsWith roster.front j.job.value.roster_seat.front
+  pub begins : (desk : DeskState) → Any (StartsAt (facts_of j.job.value heads desk) j.job.value.hands.clock.time) j.job.value.roster_seat.front
   pub at_roster : TookIn j.end.value.roster_seat roster
   pub at_book : TookIn j.end.value.hands.book_seat book
   pub at_port : TookIn j.end.value.own.port_seat j.door.port_seat

@@ -5,6 +5,7 @@ use Rattle.ak_base.specs.Limits.{looper_limit}
 use Rattle.ak_base.specs.Thread.{looper_thread}
 use Rattle.ak_turn.specs.Noted.{noted}
 use Rattle.ak_turn.specs.Seats.{SeatData}
+use Rattle.ak_roster.specs.declared.entry.EntryWithObjects.{EntryWithObjects}
 use Rattle.ak_roster.specs.declared.head.AppHead.{AppHead}
 use Rattle.ak_port.specs.ReplySeats as books
 use Rattle.ak_action.specs.declared.plan.PlanParts.{PlanParts}
@@ -14,7 +15,7 @@ use Rattle.ak_diary.specs.Looper.{LooperFacts}
 use Rattle.ak_looper.specs.declared.door.Door.{Door}
 use Rattle.ak_looper.specs.declared.job.LooperJob.{LooperJob}
 use Rattle.ak_looper.specs.Doors.{IsNewDoor}
-use Rattle.ak_looper.specs.Rosters.{LeadsTo, RosterSeat, maker_of, plain_of}
+use Rattle.ak_looper.specs.Rosters.{LeadsTo, Object, RosterSeat, maker_of, plain_of}
 use Rattle.ak_looper.specs.Stands.{StartsTeam, doors_kept}
 use Rattle.ak_run.specs.declared.launching.Team.{Team}
 use Rattle.ak_run.specs.declared.new_looper.NewLooper.{NewLooper}
@@ -27,9 +28,13 @@ use Rattle.ak_run.specs.Opened.{IsLaunchOf}
 abbrev pub facts_in : List AppHead → Team → ℕ → DeskState → LooperFacts
 facts_in heads t number desk = record { number = number; team = t.number; first = t.first; loopers = t.loopers; heads = heads; desk = desk }
 
--- the launch that started the team is in that list
+-- by an entry with that stamp its team was started
+abbrev pub StartsAt : LooperFacts → ℕ → EntryWithObjects Object → Type 0
+StartsAt l time entry = StartsTeam l entry × (entry.plain.stamp ≡ time)
+
+-- the launch that started the team is in that list, at the team's time
 abbrev pub IsStartedIn : List AppHead → Team → DeskState → RosterSeat → Type 0
-IsStartedIn heads t desk roster = Any (StartsTeam (facts_in heads t t.first desk)) roster.front
+IsStartedIn heads t desk roster = Any (StartsAt (facts_in heads t t.first desk) t.time) roster.front
 
 -- that list has a launch of the application of these plans, by which the team was started
 pub record IsStartedFrom (apps : List AppText) (plans : List PlanParts) (t : Team) (roster : RosterSeat) : Type 0 where
@@ -68,6 +73,7 @@ pub record IsJobOf (t : Team) (n : NewLooper) (book : books.ReplySeat) (roster :
   pub number : job.number ≡ n.number
   pub team : job.team ≡ t.number
   pub first : job.first ≡ t.first
+  pub loopers : job.loopers ≡ t.loopers
   pub own : job.own ≡ n.own
   pub book_is : job.hands.book ≡ n.shared.book
   pub book_seat : job.hands.book_seat ≡ book

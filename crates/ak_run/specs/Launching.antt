@@ -5,6 +5,7 @@ use Rattle.std.specs.List.{find}
 use Rattle.ak_base.specs.Limits.{looper_limit}
 use Rattle.ak_base.specs.Thread.{main_thread}
 use Rattle.ak_turn.specs.Entries.{made_by}
+use Rattle.ak_turn.specs.Noted.{note}
 use Rattle.ak_roster.specs.declared.head.AppHead.{AppHead}
 use Rattle.ak_roster.specs.declared.entry.EntryWithObjects.{EntryWithObjects}
 use Rattle.ak_roster.specs.declared.entry.RosterEvent.{RosterEvent}
@@ -18,11 +19,11 @@ use Rattle.ak_roster.specs.Roster.{RosterData, objects_of, plain_entries, state}
 use Rattle.ak_action.specs.declared.plan.PlanParts.{PlanParts}
 use Rattle.ak_action.specs.declared.state.DeskState.{DeskState}
 use Rattle.ak_describe.specs.declared.described.AppText.{AppText}
+use Rattle.ak_diary.specs.Step.{Step, at_roster}
 use Rattle.ak_headline.specs.Main.{MayEnterRoster}
 use Rattle.ak_looper.specs.declared.kept_door.KeptDoor.{KeptDoor}
 use Rattle.ak_looper.specs.Doors.{door_object}
 use Rattle.ak_looper.specs.Rosters.{Object, maker_of}
-use Rattle.ak_looper.specs.Stands.{StartsTeam}
 use Rattle.ak_run.specs.declared.launching.Launch.{Launch}
 use Rattle.ak_run.specs.declared.launching.Launch.TheVariants as launch
 use Rattle.ak_run.specs.declared.launching.StartedTeam.{StartedTeam}
@@ -30,10 +31,10 @@ use Rattle.ak_run.specs.declared.new_team.Making.{Making}
 use Rattle.ak_run.specs.declared.new_looper.Shared.{Shared}
 use Rattle.ak_run.specs.declared.new_team.NewTeam.{NewTeam}
 use Rattle.ak_run.specs.Counting.{started_in}
-use Rattle.ak_run.specs.Jobs.{facts_in}
+use Rattle.ak_run.specs.Jobs.{StartsAt, facts_in}
 use Rattle.ak_run.specs.Greeting.{EachMains, capacities_in, port_events, told_first, written_from}
 use Rattle.ak_run.specs.NewTeam.{IsNewTeam, IsOneOf}
-use Rattle.ak_run.specs.Recording.{team_fronts}
+use Rattle.ak_run.specs.Recording.{AreInTime, ArePortsInTime, team_fronts}
 
 abbrev pub Book : Type 0
 Book = RosterData KeptDoor Object
@@ -52,6 +53,14 @@ pub record HasEntered (what : Option RosterEvent) (started : ℕ) (book book' : 
   pub by_main : All (λ (entry : EntryWithObjects Object). entry.plain.by.0 ≡ main_thread) added
   pub may : All (λ (entry : EntryWithObjects Object). MayEnterRoster entry.plain.event) added
   pub starts : started_in book.heads (plain_entries added) ≡ started
+
+-- an entry there, behind that list
+abbrev pub turn_step : List (EntryWithObjects Object) → EntryWithObjects Object → Step
+turn_step before entry = at_roster (note (plain_entries before) entry.plain)
+
+-- from one time to the other whatever was entered has the stamps that are due
+abbrev pub IsTurnInTime : ℕ → ℕ → Book → Book → Type 0
+IsTurnInTime time later book book' = (added : List (EntryWithObjects Object)) → book'.entries ≡ book.entries ++ added → AreInTime time (map (turn_step book.entries) added) later
 
 -- as many loopers were started as main's own entries tell
 abbrev pub ByMain : Book → Type 0
@@ -73,7 +82,7 @@ pub record HasStarted (apps : List AppText) (shared : Shared) (word : AppWord) (
   pub all : length plans ≡ length t.new.others.items + 1
   pub first : t.team.first ≡ length (state book).loopers
   pub within : t.team.first + t.team.loopers ≤ looper_limit
-  pub launched : (desk : DeskState) → Any (StartsTeam (facts_in book.heads t.team t.team.first desk)) book'.entries
+  pub launched : (desk : DeskState) → Any (StartsAt (facts_in book.heads t.team t.team.first desk) t.team.time) book'.entries
   pub starts : launch_of book.heads (state book) word ≡ outcome.Started description t.team.number t.team.first
   pub entered : HasEntered (Some (event.Launch word (outcome.Started description t.team.number t.team.first))) t.team.loopers book book'
   pub objects : objects_of book'.entries ≡ objects_of book.entries ++ map (λ (k : KeptDoor). door_object (arc_value k.port) (arc_value k.desk)) kept
@@ -127,3 +136,11 @@ ComesTo apps shared word book book' (launch.Running team first) = HasEntered (So
 ComesTo apps shared word book book' launch.NotFound = HasEntered (Some (event.Launch word outcome.NotFound)) 0 book book'
 ComesTo apps shared word book book' launch.Limit = HasEntered (Some (event.Launch word outcome.Limit)) 0 book book'
 ComesTo apps shared word book book' launch.NoMemory = HasEntered None 0 book book'
+
+-- the ports of a team that starts are made before its launch is entered
+abbrev pub LaunchInTime : ℕ → ℕ → Book → Book → Launch → Type 0
+LaunchInTime time later book book' (launch.Started t) = (between : ℕ) × ArePortsInTime time (team_fronts t.new) between × IsTurnInTime between later book book'
+LaunchInTime time later book book' (launch.Running team first) = IsTurnInTime time later book book'
+LaunchInTime time later book book' launch.NotFound = IsTurnInTime time later book book'
+LaunchInTime time later book book' launch.Limit = IsTurnInTime time later book book'
+LaunchInTime time later book book' launch.NoMemory = IsTurnInTime time later book book'

@@ -1,6 +1,5 @@
 -- The loopers that were started, as main has them.
 use Rattle.std.specs.Prelude.{◌≡◌, ℕ, ◌+◌, List, Any, Some, slice_get}
-use Rattle.ak_base.specs.Thread.{main_thread}
 use Rattle.ak_turn.specs.Called.{KeepsSeat}
 use Rattle.ak_roster.specs.declared.entry.RosterEntry.{RosterEntry}
 use Rattle.ak_action.specs.declared.plan.PlanParts.{PlanParts}
@@ -14,7 +13,6 @@ use Rattle.ak_looper.specs.Job.{HasLived}
 use Rattle.ak_run.specs.declared.member.Life.{Life}
 use Rattle.ak_run.specs.declared.member.Life.TheVariants as life
 use Rattle.ak_run.specs.Opened.{IsLaunchOf}
-use Rattle.ak_run.specs.Recording.{AddsAtPort}
 
 -- its thread is to give back what comes of that job, or it has come of it
 abbrev pub IsLifeOf : LooperJob → Life → Type 0
@@ -40,4 +38,3 @@ pub record StillLeads (door door' : Door) : Type 0 where
   pub port_kept : KeepsSeat door.port_seat door'.port_seat
   pub desk : door'.desk ≡ door.desk
   pub desk_seat : door'.desk_seat ≡ door.desk_seat
-  pub adds : door.port_seat.thread ≡ main_thread → AddsAtPort door.port_seat.front door'.port_seat.front

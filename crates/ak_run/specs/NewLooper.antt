@@ -18,7 +18,6 @@ use Rattle.ak_run.specs.declared.new_looper.Own.{Own}
 use Rattle.ak_run.specs.declared.new_looper.Shared.{Shared}
 use Rattle.ak_run.specs.Doors.{HasNoNames}
 use Rattle.ak_run.specs.Opening.{names_in}
-use Rattle.ak_run.specs.Recording.{AddsAtPort}
 
 -- the same reply book and the same roster
 pub record AreSame (shared other : Shared) : Type 0 where
@@ -46,8 +45,6 @@ pub record IsNewLooper (plans : List PlanParts) (team first : ℕ) (shared : Sha
   -- main's seat at the port is of that port's taker too
   pub port_opening : n.door.port_seat.opening ≡ Some taker
   pub desk_opening : n.door.desk_seat.opening ≡ Some desk
-  -- and what main made there is what it may make
-  pub made : AddsAtPort [] n.door.port_seat.front
   -- nothing was done at the desk
   pub desk_front : n.door.desk_seat.front ≡ []
   -- neither main's seats are heads nor the thread's, since the keeper's are

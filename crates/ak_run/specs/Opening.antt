@@ -12,7 +12,6 @@ use Rattle.ak_action.specs.Opening.{FitsPlace, Opens}
 use Rattle.ak_run.specs.declared.opening.Opened.{Opened}
 use Rattle.ak_run.specs.declared.opening.Place.{Place}
 use Rattle.ak_run.specs.Doors.{HasNames, KnowsBoth}
-use Rattle.ak_run.specs.Recording.{AddsAtPort}
 
 abbrev pub names_in : List PlanParts → List (List ℕ)
 names_in plans = map (λ (p : PlanParts). p.name) plans
@@ -39,9 +38,7 @@ pub record IsOpened (place : Place) (plan : PlanParts) (names : List (List ℕ))
   pub by_main : o.door.port_seat.thread ≡ main_thread
   pub known : KnowsBoth o.door
   pub names_are : HasNames (main_thread ∷ []) o.door
-  -- what main made at the port is what it may make
-  pub made : AddsAtPort [] o.door.port_seat.front
-  -- and nothing was done at the desk
+  -- nothing was done at the desk
   pub desk_front : o.door.desk_seat.front ≡ []
 
 module _ (plans : List PlanParts) (team first : ℕ) where

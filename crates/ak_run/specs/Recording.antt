@@ -11,7 +11,7 @@ use Rattle.ak_port.specs.PortCalls.{PortData}
 use Rattle.ak_port.specs.ReplySeats as at_books
 use Rattle.ak_desk.specs.Entry.{EntryData}
 use Rattle.ak_desk.specs.Shared as at_desks
-use Rattle.ak_diary.specs.Step.{Step, book_entries, book_sights, desk_entries, port_entries, roster_entries}
+use Rattle.ak_diary.specs.Step.{AreStamped, Step, book_entries, book_sights, desk_entries, due, port_entries, port_sights, roster_entries, roster_sights, time_of}
 use Rattle.ak_headline.specs.Main.{IsMainDiary, MayEnterPort}
 use Rattle.ak_looper.specs.Rosters.{maker_of, plain_of}
 use Rattle.ak_run.specs.declared.member.Member.{Member}
@@ -20,14 +20,15 @@ use Rattle.ak_run.specs.declared.new_team.NewTeam.{NewTeam}
 use Rattle.ak_run.specs.declared.run.Run.{Run}
 
 -- ---- what main's seats have seen
--- the roster's list, the reply book's, and each port's, by the loopers' numbers
+-- main's time, the roster's list, the reply book's, and each port's, by the loopers' numbers
 pub record Fronts : Type 0 where
+  pub time : ℕ
   pub roster : List RosterEntry
   pub book : List ReplyEntry
   pub ports : List (List PortEntry)
 
-abbrev pub fronts : List RosterEntry → List ReplyEntry → List (List PortEntry) → Fronts
-fronts roster book ports = record { roster = roster; book = book; ports = ports }
+abbrev pub fronts : ℕ → List RosterEntry → List ReplyEntry → List (List PortEntry) → Fronts
+fronts time roster book ports = record { time = time; roster = roster; book = book; ports = ports }
 
 -- a port's list; empty where there is no such port
 abbrev pub list_at : List (List PortEntry) → ℕ → List PortEntry
@@ -44,7 +45,7 @@ new_front n = n.door.port_seat.front
 
 -- Those of a run. While a team starts, its loopers' ports that are made follow those of the loopers that have started
 abbrev pub fronts_with : Run → List (List PortEntry) → Fronts
-fronts_with r new = fronts (plain_of r.roster_seat) r.hands.book_seat.front (map member_front r.members.items ++ new)
+fronts_with r new = fronts r.hands.clock.time (plain_of r.roster_seat) r.hands.book_seat.front (map member_front r.members.items ++ new)
 
 abbrev pub fronts_of : Run → Fronts
 fronts_of r = fronts_with r []
@@ -53,15 +54,44 @@ fronts_of r = fronts_with r []
 abbrev pub team_fronts : NewTeam → List (List PortEntry)
 team_fronts t = new_front t.own ∷ map new_front t.others.items
 
+-- ---- in time
+-- from that time on each entry of these steps has the stamp that is due, and behind them the time is that
+pub record AreInTime (time : ℕ) (steps : List Step) (later : ℕ) : Type 0 where
+  pub stamped : AreStamped time steps
+  pub time_is : time_of time steps ≡ later
+
+-- so have entries at one port, each with what stands before it
+abbrev pub AreNotesInTime : ℕ → List (Noted PortEntry) → ℕ → Type 0
+AreNotesInTime time [] later = time ≡ later
+AreNotesInTime time (n ∷ notes) later = (n.entry.stamp ≡ due at_ports.stamp_number time n.before) × AreNotesInTime n.entry.stamp notes later
+
+-- and entries there that follow that list
+abbrev pub AreEntriesInTime : ℕ → List PortEntry → List PortEntry → ℕ → Type 0
+AreEntriesInTime time before [] later = time ≡ later
+AreEntriesInTime time before (entry ∷ entries) later = (entry.stamp ≡ due at_ports.stamp_number time before) × AreEntriesInTime entry.stamp (before ++ entry ∷ []) entries later
+
+-- ports with these lists, one behind another
+abbrev pub AreMadeInTime : ℕ → List (List PortEntry) → ℕ → Type 0
+AreMadeInTime time [] later = time ≡ later
+AreMadeInTime time (entries ∷ ports) later = (between : ℕ) × AreEntriesInTime time [] entries between × AreMadeInTime between ports later
+
+-- those of a team: all are made, and then the first one is written to
+abbrev pub ArePortsInTime : ℕ → List (List PortEntry) → ℕ → Type 0
+ArePortsInTime time ((made ∷ written) ∷ ports) later = (between : ℕ) × AreMadeInTime time ((made ∷ []) ∷ ports) between × AreEntriesInTime between (made ∷ []) written later
+ArePortsInTime time _ later = ⊥
+
 -- ---- main's diary
--- the rules allow these steps, and main's own entries at each object are those of them; what it saw of the book without an entry is a
--- beginning of what it knows
+-- the rules allow these steps, main's own entries at each object are those of them, and their stamps are due from 0 on; what it saw without an
+-- entry is a beginning of what it knows
 pub record IsRecorded (steps : List Step) (f : Fronts) : Type 0 where
   pub diary : IsMainDiary steps
+  pub in_time : AreInTime 0 steps f.time
   pub roster : noted maker_of main_thread f.roster ≡ roster_entries steps
   pub book : noted at_books.maker_of main_thread f.book ≡ book_entries steps
+  pub roster_seen : All (StartsWith f.roster) (roster_sights steps)
   pub book_seen : All (StartsWith f.book) (book_sights steps)
   pub ports : (looper : ℕ) → noted at_ports.by_number main_thread (list_at f.ports looper) ≡ port_entries looper steps
+  pub ports_seen : (looper : ℕ) → All (StartsWith (list_at f.ports looper)) (port_sights looper steps)
 
 -- there is such a diary, and of these lists of desks main's own entries are its edits there
 pub record HasRecord (f : Fronts) (lists : ℕ → List EntryData) : Type 0 where
@@ -69,14 +99,19 @@ pub record HasRecord (f : Fronts) (lists : ℕ → List EntryData) : Type 0 wher
   pub recorded : IsRecorded did f
   pub edits : (looper : ℕ) → noted at_desks.by_number main_thread (lists looper) ≡ desk_entries looper did
 
--- from one to the other its own entries went on by those of these steps, which are acts of main's
+-- from one to the other its own entries went on by those of these steps, which are acts of main's; their stamps are due, and each list goes on
 pub record GoesBy (steps : List Step) (a b : Fronts) : Type 0 where
   pub acts : IsMainDiary steps
+  pub in_time : AreInTime a.time steps b.time
   pub roster : noted maker_of main_thread b.roster ≡ noted maker_of main_thread a.roster ++ roster_entries steps
+  pub roster_on : StartsWith b.roster a.roster
+  pub roster_seen : All (StartsWith b.roster) (roster_sights steps)
   pub book : noted at_books.maker_of main_thread b.book ≡ noted at_books.maker_of main_thread a.book ++ book_entries steps
   pub book_on : StartsWith b.book a.book
   pub book_seen : All (StartsWith b.book) (book_sights steps)
   pub ports : (looper : ℕ) → noted at_ports.by_number main_thread (list_at b.ports looper) ≡ noted at_ports.by_number main_thread (list_at a.ports looper) ++ port_entries looper steps
+  pub ports_on : (looper : ℕ) → StartsWith (list_at b.ports looper) (list_at a.ports looper)
+  pub ports_seen : (looper : ℕ) → All (StartsWith (list_at b.ports looper)) (port_sights looper steps)
 
 -- by some acts, of which none is an edit
 pub record Records (a b : Fronts) : Type 0 where
@@ -88,6 +123,10 @@ pub record Records (a b : Fronts) : Type 0 where
 abbrev pub RecordsBeside : Run → Run → Type 0
 RecordsBeside r r' = (new : List (List PortEntry)) → Records (fronts_with r new) (fronts_with r' new)
 
+-- by a call in which the list of the first of them went on too
+abbrev pub RecordsAtNew : List PortEntry → List PortEntry → Run → Run → Type 0
+RecordsAtNew port port' r r' = (new : List (List PortEntry)) → Records (fronts_with r (port ∷ new)) (fronts_with r' (port' ∷ new))
+
 -- by the start of the looper with that port, which is new no more
 pub record RecordsStart (port : List PortEntry) (r r' : Run) : Type 0 where
   pub beside : (new : List (List PortEntry)) → Records (fronts_with r (port ∷ new)) (fronts_with r' new)
@@ -97,9 +136,11 @@ pub record StartsQuietly (port : List PortEntry) (r r' : Run) : Type 0 where
   pub same : (new : List (List PortEntry)) → fronts_with r' new ≡ fronts_with r (port ∷ new)
 
 -- ---- at one port
--- main made entries there, each of which it may make by itself
-pub record AddsAtPort (a b : List PortEntry) : Type 0 where
+-- from one time to the other main made entries there, each of which it may make by itself, and the list goes on
+pub record AddsAtPort (time later : ℕ) (a b : List PortEntry) : Type 0 where
   pub added : List (Noted PortEntry)
+  pub in_time : AreNotesInTime time added later
+  pub on : StartsWith b a
   pub may : All (λ (n : Noted PortEntry). MayEnterPort n.entry.event) added
   pub noted_is : noted at_ports.by_number main_thread b ≡ noted at_ports.by_number main_thread a ++ added
 

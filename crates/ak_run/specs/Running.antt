@@ -1,5 +1,5 @@
 -- How a run stands between main's calls.
-use Rattle.std.specs.Prelude.{◌≡◌, ◌⊎◌, ℕ, ◌+◌, ◌≤◌, ◌<◌, List, [], length, map, All, Option, None, Some, vec_len, vec_capacity}
+use Rattle.std.specs.Prelude.{◌≡◌, ◌⊎◌, ℕ, ◌+◌, ◌≤◌, ◌<◌, List, [], length, map, All, Any, Option, None, Some, vec_len, vec_capacity}
 use Rattle.std.specs.Arc.{arc_value}
 use Rattle.std.specs.List.{range_with_len}
 use Rattle.ak_base.specs.Limits.{looper_limit}
@@ -12,7 +12,7 @@ use Rattle.ak_port.specs.ReplySeats as books
 use Rattle.ak_action.specs.declared.state.DeskState.{DeskState}
 use Rattle.ak_describe.specs.declared.described.AppText.{AppText}
 use Rattle.ak_describe.specs.Whole.{IsWholeApp, heads_of}
-use Rattle.ak_looper.specs.Job.{IsReady}
+use Rattle.ak_looper.specs.Job.{IsReady, facts_of}
 use Rattle.ak_looper.specs.Rosters as rosters
 use Rattle.ak_looper.specs.Rosters.{LeadsTo}
 use Rattle.ak_run.specs.declared.member.Member.{Member}
@@ -22,12 +22,14 @@ use Rattle.ak_run.specs.Counting.{started_by_main}
 use Rattle.ak_run.specs.Doing.{desk_front}
 use Rattle.ak_run.specs.Doors.{HasNoNames}
 use Rattle.ak_run.specs.Gathering.{HasRoomFor, HoldsNothing}
+use Rattle.ak_run.specs.Jobs.{StartsAt}
 use Rattle.ak_run.specs.Members.{IsLifeOf, OpensAs}
 use Rattle.ak_run.specs.Recording.{HasRecord, fronts_of}
 
 -- ---- a looper that was started
 -- main's door leads to the port and the desk that the thread was started with, which the roster pairs with its number; neither main nor the
--- thread is the head there; its seats at what all share are at those locks, and at the roster it had seen no more than main has
+-- thread is the head there; its seats at what all share are at those locks, and at the roster it had seen no more than main has. Its time
+-- begins at the launch of its team
 pub record IsMember (heads : List AppHead) (shared : Shared) (roster : rosters.RosterSeat) (m : Member) : Type 0 where
   pub number : m.job.value.number ≡ m.number
   pub ready : IsReady m.job.value
@@ -40,6 +42,7 @@ pub record IsMember (heads : List AppHead) (shared : Shared) (roster : rosters.R
   pub at_roster : m.job.value.roster_seat.lock ≡ arc_value shared.roster
   pub heads_are : m.job.value.roster_seat.opening ≡ Some heads
   pub seen : StartsWith roster.front m.job.value.roster_seat.front
+  pub begins : (desk : DeskState) → Any (StartsAt (facts_of m.job.value heads desk) m.job.value.hands.clock.time) m.job.value.roster_seat.front
   pub by_main : m.door.port_seat.thread ≡ main_thread
   pub taker : ThreadId
   pub taker_is : taker.0 ≡ looper_thread m.number

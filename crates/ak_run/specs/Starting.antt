@@ -26,7 +26,7 @@ use Rattle.ak_run.specs.Doing.{IsQuietAtDesks, desk_front}
 use Rattle.ak_run.specs.Jobs.{HasWays, IsStartedFrom, IsStartedIn, facts_in}
 use Rattle.ak_run.specs.NewLooper.{IsNewLooper}
 use Rattle.ak_run.specs.NewTeam.{AreOthers, IsNewTeam}
-use Rattle.ak_run.specs.Recording.{HasRecord, RecordsBeside, fronts_with, team_fronts}
+use Rattle.ak_run.specs.Recording.{HasRecord, RecordsAtNew, RecordsBeside, fronts_with, team_fronts}
 use Rattle.ak_run.specs.Running.{IsRunning, KeepsRest, Stands}
 
 -- the run goes on with the loopers that it has; main launched nothing, and edited nothing
@@ -39,6 +39,17 @@ pub record GoesOn (r r' : Run) : Type 0 where
   pub apps : r'.apps ≡ r.apps
   pub desks_on : IsQuietAtDesks r r'
   pub recorded : RecordsBeside r r'
+
+-- the same, while main's list of the port of a looper that is about to start went on from the one to the other
+pub record GoesOnAtNew (port port' : List PortEntry) (r r' : Run) : Type 0 where
+  pub stands : (next : ℕ) (heads : List AppHead) → Stands next heads r → Stands next heads r'
+  pub started : (next : ℕ) (heads : List AppHead) → Stands next heads r → started_by_main heads r'.roster_seat ≡ started_by_main heads r.roster_seat
+  pub count : length r'.members.items ≡ length r.members.items
+  pub on : StartsWith r'.roster_seat.front r.roster_seat.front
+  pub shared : r'.shared ≡ r.shared
+  pub apps : r'.apps ≡ r.apps
+  pub desks_on : IsQuietAtDesks r r'
+  pub recorded : RecordsAtNew port port' r r'
 
 -- the same, with so many loopers more that have their threads
 pub record GoesOnWith (more : ℕ) (r r' : Run) : Type 0 where
@@ -82,6 +93,7 @@ pub record MayStartTeam (heads : List AppHead) (plans : List PlanParts) (kept : 
 -- seats of that thread were split from main's, which knows as much as before
 pub record HasSplit (thread : ℕ) (r r' : Run) : Type 0 where
   pub rest : KeepsRest r r'
+  pub time : r'.hands.clock.time ≡ r.hands.clock.time
   pub members : r'.members ≡ r.members
   pub book_seat : r'.hands.book_seat ≡ titled_seat (names_with r.hands.book_seat.names thread) r.hands.book_seat
   pub roster_seat : r'.roster_seat ≡ titled_seat (names_with r.roster_seat.names thread) r.roster_seat

@@ -7,7 +7,7 @@ ghost use Rattle.ak_roster.specs.Roster.{IsAtRest, last_stamp};
 ghost use Rattle.ak_describe.specs.Whole.{heads_of};
 ghost use Rattle.ak_diary.specs.Turns.{Shuts, ShutsAll};
 ghost use Rattle.ak_run.specs.Closing.{ClosesSo, EndsAllTeams, EndsTeam, LeavesBook, LeavesSo};
-ghost use Rattle.ak_run.specs.Launching.{ByMain};
+ghost use Rattle.ak_run.specs.Launching.{ByMain, IsTurnInTime};
 ghost use Rattle.ak_run.specs.Running.{IsRunning, IsStanding};
 ghost use Rattle.ak_run.specs.Starting.{GoesOn};
 
@@ -136,6 +136,7 @@ fn leave_at_turn(book: &mut RosterBook<KeptDoor>, clock: &mut Clock, team: u32) 
     requires time { clock.old.time < 2 ^ 63 }
     requires main { clock.old.thread.0 ≡ main_thread }
     ensures left { LeavesBook team result book.old book.new }
+    ensures in_time { IsTurnInTime clock.old.time clock.new.time book.old book.new }
     ensures by_main { ByMain book.old }
     ensures rest { IsAtRest book.new }
     ensures clock { clock.new.thread ≡ clock.old.thread }

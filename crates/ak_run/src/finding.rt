@@ -5,7 +5,7 @@ ghost use Rattle.ak_roster.specs.Roster.{IsAtRest, last_stamp};
 ghost use Rattle.ak_describe.specs.Whole.{heads_of};
 ghost use Rattle.ak_run.specs.Doing.{DoesSo, FoundSo, IsStartedTeam};
 ghost use Rattle.ak_run.specs.Finding.{IsEntered, IsFoundAt, LooksUp};
-ghost use Rattle.ak_run.specs.Launching.{ByMain};
+ghost use Rattle.ak_run.specs.Launching.{ByMain, IsTurnInTime};
 ghost use Rattle.ak_run.specs.Running.{IsRunning};
 ghost use Rattle.ak_run.specs.Sending.{looper_count};
 
@@ -75,6 +75,7 @@ fn look_up_at_turn(book: &mut RosterBook<KeptDoor>, clock: &mut Clock, word: &Ap
     requires time { clock.old.time < 2 ^ 63 }
     requires main { clock.old.thread.0 ≡ main_thread }
     ensures found { LooksUp word.now result book.old book.new }
+    ensures in_time { IsTurnInTime clock.old.time clock.new.time book.old book.new }
     ensures by_main { ByMain book.old }
     ensures rest { IsAtRest book.new }
     ensures clock { clock.new.thread ≡ clock.old.thread }

@@ -4,6 +4,8 @@ ghost use Rattle.ak_base.specs.declared.thread.ThreadId.{ThreadId};
 ghost use Rattle.ak_turn.specs.Called.{KeepsSeat};
 ghost use Rattle.ak_port.specs.PortCalls.{CanTake};
 ghost use Rattle.ak_run.specs.Doors.{KeepsDoor};
+ghost use Rattle.ak_base.specs.Thread.{main_thread};
+ghost use Rattle.ak_run.specs.Recording.{AddsAtPort};
 ghost use Rattle.ak_run.specs.Greeting.{HasSent, IsAlone, arguments_told, made_event, told_first, written_from};
 
 use ak_base::{Code, NoMemory};
@@ -32,6 +34,7 @@ pub(crate) fn send<R: Wait>(
 ) -> Result<(), NoMemory>
     requires thread { door.old.port_seat.thread ≡ hands.old.clock.thread.0 }
     ensures door { KeepsDoor door.old door.new }
+    ensures adds { door.old.port_seat.thread ≡ main_thread → AddsAtPort hands.old.clock.time hands.new.clock.time door.old.port_seat.front door.new.port_seat.front }
     ensures sent { OnOk result (HasSent message.now hands.old.clock hands.new.clock door.old.port_seat door.new.port_seat) }
     ensures book { hands.new.book ≡ hands.old.book }
     ensures book_seat { hands.new.book_seat ≡ hands.old.book_seat }
@@ -71,6 +74,7 @@ fn send_if<R: Wait>(
 ) -> Result<(), NoMemory>
     requires thread { door.old.port_seat.thread ≡ hands.old.clock.thread.0 }
     ensures door { KeepsDoor door.old door.new }
+    ensures adds { door.old.port_seat.thread ≡ main_thread → AddsAtPort hands.old.clock.time hands.new.clock.time door.old.port_seat.front door.new.port_seat.front }
     ensures told { (capacity : ℕ) → 2 ≤ capacity → IsAlone (made_event capacity ∷ []) door.old.port_seat → OnOk result (IsAlone (made_event capacity ∷ written_from 0 (arguments_told (option_map (λ m. m.now) message.entry))) door.new.port_seat) }
     ensures book { hands.new.book ≡ hands.old.book }
     ensures book_seat { hands.new.book_seat ≡ hands.old.book_seat }
@@ -92,6 +96,7 @@ pub(crate) fn greet<R: Wait>(
 ) -> Result<(), NoMemory>
     requires thread { door.old.port_seat.thread ≡ hands.old.clock.thread.0 }
     ensures door { KeepsDoor door.old door.new }
+    ensures adds { door.old.port_seat.thread ≡ main_thread → AddsAtPort hands.old.clock.time hands.new.clock.time door.old.port_seat.front door.new.port_seat.front }
     ensures told { (capacity : ℕ) → 2 ≤ capacity → IsAlone (made_event capacity ∷ []) door.old.port_seat → OnOk result (IsAlone (made_event capacity ∷ written_from 0 (told_first (option_map (λ m. m.now) arguments.entry))) door.new.port_seat) }
     ensures book { hands.new.book ≡ hands.old.book }
     ensures book_seat { hands.new.book_seat ≡ hands.old.book_seat }

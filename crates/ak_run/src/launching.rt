@@ -1,12 +1,12 @@
 //! A launch, in one turn at the roster.
-ghost use Rattle.std.specs.Prelude.{◌≡◌, ◌<◌, ◌^◌, ℕ, List, length, All, Any, find, option_map};
+ghost use Rattle.std.specs.Prelude.{◌≡◌, ◌≢◌, ◌<◌, ◌^◌, ℕ, List, length, All, Any, find, option_map};
 ghost use Rattle.ak_base.specs.Thread.{main_thread};
 ghost use Rattle.ak_roster.specs.Answers.{IsWord};
 ghost use Rattle.ak_roster.specs.Machine.{runs_team};
 ghost use Rattle.ak_roster.specs.Roster.{IsAtRest, last_stamp, state};
 ghost use Rattle.ak_describe.specs.declared.described.AppText.{AppText};
 ghost use Rattle.ak_describe.specs.Whole.{IsWholeApp, heads_of};
-ghost use Rattle.ak_run.specs.Launching.{ByMain, ComesTo, IsDecided, IsMade, IsRunningTeam, IsTeamOf, TellsTeam};
+ghost use Rattle.ak_run.specs.Launching.{ByMain, ComesTo, IsDecided, IsMade, IsRunningTeam, IsTeamOf, IsTurnInTime, LaunchInTime, TellsTeam};
 ghost use Rattle.ak_run.specs.declared.new_looper.Shared.{Shared};
 
 use crate::new_looper::Shared;
@@ -68,6 +68,45 @@ pub(crate) fn launch_at_turn<R: Wait>(
     requires word { IsWord word.now }
     ensures launch { ComesTo apps.now shared.now word.now book.old book.new result }
     ensures told { TellsTeam apps.now (option_map (λ m. m.now) arguments.entry) word.now book.old result }
+    ensures in_time { LaunchInTime hands.old.clock.time hands.new.clock.time book.old book.new result }
+    ensures by_main { ByMain book.old }
+    ensures rest { IsAtRest book.new }
+    ensures book { hands.new.book ≡ hands.old.book }
+    ensures book_seat { hands.new.book_seat ≡ hands.old.book_seat }
+    ensures clock { hands.new.clock.thread ≡ hands.old.clock.thread }
+{
+    let time = hands.clock.time;
+    match try_launch(alloc, rt, book, hands, shared, apps, word, arguments) {
+        Launch::NoMemory => {
+            // The ports that were made in vain are in no history.
+            hands.clock.time = time;
+            Launch::NoMemory
+        }
+        launch => launch,
+    }
+}
+
+// The same, but that the time of ports made in vain has gone by.
+fn try_launch<R: Wait>(
+    alloc: Global,
+    rt: &R,
+    book: &mut RosterBook<KeptDoor>,
+    hands: &mut Hands,
+    shared: &Shared,
+    apps: &[AppText],
+    word: &AppWord,
+    arguments: Option<&Message>,
+) -> Launch
+    requires rest { IsAtRest book.old }
+    requires stamp { last_stamp book.old.entries < 2 ^ 63 }
+    requires time { hands.old.clock.time < 2 ^ 63 }
+    requires main { hands.old.clock.thread.0 ≡ main_thread }
+    requires heads { book.old.heads ≡ heads_of apps.now }
+    requires whole { All IsWholeApp apps.now }
+    requires word { IsWord word.now }
+    ensures launch { ComesTo apps.now shared.now word.now book.old book.new result }
+    ensures told { TellsTeam apps.now (option_map (λ m. m.now) arguments.entry) word.now book.old result }
+    ensures in_time { result ≢ Launch.NoMemory → LaunchInTime hands.old.clock.time hands.new.clock.time book.old book.new result }
     ensures by_main { ByMain book.old }
     ensures rest { IsAtRest book.new }
     ensures book { hands.new.book ≡ hands.old.book }
@@ -143,6 +182,7 @@ fn enter<R: Wait>(
     requires decided { (description : ℕ) × IsDecided book.old word.now making description team first }
     ensures launch { (apps : List AppText) (shared : Shared) (description : ℕ) → IsDecided book.old word.now making description team first → IsMade apps shared making description team first → ComesTo apps shared word.now book.old book.new result }
     ensures team { IsTeamOf making.team team first result }
+    ensures in_time { IsTurnInTime hands.old.clock.time hands.new.clock.time book.old book.new }
     ensures rest { IsAtRest book.new }
     ensures book { hands.new.book ≡ hands.old.book }
     ensures book_seat { hands.new.book_seat ≡ hands.old.book_seat }

@@ -5,7 +5,7 @@ ghost use Rattle.ak_action.specs.declared.plan.PlanParts.{PlanParts};
 ghost use Rattle.ak_run.specs.Greeting.{EachMains, FirstHoldsTwo, capacities_in, port_events, told_first, written_from};
 ghost use Rattle.ak_run.specs.NewTeam.{IsNewTeam};
 ghost use Rattle.ak_run.specs.Opening.{FitPlaces, IsOpenedAt, opened_front};
-ghost use Rattle.ak_run.specs.Recording.{team_fronts};
+ghost use Rattle.ak_run.specs.Recording.{ArePortsInTime, team_fronts};
 
 use crate::greeting::greet;
 use crate::new_looper::{NewLooper, Other, Own, Shared, new_other, new_own};
@@ -92,6 +92,7 @@ pub(crate) fn make_team<R: Wait>(
     ensures made { IfOk result (λ m. IsNewTeam plans.now team first shared.now m.team m.kept.items) }
     ensures count { IfOk result (λ m. length plans.now ≡ length m.team.others.items + 1) }
     ensures ports { FirstHoldsTwo plans.now → IfOk result (λ m. EachMains (port_events (capacities_in plans.now) (written_from 0 (told_first (option_map (λ m. m.now) arguments.entry)))) (team_fronts m.team)) }
+    ensures in_time { FirstHoldsTwo plans.now → IfOk result (λ m. ArePortsInTime hands.old.clock.time (team_fronts m.team) hands.new.clock.time) }
     ensures book { hands.new.book ≡ hands.old.book }
     ensures book_seat { hands.new.book_seat ≡ hands.old.book_seat }
     ensures clock { hands.new.clock.thread ≡ hands.old.clock.thread }

@@ -4,6 +4,7 @@ ghost use Rattle.ak_base.specs.Thread.{main_thread};
 ghost use Rattle.ak_action.specs.Opening.{FitsPlace};
 ghost use Rattle.ak_run.specs.Greeting.{AreMains, EachMains, capacities_in, made_event, made_events};
 ghost use Rattle.ak_run.specs.Opening.{AreOpened, FitPlaces, IsOpened, names_in, opened_front};
+ghost use Rattle.ak_run.specs.Recording.{AreEntriesInTime, AreMadeInTime};
 
 use ak_action::{LooperPlan, plans_are_whole};
 use ak_base::{Items, NoMemory, Text, ThreadId};
@@ -56,6 +57,7 @@ fn open_looper<R: Wait>(
     requires main { clock.old.thread.0 ≡ main_thread }
     ensures opened { IfOk result (λ o. IsOpened place plan.now names o) }
     ensures port { IfOk result (λ o. AreMains (made_event plan.now.capacity ∷ []) (opened_front o)) }
+    ensures in_time { IfOk result (λ o. AreEntriesInTime clock.old.time [] (opened_front o) clock.new.time) }
     ensures clock { clock.new.thread ≡ clock.old.thread }
 {
     plans_are_whole();
@@ -93,6 +95,7 @@ pub(crate) fn open_loopers<R: Wait>(
     ensures opened { IfOk result (λ all. AreOpened plans.now team first 0 all.items) }
     ensures count { IfOk result (λ all. length all.items ≡ length plans.now) }
     ensures ports { IfOk result (λ all. EachMains (made_events (capacities_in plans.now)) (map opened_front all.items)) }
+    ensures in_time { IfOk result (λ all. AreMadeInTime clock.old.time (map opened_front all.items) clock.new.time) }
     ensures clock { clock.new.thread ≡ clock.old.thread }
 {
     let mut all = Vec::new(alloc);

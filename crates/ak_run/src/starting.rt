@@ -6,7 +6,7 @@ ghost use Rattle.ak_outside.specs.Spawner.{HasGivenBack, HasStarted};
 ghost use Rattle.ak_looper.specs.Job.{HasLived, IsReady};
 ghost use Rattle.ak_run.specs.Members.{StillLeads};
 ghost use Rattle.ak_run.specs.Running.{IsStanding};
-ghost use Rattle.ak_run.specs.Starting.{GoesOn};
+ghost use Rattle.ak_run.specs.Starting.{GoesOnAtNew};
 
 use crate::member::Lives;
 use crate::run::Run;
@@ -43,7 +43,7 @@ impl Run {
         ensures given_back { OnErr result (HasGivenBack (W.calls spawner.old) (W.calls spawner.new)) }
         ensures cause { OnErr result (Rose (W.faults spawner.old) (W.faults spawner.new)) }
         ensures never_falls { W.faults spawner.old ≤ W.faults spawner.new }
-        ensures run { GoesOn self.old self.new }
+        ensures run { GoesOnAtNew door.old.port_seat.front door.new.port_seat.front self.old self.new }
         ensures quiet { OnOk result (self.new ≡ self.old) }
         ensures door { StillLeads door.old door.new }
         ensures door_kept { OnOk result (door.new ≡ door.old) }
@@ -75,7 +75,7 @@ impl Run {
         requires ready { IsReady job }
         requires main { door.old.port_seat.thread ≡ main_thread }
         ensures lived { HasLived job result }
-        ensures run { GoesOn self.old self.new }
+        ensures run { GoesOnAtNew door.old.port_seat.front door.new.port_seat.front self.old self.new }
         ensures door { StillLeads door.old door.new }
     {
         self.shut_door(rt, door);
@@ -85,7 +85,7 @@ impl Run {
     // Shuts the port to which the door leads.
     fn shut_door<R: Wait>(&mut self, rt: &R, door: &mut Door)
         requires main { door.old.port_seat.thread ≡ main_thread }
-        ensures run { GoesOn self.old self.new }
+        ensures run { GoesOnAtNew door.old.port_seat.front door.new.port_seat.front self.old self.new }
         ensures door { StillLeads door.old door.new }
     {
         close(&door.port, rt, &mut door.port_seat, &mut self.hands.clock);

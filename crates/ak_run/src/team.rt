@@ -12,7 +12,7 @@ ghost use Rattle.ak_looper.specs.Job.{IsReady};
 ghost use Rattle.ak_run.specs.Members.{IsLifeOf, StillLeads};
 ghost use Rattle.ak_run.specs.Recording.{Records, RecordsStart, StartsQuietly, fronts_of, fronts_with, team_fronts};
 ghost use Rattle.ak_run.specs.Running.{IsStanding};
-ghost use Rattle.ak_run.specs.Starting.{GoesOn, GoesOnWith, HasSplit, MayStart, MayStartTeam};
+ghost use Rattle.ak_run.specs.Starting.{GoesOnAtNew, GoesOnWith, HasSplit, MayStart, MayStartTeam};
 
 use crate::launching::Team;
 use crate::member::{Life, Member};
@@ -110,7 +110,7 @@ impl Run {
         requires ready { IsReady job }
         requires main { door.old.port_seat.thread ≡ main_thread }
         ensures life { IsLifeOf job result.0 }
-        ensures run { GoesOn self.old self.new }
+        ensures run { GoesOnAtNew door.old.port_seat.front door.new.port_seat.front self.old self.new }
         ensures door { StillLeads door.old door.new }
         ensures only { IsTrue result.1 → IsTrue start }
         ensures quiet { IsTrue result.1 → self.new ≡ self.old }

@@ -1,6 +1,6 @@
 //! The public calls of the lower crates, made as a program above would make them: texts and codes, sources and sinks,
 //! starts of threads, messages, their flat texts and what is printed of them, filters, handlers, specifiers, property
-//! tables and elements. There is nothing here but tests. They stand apart from those crates, since a crate with tests
+//! tables, elements and hey lines. There is nothing here but tests. They stand apart from those crates, since a crate with tests
 //! of its own is proved twice.
 #![tactic(auto)]
 
@@ -18,6 +18,8 @@ mod filters;
 mod flat_texts;
 #[cfg(test)]
 mod handlers;
+#[cfg(test)]
+mod hey_lines;
 #[cfg(test)]
 mod items;
 #[cfg(test)]

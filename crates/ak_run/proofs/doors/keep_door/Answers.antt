@@ -41,3 +41,11 @@ pub invariant_of-result-clause-keeper_idle : goal.invariant_of-result-clause-kee
 invariant_of-result-clause-keeper_idle c =
     ap (λ (s : ports.PortSeat). made_by ports.by_number keeper_thread s.front) c.split_head-port_seat.ensures.new
     ∙ made_nothing ports.by_number c.args.door.now.port_seat keeper_thread c.requires.known.at_port c.requires.new.at_port
+
+pub invariant_of-result-clause-desk_keeper : goal.invariant_of-result-clause-desk_keeper
+invariant_of-result-clause-desk_keeper c = ap (λ (s : desks.DeskSeat). s.thread) c.split_head-desk_seat.ensures.new
+
+pub invariant_of-result-clause-desk_keeper_idle : goal.invariant_of-result-clause-desk_keeper_idle
+invariant_of-result-clause-desk_keeper_idle c =
+    ap (λ (s : desks.DeskSeat). made_by desks.by_number keeper_thread s.front) c.split_head-desk_seat.ensures.new
+    ∙ made_nothing desks.by_number c.args.door.now.desk_seat keeper_thread c.requires.known.at_desk c.requires.new.at_desk

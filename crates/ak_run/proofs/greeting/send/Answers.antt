@@ -16,10 +16,12 @@ returns-clause-door g c = record {
   desk_seat = refl;
   known = c.post.ensures.knows_still;
   taking = c.post.ensures.taking;
-  adds = λ main. adds_by (post_event from_main c.args.message.now c.post.result) c.args.hands.now.clock c.post.new.hands.clock c.args.door.now.port_seat c.post.new.seat main (may_post from_main c.args.message.now c.post.result) c.post.ensures.answered;
 }
 
 pub returns-clause-sent : goal.returns-clause-sent
 returns-clause-sent g c =
     on_ok (IsErrOf c.post.result fault.NoMemory → ⊥) (HasSent c.args.message.now c.args.hands.now.clock c.post.new.hands.clock c.args.door.now.port_seat c.post.new.seat) c.unless_memory_ran_out.result
     (λ none. record { sent = c.post.result; answered = c.post.ensures.answered; too_long = c.post.ensures.too_long; not_blocked = c.post.ensures.not_blocked; not_wanting = none; at_port = c.post.ensures.at_port }) c.unless_memory_ran_out.ensures
+
+pub returns-clause-adds : goal.returns-clause-adds
+returns-clause-adds g c = λ main. adds_by (post_event from_main c.args.message.now c.post.result) c.args.hands.now.clock c.post.new.hands.clock c.args.door.now.port_seat c.post.new.seat main (may_post from_main c.args.message.now c.post.result) c.post.ensures.answered

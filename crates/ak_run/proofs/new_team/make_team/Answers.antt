@@ -10,8 +10,8 @@ use Rattle.ak_run.specs.declared.new_looper.NewLooper.{NewLooper}
 use Rattle.ak_run.specs.declared.opening.Opened.{Opened}
 use Rattle.ak_run.specs.Opening.{AreOpened, opened_front}
 use Rattle.ak_run.specs.Greeting.{EachMains, IsAlone, capacities_in, made_event, port_events, told_first, written_from}
-use Rattle.ak_run.specs.Recording.{team_fronts}
-use Rattle.ak_run.proofs.Makings.{first_made, first_opened, greeted_ports, grows_ports}
+use Rattle.ak_run.specs.Recording.{ArePortsInTime, team_fronts}
+use Rattle.ak_run.proofs.Makings.{first_made, first_opened, greeted_in_time, greeted_ports, grows_in_time, grows_ports}
 use Rattle.ak_run.proofs.NewLoopers.{still_opened}
 use Rattle.ak_run.proofs.new_team.make_team.Goals as goal
 
@@ -45,6 +45,12 @@ loop-other-init g c =
           let opened = parts.0.opened in
           let alone : IsAlone (made_event ports.capacity ∷ []) own.door.port_seat = record { by_main = opened.by_main; names_are = opened.names_are.at_port; known = opened.known.at_port; mains = ports.first } in
           greeted_ports plans own rest ports _ _ (team_fronts c.in_ok-making.making.team) (c.in_ok-greet.ensures.told ports.capacity (ports.room holds) alone).mains c.in_ok-making.ensures.fronts;
+      in_time = λ holds.
+          let ports = first_made plans c.in_ok-others.others.items own rest (omega (arith, c.in_ok-others.ensures.count, c.requires.some)) c.in_ok-others.ensures.ports c.remove-own.ensures.value (sym same ∙ c.remove-own.ensures.items) in
+          let opened = parts.0.opened in
+          let alone : IsAlone (made_event ports.capacity ∷ []) own.door.port_seat = record { by_main = opened.by_main; names_are = opened.names_are.at_port; known = opened.known.at_port; mains = ports.first } in
+          greeted_in_time c.args.hands.now.clock.time c.open_loopers.new.clock.time c.greet.new.hands.clock.time c.in_ok-others.others.items own rest ports.capacity _ _ (team_fronts c.in_ok-making.making.team) (omega (arith, c.in_ok-others.ensures.count, c.requires.some))
+          c.remove-own.ensures.value (sym same ∙ c.remove-own.ensures.items) c.in_ok-others.ensures.in_time ports.first (c.in_ok-greet.ensures.told ports.capacity (ports.room holds) alone).mains (c.in_ok-greet.ensures.adds opened.by_main) c.in_ok-making.ensures.fronts;
     }
 
 -- one looper more
@@ -66,6 +72,7 @@ loop-other-preserved g c =
       rest = subst (λ (k : ℕ). AreOpened plans team first k rest) one opened.1;
       count = omega (arith, was.invariant.count, count, ap (λ (os : List Opened). length os) next);
       ports = λ holds. grows_ports _ (team_fronts was.making.team) (team_fronts c.add_looper.new.making.team) x was.other-iterator.rest.items rest next c.in_ok-add_looper.ensures.fronts (was.invariant.ports holds);
+      in_time = λ holds. grows_in_time _ _ (team_fronts was.making.team) (team_fronts c.add_looper.new.making.team) x was.other-iterator.rest.items rest next c.in_ok-add_looper.ensures.fronts (was.invariant.in_time holds);
     }
 
 -- no one is to follow
@@ -77,3 +84,11 @@ returns-clause-ports g c holds =
     let fronts : List (List PortEntry) = team_fronts was.making.team in
     let none : was.other-iterator.rest.items ≡ [] = grind (arith, common_steps) in
     subst (EachMains events) (append-nil fronts) (subst (λ (os : List Opened). EachMains events (fronts ++ map opened_front os)) none (was.invariant.ports holds))
+
+pub returns-clause-in_time : goal.returns-clause-in_time
+returns-clause-in_time g c holds =
+    let was = c.loop-other in
+    let fronts : List (List PortEntry) = team_fronts was.making.team in
+    let none : was.other-iterator.rest.items ≡ [] = grind (arith, common_steps) in
+    subst (λ (fs : List (List PortEntry)). ArePortsInTime c.args.hands.now.clock.time fs c.greet.new.hands.clock.time) (append-nil fronts)
+    (subst (λ (os : List Opened). ArePortsInTime c.args.hands.now.clock.time (fronts ++ map opened_front os) c.greet.new.hands.clock.time) none (was.invariant.in_time holds))

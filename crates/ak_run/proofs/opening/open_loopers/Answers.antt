@@ -1,12 +1,15 @@
 -- The numbers of the plans fit, and one looper more is opened.
-use Rattle.std.proofs.Common.{◌≡◌, ◌+◌, List, [], ◌∷◌, ◌++◌, length, refl, sym, subst, ℕ, arith}
+use Rattle.std.proofs.Common.{◌≡◌, ◌+◌, List, [], ◌∷◌, ◌++◌, length, map, refl, sym, ap, ◌∙◌, subst, ℕ, arith}
+use Rattle.std.proofs.lemmas.List.{map-append}
 use Rattle.std.proofs.lemmas.Grind.{common_steps}
 use Rattle.std.proofs.lemmas.Option.{slice_get_read}
 use Rattle.ak_action.specs.Opening.{FitsPlace}
 use Rattle.ak_run.specs.declared.opening.Opened.{Opened}
-use Rattle.ak_run.specs.Opening.{AreOpened, IsOpened, IsOpenedAt, place_at}
+use Rattle.ak_port.specs.declared.port_entry.PortEntry.{PortEntry}
+use Rattle.ak_run.specs.Opening.{AreOpened, IsOpened, IsOpenedAt, opened_front, place_at}
+use Rattle.ak_run.specs.Recording.{AreMadeInTime}
 use Rattle.ak_run.proofs.Places.{plans_fit}
-use Rattle.ak_run.proofs.PortsAtStart.{ports_push}
+use Rattle.ak_run.proofs.PortsAtStart.{made_push, ports_push}
 use Rattle.ak_run.proofs.Teams.{opened_push}
 use Rattle.ak_run.proofs.opening.open_loopers.Goals as goal
 
@@ -47,6 +50,8 @@ loop-index-preserved g c =
     record {
       opened = subst (λ (os : List Opened). AreOpened plans team first 0 os) (sym pushed) (opened_push plans team first 0 index c.loop-index.all.items o c.loop-index.invariant.opened (omega arith) here);
       ports = ports_push plans index plan c.loop-index.all.items o c.push.new.self.items there pushed c.loop-index.invariant.ports c.in_ok-open_looper.ensures.port;
+      in_time = subst (λ (fs : List (List PortEntry)). AreMadeInTime c.args.clock.now.time fs c.open_looper.new.clock.time) (sym (ap (map opened_front) pushed ∙ map-append opened_front c.loop-index.all.items (o ∷ [])))
+          (made_push c.args.clock.now.time c.loop-index.clock.time c.open_looper.new.clock.time (map opened_front c.loop-index.all.items) (opened_front o) c.loop-index.invariant.in_time c.in_ok-open_looper.ensures.in_time);
       count = grind (arith, common_steps);
       clock = grind (arith, common_steps);
     }

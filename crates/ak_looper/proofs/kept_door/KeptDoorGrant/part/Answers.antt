@@ -20,6 +20,13 @@ pub invariant_of-self-2-clause-keeper_idle : goal.invariant_of-self-2-clause-kee
 invariant_of-self-2-clause-keeper_idle c =
     ap (λ (s : ports.PortSeat). made_by ports.by_number keeper_thread s.front) c.split-port_seat.ensures.old ∙ c.args.self.now.keeper_idle
 
+pub invariant_of-self-2-clause-desk_keeper : goal.invariant_of-self-2-clause-desk_keeper
+invariant_of-self-2-clause-desk_keeper c = ap (λ (s : desks.DeskSeat). s.thread) c.split-desk_seat.ensures.old ∙ c.args.self.now.desk_keeper
+
+pub invariant_of-self-2-clause-desk_keeper_idle : goal.invariant_of-self-2-clause-desk_keeper_idle
+invariant_of-self-2-clause-desk_keeper_idle c =
+    ap (λ (s : desks.DeskSeat). made_by desks.by_number keeper_thread s.front) c.split-desk_seat.ensures.old ∙ c.args.self.now.desk_keeper_idle
+
 pub returns-clause-thread : goal.returns-clause-thread
 returns-clause-thread c =
     let door = c.args.self.now in

@@ -21,7 +21,7 @@ returns-clause-did g c =
     let r = c.args.self.now in
     let m = c.index_mut.result.now in
     let main = m.door.thread ∙ main_has _ c.requires.running.heads r c.args.looper m c.requires.there (sym c.index_mut.ensures.value) c.requires.running.stands in
-    edited_does r _ c.args.looper m _ c.requires.there (sym c.index_mut.ensures.value) refl refl refl (ap (λ s. s.front) c.edit_through.ensures.port_seat) main c.args.edit r.hands.clock c.edit_through.new.clock c.edit_through.result c.edit_through.ensures.answered c.edit_through.ensures.place
+    edited_does r _ c.args.looper m _ c.requires.there (sym c.index_mut.ensures.value) refl refl refl (ap (λ s. s.front) c.edit_through.ensures.port_seat) main c.args.edit c.edit_through.result c.edit_through.ensures.answered c.edit_through.ensures.place
 
 pub returns-clause-answered : goal.returns-clause-answered
 returns-clause-answered g c =
@@ -45,7 +45,7 @@ returns-clause-running g c =
     let main = m.door.thread ∙ main_has _ c.requires.running.heads r c.args.looper m c.requires.there there c.requires.running.stands in
     one_runs r _ c.args.looper m e.new.door c.requires.there there refl refl (EditedSo c.args.looper c.args.edit e.result) (subst (KeepsSeat m.door.port_seat) (sym e.ensures.port_seat) (keeps_itself m.door.port_seat)) keeps.0 refl
     (record { apps = refl; shared = refl; joined = refl; ports = refl; desks = refl }) (same_book r _ refl)
-    (edited_does r _ c.args.looper m _ c.requires.there there refl refl refl (ap (λ s. s.front) e.ensures.port_seat) main c.args.edit r.hands.clock e.new.clock e.result e.ensures.answered e.ensures.place) c.requires.running
+    (edited_does r _ c.args.looper m _ c.requires.there there refl refl refl (ap (λ s. s.front) e.ensures.port_seat) main c.args.edit e.result e.ensures.answered e.ensures.place) c.requires.running
 
 pub returns-clause-count : goal.returns-clause-count
 returns-clause-count g c = length-set c.args.self.now.members.items c.args.looper _

@@ -20,8 +20,8 @@ returns g c =
     let h = ended.histories in
     let later = heads_of left.apps.items in
     let recorded = (runs_on r left c.leave_all.ensures.goes c.requires.running).recorded in
-    let run : IsRun later ended.short h = whole later ended.short h c.gathered.ensures.run recorded.did recorded.recorded.diary (c.gathered.ensures.done recorded.did recorded.recorded recorded.edits) in
-    let same : EndsAs r h = ends_further r left h c.leave_all.ensures.goes c.leave_all.ensures.closed.ports_on c.gathered.ensures.same in
+    let run : IsRun later ended.short h = whole later ended.short h c.gathered.ensures.run recorded.did recorded.recorded.diary recorded.recorded.in_time.stamped (c.gathered.ensures.done recorded.did recorded.recorded recorded.edits) in
+    let same : EndsAs r h = ends_further r left h c.leave_all.ensures.goes c.leave_all.ensures.closed.goes.ports_on c.gathered.ensures.same in
     record {
       apps = ap (λ v. v.items) (c.gathered.ensures.apps ∙ c.leave_all.ensures.goes.apps);
       run = subst (λ (heads : List AppHead). IsRun heads ended.short h) (same_heads_of r left c.leave_all.ensures.goes) run;

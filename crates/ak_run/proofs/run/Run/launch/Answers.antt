@@ -75,4 +75,4 @@ returns-in-NoMemory-clause-did g c =
 
 -- nothing was done
 pub returns-in_default-clause-did : goal.returns-in_default-clause-did
-returns-in_default-clause-did g c = does_same (λ steps. Unit {0}) c.args.self.now _ tt refl refl refl
+returns-in_default-clause-did g c = does_same (λ steps. Unit {0}) c.args.self.now _ tt refl refl refl refl

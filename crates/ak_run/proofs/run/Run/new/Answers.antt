@@ -1,5 +1,5 @@
 -- Its seats are the first at their locks, and nothing was done.
-use Rattle.std.proofs.Common.{◌≡◌, ◌≤◌, ℕ, ◌+◌, List, [], length, ap, ◌∙◌, arith}
+use Rattle.std.proofs.Common.{◌≡◌, ◌≤◌, ℕ, ◌+◌, List, [], length, ap, ◌∙◌, refl, arith}
 use Rattle.ak_base.specs.Limits.{looper_limit}
 use Rattle.std.specs.Arc.{arc_value}
 use Rattle.ak_base.specs.Thread.{main_thread}
@@ -23,6 +23,7 @@ pub returns-clause-running : goal.returns-clause-running
 returns-clause-running g =
     let at_roster = arc_value g.in_ok-roster-2.roster in
     let at_book = arc_value g.in_ok-book.book in
+    let begun : 0 ≡ 0 = refl in
     begins g.in_ok-heads.heads.items at_roster at_book _ g.requires.whole (g.in_ok-heads.ensures ∙ ap heads_of g.deref.ensures.value)
     (g.in_ok-roster-2.ensures ∙ ap (λ (b : Book). first_seat at_roster b.heads b.entries (places rosters.by_number main_thread b.entries) main_thread) g.in_ok-roster.ensures)
     (g.in_ok-book.ensures ∙ ap (λ (b : List ReplyEntry). first_seat at_book tt b (places books.maker_of main_thread b) main_thread) g.in_ok-new.ensures)
@@ -39,11 +40,13 @@ returns-clause-running g =
       for_ports = g.in_ok-with_capacity-5.ensures.capacity;
       for_desks = g.in_ok-with_capacity-6.ensures.capacity;
     })
+    begun
 
 pub returns-clause-nothing : goal.returns-clause-nothing
 returns-clause-nothing g =
     let at_roster = arc_value g.in_ok-roster-2.roster in
     let at_book = arc_value g.in_ok-book.book in
+    let begun : 0 ≡ 0 = refl in
     done_nothing _
     (ap (λ (s : RosterSeat). s.front) (g.in_ok-roster-2.ensures ∙ ap (λ (b : Book). first_seat at_roster b.heads b.entries (places rosters.by_number main_thread b.entries) main_thread) g.in_ok-roster.ensures))
-    (ap (λ (s : ReplySeat). s.front) (g.in_ok-book.ensures ∙ ap (λ (b : List ReplyEntry). first_seat at_book tt b (places books.maker_of main_thread b) main_thread) g.in_ok-new.ensures)) g.in_ok-with_capacity.ensures.items
+    (ap (λ (s : ReplySeat). s.front) (g.in_ok-book.ensures ∙ ap (λ (b : List ReplyEntry). first_seat at_book tt b (places books.maker_of main_thread b) main_thread) g.in_ok-new.ensures)) g.in_ok-with_capacity.ensures.items begun

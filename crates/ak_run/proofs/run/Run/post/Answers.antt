@@ -21,7 +21,7 @@ returns-clause-did g c =
     let m = c.index_mut.result.now in
     let e = post_event c.args.envelope c.args.message.now c.post.result in
     one_does r _ c.args.looper m _ c.requires.there (sym c.index_mut.ensures.value) refl refl (λ steps. EnteredSo c.args.looper _ steps e) refl
-    (post_acts r _ c.args.looper m _ c.requires.there (sym c.index_mut.ensures.value) refl refl e _ _ (main_has _ c.requires.running.heads r c.args.looper m c.requires.there (sym c.index_mut.ensures.value) c.requires.running.stands)
+    (post_acts r _ c.args.looper m _ c.requires.there (sym c.index_mut.ensures.value) refl refl e (main_has _ c.requires.running.heads r c.args.looper m c.requires.there (sym c.index_mut.ensures.value) c.requires.running.stands)
     (may_post c.args.envelope c.args.message.now c.post.result) c.post.ensures.answered c.post.ensures.book_seat)
 
 pub returns-clause-answered : goal.returns-clause-answered
@@ -41,7 +41,7 @@ returns-clause-running g c =
     let r = c.args.self.now in
     let m = c.index_mut.result.now in
     let e = post_event c.args.envelope c.args.message.now c.post.result in
-    still_running r _ (post_goes r _ c.args.looper m _ c.requires.there (sym c.index_mut.ensures.value) refl refl e _ _ (main_has _ c.requires.running.heads r c.args.looper m c.requires.there (sym c.index_mut.ensures.value) c.requires.running.stands)
+    still_running r _ (post_goes r _ c.args.looper m _ c.requires.there (sym c.index_mut.ensures.value) refl refl e (main_has _ c.requires.running.heads r c.args.looper m c.requires.there (sym c.index_mut.ensures.value) c.requires.running.stands)
     (may_post c.args.envelope c.args.message.now c.post.result) c.post.ensures.answered c.post.ensures.book_seat (record { port = c.post.ensures.seat; desk = keeps_itself m.door.desk_seat; desk_front = refl }) refl (record { apps = refl; shared = refl; joined = refl; ports = refl; desks = refl })) c.requires.running
 
 pub returns-clause-count : goal.returns-clause-count

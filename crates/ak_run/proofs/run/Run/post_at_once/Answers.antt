@@ -20,7 +20,7 @@ returns-clause-did g c =
     let m = c.index_mut.result.now in
     let e = post_event c.args.envelope c.args.message.now c.post_in_turn.result in
     one_does r _ c.args.looper m _ c.requires.there (sym c.index_mut.ensures.value) refl refl (λ steps. EnteredSo c.args.looper _ steps e) c.post_in_turn.ensures.door.desk_front
-    (post_acts r _ c.args.looper m _ c.requires.there (sym c.index_mut.ensures.value) refl refl e _ _ (main_has _ c.requires.running.heads r c.args.looper m c.requires.there (sym c.index_mut.ensures.value) c.requires.running.stands)
+    (post_acts r _ c.args.looper m _ c.requires.there (sym c.index_mut.ensures.value) refl refl e (main_has _ c.requires.running.heads r c.args.looper m c.requires.there (sym c.index_mut.ensures.value) c.requires.running.stands)
     (may_post c.args.envelope c.args.message.now c.post_in_turn.result) c.post_in_turn.ensures.answered c.post_in_turn.ensures.book_seat)
 
 pub returns-clause-answered : goal.returns-clause-answered
@@ -40,7 +40,7 @@ returns-clause-running g c =
     let r = c.args.self.now in
     let m = c.index_mut.result.now in
     let e = post_event c.args.envelope c.args.message.now c.post_in_turn.result in
-    still_running r _ (post_goes r _ c.args.looper m _ c.requires.there (sym c.index_mut.ensures.value) refl refl e _ _ (main_has _ c.requires.running.heads r c.args.looper m c.requires.there (sym c.index_mut.ensures.value) c.requires.running.stands)
+    still_running r _ (post_goes r _ c.args.looper m _ c.requires.there (sym c.index_mut.ensures.value) refl refl e (main_has _ c.requires.running.heads r c.args.looper m c.requires.there (sym c.index_mut.ensures.value) c.requires.running.stands)
     (may_post c.args.envelope c.args.message.now c.post_in_turn.result) c.post_in_turn.ensures.answered c.post_in_turn.ensures.book_seat c.post_in_turn.ensures.door refl (record { apps = refl; shared = refl; joined = refl; ports = refl; desks = refl })) c.requires.running
 
 pub returns-clause-count : goal.returns-clause-count

@@ -2,7 +2,7 @@
 use Rattle.std.proofs.Common.{refl, sym, ◌∙◌}
 use Rattle.ak_port.specs.PortCalls.{close_entry}
 use Rattle.ak_run.specs.Entering.{AreAtPorts}
-use Rattle.ak_run.proofs.Acting.{adds_by, may_close, port_on, shuts_so}
+use Rattle.ak_run.proofs.Acting.{adds_by, may_close, shuts_so}
 use Rattle.ak_turn.proofs.Surface.{keeps_itself}
 use Rattle.ak_run.proofs.Calls.{main_has, one_goes, port_alone}
 use Rattle.ak_run.proofs.TeamEnds.{shut_closes}
@@ -23,7 +23,7 @@ returns g c =
     record {
       goes = one_goes r _ c.args.looper m _ c.requires.there (sym c.index_mut.ensures.value) refl refl AreAtPorts (record { port = c.close.ensures.seat; desk = keeps_itself m.door.desk_seat; desk_front = refl }) refl
           (record { apps = refl; shared = refl; joined = refl; ports = refl; desks = refl }) (same_book r _ refl)
-          (port_alone c.args.looper r.hands.book_seat _ m.door.port_seat.front _ refl (adds_by (close_entry c.close.result) r.hands.clock c.close.new.clock m.door.port_seat c.close.new.seat main (may_close c.close.result) c.close.ensures.answered));
-      closed = shut_closes r _ c.args.looper m _ c.requires.there (sym c.index_mut.ensures.value) refl refl (port_on (close_entry c.close.result) r.hands.clock c.close.new.clock m.door.port_seat c.close.new.seat main c.close.ensures.answered)
+          (port_alone c.args.looper r.hands.clock.time c.close.new.clock.time r.hands.book_seat _ m.door.port_seat.front _ refl (adds_by (close_entry c.close.result) r.hands.clock c.close.new.clock m.door.port_seat c.close.new.seat main (may_close c.close.result) c.close.ensures.answered));
+      closed = shut_closes r _ c.args.looper m _ c.requires.there (sym c.index_mut.ensures.value) refl refl
           (shuts_so c.args.looper c.close.result r.hands.clock c.close.new.clock m.door.port_seat c.close.new.seat r.hands.book_seat.front main c.close.ensures.shut c.close.ensures.answered);
     }

@@ -10,6 +10,7 @@ returns-clause-split c =
     let r = c.args.self.now in
     record {
       rest = record { apps = refl; shared = refl; joined = refl; ports = refl; desks = refl };
+      time = refl;
       members = refl;
       book_seat = c.split-book_seat.ensures.old;
       roster_seat = c.split-roster_seat.ensures.old;

@@ -5,6 +5,7 @@ use Rattle.ak_turn.specs.Steps.{IsNewName}
 use Rattle.ak_looper.specs.declared.door.Door.{Door}
 use Rattle.ak_run.specs.declared.run.Run.{Run}
 use Rattle.ak_run.specs.Members.{StillLeads}
+use Rattle.ak_run.specs.Recording.{RecordsAtNew}
 use Rattle.ak_run.specs.Running.{IsStanding}
 use Rattle.ak_run.specs.Starting.{HasSplit}
 use Rattle.ak_run.proofs.Recorded.{start_acts, start_quiet}
@@ -46,7 +47,7 @@ push_reserved-requires g c =
     let now = c.split_seats-book_seat.new.self in
     let split = subst (λ (t : ℕ). HasSplit t r now) c.looper.ensures c.split_seats-book_seat.ensures.split in
     let later = c.life_of-life.new.self in
-    subst (λ (n : ℕ). n < vec_capacity later.members) (sym later.members.ok.0) (room_there s.0 s.1 s.2 c.args.team c.args.new c.args.ways.items r s.3 now split later c.life_of-life.ensures.run)
+    subst (λ (n : ℕ). n < vec_capacity later.members) (sym later.members.ok.0) (room_there s.0 s.1 s.2 c.args.team c.args.new c.args.ways.items r s.3 now split later _ _ c.life_of-life.ensures.run)
 
 pub returns : goal.returns
 returns g c =
@@ -59,14 +60,14 @@ returns g c =
     let roster = seats.ensures.roster ∙ ap (λ (t : ℕ). new_seat t None r.roster_seat) c.looper.ensures in
     let leads = subst (λ (d : Door). StillLeads d c.life_of-life.new.door) c.into_job-door.ensures.door c.life_of-life.ensures.door in
     record {
-      started = goes_with s.0 s.1 s.2 c.args.team c.args.new c.args.ways.items r s.3 now split c.life_of-life.new.self c.life_of-life.ensures.run _ (record { apps = refl; shared = refl; joined = refl; ports = refl; desks = refl }) refl refl
+      started = goes_with s.0 s.1 s.2 c.args.team c.args.new c.args.ways.items r s.3 now split c.life_of-life.new.self _ _ c.life_of-life.ensures.run _ (record { apps = refl; shared = refl; joined = refl; ports = refl; desks = refl }) refl refl
           _ c.push_reserved.ensures.items c.push_reserved.ensures.capacity c.life_of-life.new.door c.into_job-door.result.1 seats.result.0 seats.result.1 book roster c.into_job-door.ensures.job c.into_job-door.ensures.ready leads refl refl c.of-snapshot.ensures c.life_of-life.ensures.life;
-      recorded = start_acts r now c.life_of-life.new.self _ c.life_of-life.new.door c.args.new.door.port_seat.front _ split.members (ap (λ s. s.front) split.roster_seat) (ap (λ s. s.front) split.book_seat) c.life_of-life.ensures.run.recorded
-          (leads.adds s.3.new.by_main) refl c.push_reserved.ensures.items refl refl;
+      recorded = start_acts r now c.life_of-life.new.self _ c.life_of-life.new.door c.args.new.door.port_seat.front _ split.time split.members (ap (λ s. s.front) split.roster_seat) (ap (λ s. s.front) split.book_seat)
+          (subst (λ (d : Door). RecordsAtNew d.port_seat.front c.life_of-life.new.door.port_seat.front now c.life_of-life.new.self) c.into_job-door.ensures.door c.life_of-life.ensures.run.recorded) refl c.push_reserved.ensures.items refl refl;
       only = c.life_of-life.ensures.only;
       quiet = λ all.
           let later : c.life_of-life.new.self ≡ now = c.life_of-life.ensures.quiet all in
-          start_quiet r c.life_of-life.new.self _ c.args.new.door.port_seat.front _ (ap (λ (u : Run). u.members) later ∙ split.members) (ap (λ (u : Run). u.roster_seat.front) later ∙ ap (λ s. s.front) split.roster_seat)
+          start_quiet r c.life_of-life.new.self _ c.args.new.door.port_seat.front _ (ap (λ (u : Run). u.hands.clock.time) later ∙ split.time) (ap (λ (u : Run). u.members) later ∙ split.members) (ap (λ (u : Run). u.roster_seat.front) later ∙ ap (λ s. s.front) split.roster_seat)
           (ap (λ (u : Run). u.hands.book_seat.front) later ∙ ap (λ s. s.front) split.book_seat) (ap (λ (d : Door). d.port_seat.front) (c.life_of-life.ensures.door_kept all ∙ c.into_job-door.ensures.door)) c.push_reserved.ensures.items refl refl;
       kept = c.life_of-life.ensures.kept;
       cause = c.life_of-life.ensures.cause;

@@ -1,17 +1,12 @@
 // Hey lines that are read, and lines that are none, with the column.
 
-use crate::{HeyFault, end_of, read_hey};
+use crate::compare::same;
 use ak_base::{AppWord, NoMemory};
 use ak_flatten::flatten;
+use ak_hey::{HeyFault, end_of, read_hey};
 use ak_message::{Message, read_message, split_words};
 use std::alloc::Global;
-use std::fmt::Debug;
-use std::process::Abort;
 use std::test::Fail;
-
-fn same<T: PartialEq + Debug + Copy>(rt: &impl Abort, label: &'static [u8], told: T, wanted: T) {
-    assert_eq!(rt; told, wanted, "at {label:?}");
-}
 
 // A letter that tells how an application is named, and the name.
 fn is_app(app: &AppWord, letter: u8, name: &[u8]) -> bool {
