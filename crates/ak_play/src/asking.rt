@@ -2,6 +2,7 @@
 ghost use Rattle.std.specs.Prelude.{◌≡◌, ◌<◌};
 ghost use Rattle.ak_describe.specs.Whole.{heads_of};
 ghost use Rattle.ak_run.specs.Running.{IsRunning};
+ghost use Rattle.ak_run.specs.Sessions.{sessions_of};
 ghost use Rattle.ak_run.specs.Sending.{looper_count};
 ghost use Rattle.ak_run.specs.Doing.{DoesSo};
 ghost use Rattle.ak_play.specs.Blocks.{IsHeyBlock};
@@ -23,6 +24,7 @@ pub(crate) fn hey<R: Wait>(run: &mut Run, rt: &R, hey: &Hey) -> Result<Came, NoM
     ensures did { DoesSo (MayCome (IsHeyBlock (heads_of run.old.apps.items) hey.now) result) run.old run.new }
     ensures running { IsRunning run.new }
     ensures apps { run.new.apps ≡ run.old.apps }
+    ensures sessions { sessions_of run.new ≡ sessions_of run.old }
 {
     match run.find(rt, &hey.app) {
         Found::Team { first, .. } => ask_looper(run, rt, first, hey),
@@ -38,6 +40,7 @@ fn ask_looper<R: Wait>(run: &mut Run, rt: &R, looper: u32, hey: &Hey) -> Result<
     ensures did { DoesSo (MayCome (IsAsked hey.now looper) result) run.old run.new }
     ensures running { IsRunning run.new }
     ensures apps { run.new.apps ≡ run.old.apps }
+    ensures sessions { sessions_of run.new ≡ sessions_of run.old }
 {
     let envelope = envelope(Target::Preferred, false);
     match run.ask(rt, looper, envelope, &hey.message) {

@@ -1,10 +1,11 @@
 //! The end of a run of statements.
-ghost use Rattle.std.specs.Prelude.{◌≡◌, ◌≤◌, List, length};
+ghost use Rattle.std.specs.Prelude.{◌≡◌, ◌≤◌, List, [], length};
 ghost use Rattle.ak_describe.specs.Whole.{AreWholeApps, heads_of};
 ghost use Rattle.ak_diary.specs.Step.{Step};
 ghost use Rattle.ak_headline.specs.Headline.{EachGotOneReply, EachLooper, IsAccounted, IsByRule};
 ghost use Rattle.ak_headline.specs.Run.{IsRun};
 ghost use Rattle.ak_run.specs.Running.{IsRunning};
+ghost use Rattle.ak_run.specs.Sessions.{sessions_of};
 ghost use Rattle.ak_script.specs.Limits.{statement_limit};
 ghost use Rattle.ak_run.specs.AtEnd.{DoneAtEnd};
 ghost use Rattle.ak_run.specs.Doing.{HasDoneSoFar};
@@ -52,6 +53,7 @@ pub(crate) fn finish<R: Threads + Wait>(
     played: Result<(), Stop>,
 ) -> (RunEnd, Ending)
     requires running { IsRunning run }
+    requires sessions { sessions_of run ≡ [] }
     requires whole { ∥ AreWholeApps run.apps.items ∥₁ }
     requires few { length statements.items ≤ statement_limit }
     ensures ending { result.1 ≡ ended_as played (is_any result.0.short.loopers) }

@@ -2,6 +2,7 @@
 ghost use Rattle.std.specs.Prelude.{◌≡◌, ◌≤◌, IsErrOf};
 ghost use Rattle.ak_outside.specs.Faults.{Rose};
 ghost use Rattle.ak_run.specs.Running.{IsRunning};
+ghost use Rattle.ak_run.specs.Sessions.{sessions_of};
 ghost use Rattle.ak_run.specs.Doing.{DoesSo};
 ghost use Rattle.ak_play.specs.Blocks.{IsLaunchBlock};
 ghost use Rattle.ak_play.specs.Came.{MayCome};
@@ -43,6 +44,7 @@ pub(crate) fn launch<W: Spawner, G: Gate + 'static, R: Threads + Wait + Copy + S
     ensures never_falls { W.faults spawner.old ≤ W.faults spawner.new }
     ensures running { IsRunning run.new }
     ensures apps { run.new.apps ≡ run.old.apps }
+    ensures sessions { sessions_of run.new ≡ sessions_of run.old }
 {
     match run.launch(rt, spawner, gate, &launch.word, launch.arguments.as_ref()) {
         LaunchAnswer::Started { team, place } => Ok(launched(place, Told::Started(team))),

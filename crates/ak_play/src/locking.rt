@@ -2,6 +2,7 @@
 ghost use Rattle.std.specs.Prelude.{◌≡◌, ◌<◌};
 ghost use Rattle.ak_describe.specs.Whole.{heads_of};
 ghost use Rattle.ak_run.specs.Running.{IsRunning};
+ghost use Rattle.ak_run.specs.Sessions.{sessions_of};
 ghost use Rattle.ak_run.specs.Sending.{looper_count};
 ghost use Rattle.ak_run.specs.Doing.{DoesSo};
 ghost use Rattle.ak_play.specs.Blocks.{IsLockBlock};
@@ -21,6 +22,7 @@ pub(crate) fn lock<R: Wait>(run: &mut Run, rt: &R, lock: &Lock) -> Result<Came, 
     ensures did { DoesSo (MayCome (IsLockBlock (heads_of run.old.apps.items) lock.now) result) run.old run.new }
     ensures running { IsRunning run.new }
     ensures apps { run.new.apps ≡ run.old.apps }
+    ensures sessions { sessions_of run.new ≡ sessions_of run.old }
 {
     match run.find(rt, &lock.app) {
         Found::Team {
@@ -47,6 +49,7 @@ fn edit_looper<R: Wait>(run: &mut Run, rt: &R, looper: u32, lock: &Lock) -> Resu
     ensures did { DoesSo (MayCome (IsLocked lock.now looper) result) run.old run.new }
     ensures running { IsRunning run.new }
     ensures apps { run.new.apps ≡ run.old.apps }
+    ensures sessions { sessions_of run.new ≡ sessions_of run.old }
 {
     let Ok(edit) = lock.edit.try_clone() else {
         return Err(NoMemory);

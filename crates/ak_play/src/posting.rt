@@ -2,6 +2,7 @@
 ghost use Rattle.std.specs.Prelude.{◌≡◌, ◌<◌, false, IsErrOf};
 ghost use Rattle.ak_describe.specs.Whole.{heads_of};
 ghost use Rattle.ak_run.specs.Running.{IsRunning};
+ghost use Rattle.ak_run.specs.Sessions.{sessions_of};
 ghost use Rattle.ak_run.specs.Sending.{looper_count};
 ghost use Rattle.ak_run.specs.Doing.{DoesSo, PostedSo};
 ghost use Rattle.ak_play.specs.Blocks.{IsPostBlock};
@@ -23,6 +24,7 @@ pub(crate) fn post<R: Wait>(run: &mut Run, rt: &R, post: &Post) -> Result<Came, 
     ensures did { DoesSo (MayCome (IsPostBlock (heads_of run.old.apps.items) post.now) result) run.old run.new }
     ensures running { IsRunning run.new }
     ensures apps { run.new.apps ≡ run.old.apps }
+    ensures sessions { sessions_of run.new ≡ sessions_of run.old }
 {
     match run.find(rt, &post.app) {
         Found::Team {
@@ -49,6 +51,7 @@ fn post_to<R: Wait>(run: &mut Run, rt: &R, looper: u32, post: &Post) -> Result<C
     ensures did { DoesSo (MayCome (IsSent post.now looper) result) run.old run.new }
     ensures running { IsRunning run.new }
     ensures apps { run.new.apps ≡ run.old.apps }
+    ensures sessions { sessions_of run.new ≡ sessions_of run.old }
 {
     match send(run, rt, looper, post) {
         Ok(position) => Ok(Came {
@@ -69,6 +72,7 @@ fn send<R: Wait>(run: &mut Run, rt: &R, looper: u32, post: &Post) -> Result<u64,
     ensures running { IsRunning run.new }
     ensures count { looper_count run.new ≡ looper_count run.old }
     ensures apps { run.new.apps ≡ run.old.apps }
+    ensures sessions { sessions_of run.new ≡ sessions_of run.old }
 {
     let envelope = envelope(post.target, post.dropped);
     if post.waits {

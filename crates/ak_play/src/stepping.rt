@@ -2,6 +2,7 @@
 ghost use Rattle.std.specs.Prelude.{◌≡◌, ◌≤◌, ◌+◌, [], length, vec_capacity, IsErrOf, OnOk};
 ghost use Rattle.ak_outside.specs.Faults.{Rose};
 ghost use Rattle.ak_run.specs.Running.{IsRunning};
+ghost use Rattle.ak_run.specs.Sessions.{sessions_of};
 ghost use Rattle.ak_run.specs.Doing.{DoesSo, HasDoneSoFar};
 ghost use Rattle.ak_play.specs.Blocks.{IsBlock, IsLaunch};
 ghost use Rattle.ak_play.specs.Came.{MayCome};
@@ -39,6 +40,7 @@ fn carry_out<W: Spawner, G: Gate + 'static, R: Threads + Wait + Copy + Send + 's
     ensures never_falls { W.faults spawner.old ≤ W.faults spawner.new }
     ensures running { IsRunning run.new }
     ensures apps { run.new.apps ≡ run.old.apps }
+    ensures sessions { sessions_of run.new ≡ sessions_of run.old }
 {
     match statement {
         Statement::Launch(statement) => launch(run, rt, spawner, gate, statement),
@@ -71,6 +73,7 @@ fn step<K: Sink, W: Spawner, G: Gate + 'static, R: Threads + Wait + Copy + Send 
     ensures spawner_never_falls { W.faults spawner.old ≤ W.faults spawner.new }
     ensures running { IsRunning run.new }
     ensures apps { run.new.apps ≡ run.old.apps }
+    ensures sessions { sessions_of run.new ≡ sessions_of run.old }
 {
     let came = carry_out(rt, run, statement, spawner, gate)?;
     outcomes.push_reserved(came.outcome);
@@ -107,6 +110,7 @@ pub(crate) fn play_all<
     ensures spawner_never_falls { W.faults spawner.old ≤ W.faults spawner.new }
     ensures running { IsRunning run.new }
     ensures apps { run.new.apps ≡ run.old.apps }
+    ensures sessions { sessions_of run.new ≡ sessions_of run.old }
 {
     for statement in statements {
         step(alloc, rt, run, statement, outcomes, sink, spawner, gate)?;

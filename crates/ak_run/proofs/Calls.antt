@@ -144,6 +144,7 @@ goes_at_new r r' port port' rest members roster book recorded =
       on = ([], ap (λ s. s.front) roster ∙ sym (append-nil r.roster_seat.front));
       shared = rest.shared;
       apps = rest.apps;
+      slots = rest.slots;
       recorded = recorded;
       desks_on = same_desks r r' members;
     }
@@ -165,6 +166,7 @@ goes_then_at_new r s t port port' a b = record {
   on = starts_then_starts r.roster_seat.front s.roster_seat.front t.roster_seat.front a.on b.on;
   shared = b.shared ∙ a.shared;
   apps = b.apps ∙ a.apps;
+  slots = b.slots ∙ a.slots;
   recorded = beside_then_at_new r s t port port' a.recorded b.recorded;
   desks_on = desks_then r s t a.desks_on b.desks_on;
 }

@@ -85,6 +85,7 @@ goes_then_goes r s t a b = record {
   on = starts_then_starts r.roster_seat.front s.roster_seat.front t.roster_seat.front a.on b.on;
   shared = b.shared ∙ a.shared;
   apps = b.apps ∙ a.apps;
+  slots = b.slots ∙ a.slots;
   recorded = beside_then r s t a.recorded b.recorded;
   desks_on = desks_then r s t a.desks_on b.desks_on;
 }
@@ -97,6 +98,7 @@ with_then_with m n r s t a b = record {
   on = starts_then_starts r.roster_seat.front s.roster_seat.front t.roster_seat.front a.on b.on;
   shared = b.shared ∙ a.shared;
   apps = b.apps ∙ a.apps;
+  slots = b.slots ∙ a.slots;
   desks_on = desks_then r s t a.desks_on b.desks_on;
 }
 
@@ -113,6 +115,7 @@ goes_by r r' roster_heads keeps opening roster book same count recorded members 
       on = roster.on;
       shared = keeps.shared;
       apps = keeps.apps;
+      slots = keeps.slots;
       recorded = recorded;
       desks_on = same_desks r r' members;
     }
@@ -130,6 +133,7 @@ goes_beside r r' keeps roster on book same count recorded desks = record {
   on = on;
   shared = keeps.shared;
   apps = keeps.apps;
+  slots = keeps.slots;
   recorded = recorded;
   desks_on = desks;
 }

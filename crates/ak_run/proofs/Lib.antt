@@ -26,12 +26,15 @@ pub mod NewDoors
 pub mod NewLoopers
 pub mod NewRun
 pub mod Opened
+pub mod OpenedSlots
 pub mod Paired
 pub mod Placed
 pub mod Places
 pub mod PortsAtStart
 pub mod Recorded
 pub mod RosterTurn
+pub mod SessionDoors
+pub mod SlotsStand
 pub mod Splits
 pub mod Standing
 pub mod Started
@@ -41,4 +44,5 @@ pub mod TeamEnds
 pub mod TeamStarts
 pub mod Teams
 pub mod Telling
+pub mod ToldOfSessions
 pub mod Ways

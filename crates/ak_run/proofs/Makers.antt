@@ -27,7 +27,7 @@ use Rattle.ak_desk.specs.Desk.{DeskData}
 use Rattle.ak_desk.specs.Entry.{EntryData}
 use Rattle.ak_desk.specs.Shared as desks
 use Rattle.ak_diary.specs.declared.histories.Histories.{Histories}
-use Rattle.ak_headline.specs.Run.{IsOfRun, desk_list, desk_maker, port_list}
+use Rattle.ak_headline.specs.Run.{ActsIn, desk_list, desk_maker, port_list}
 use Rattle.ak_looper.specs.declared.kept_door.KeptDoor.{KeptDoor}
 use Rattle.ak_looper.specs.Rosters as rosters
 use Rattle.ak_looper.specs.Rosters.{Object, RosterSeat}
@@ -66,11 +66,11 @@ both true true is = (refl, refl)
 both true false is = absurd cc
 both false b is = absurd cc
 
--- a head's entries are by main and the loopers
-pub by_names : {L : Type 0} (by : L → ℕ) (next : ℕ) (names : Option (List ℕ)) (entries : List L) → AreBelow next names → ((ns : List ℕ) → names ≡ Some ns → All (λ entry. Contains ns (by entry)) entries) → All (λ entry. IsBelow next (by entry)) entries
-by_names by next None entries below named = absurd below
-by_names by next (Some ns) entries below named =
-    All-weaker (λ entry. Contains ns (by entry)) (λ entry. IsBelow next (by entry)) (λ entry there. All-contains (IsBelow next) ns (by entry) below there) entries (named ns refl)
+-- a head's entries are by main, the sessions and the loopers
+pub by_names : {L : Type 0} (by : L → ℕ) (sessions next : ℕ) (names : Option (List ℕ)) (entries : List L) → AreBelow sessions next names → ((ns : List ℕ) → names ≡ Some ns → All (λ entry. Contains ns (by entry)) entries) → All (λ entry. IsBelow sessions next (by entry)) entries
+by_names by sessions next None entries below named = absurd below
+by_names by sessions next (Some ns) entries below named =
+    All-weaker (λ entry. Contains ns (by entry)) (λ entry. IsBelow sessions next (by entry)) (λ entry there. All-contains (IsBelow sessions next) ns (by entry) below there) entries (named ns refl)
 
 -- what holds where two things hold of each
 All-both : {X : Type 0} (P Q R : X → Type 0) → ((x : X) → P x → Q x → R x) → (xs : List X) → All P xs → All Q xs → All R xs
@@ -186,12 +186,12 @@ module _ (heads : List AppHead) (main : RosterSeat) (at_book : ReplySeat) (js la
             ∙ ap (λ (t : ℕ). made_by desks.by_number t seat.front) kept.desk_keeper ∙ kept.desk_keeper_idle);
       }
 
-  -- ---- all entries of the roster are by main and the loopers
-  module _ (roster_names : AreBelow (length js) main.names) (told : HoldersAreTold) (launches : LaunchesHaveLoopers) where
-    roster_makers : All (λ (entry : RosterEntry). IsBelow (length js) entry.by.0) (plain_entries roster.entries)
+  -- ---- all entries of the roster are by main, the sessions and the loopers
+  module _ (sessions : ℕ) (roster_names : AreBelow sessions (length js) main.names) (told : HoldersAreTold) (launches : LaunchesHaveLoopers) where
+    roster_makers : All (λ (entry : RosterEntry). IsBelow sessions (length js) entry.by.0) (plain_entries roster.entries)
     roster_makers =
-        All-map (λ (entry : RosterEntry). IsBelow (length js) entry.by.0) (λ (entry : EntryWithObjects Object). entry.plain) roster.entries
-        (by_names rosters.by_number (length js) main.names roster.entries roster_names all.of.named)
+        All-map (λ (entry : RosterEntry). IsBelow sessions (length js) entry.by.0) (λ (entry : EntryWithObjects Object). entry.plain) roster.entries
+        (by_names rosters.by_number sessions (length js) main.names roster.entries roster_names all.of.named)
 
     -- a looper's own one was started before it
     own_below : (n : ℕ) (its : LooperData) → slice_get (state_of heads (plain_entries roster.entries)).loopers n ≡ Some its → its.own < length js
@@ -219,58 +219,60 @@ module _ (heads : List AppHead) (main : RosterSeat) (at_book : ReplySeat) (js la
             subst (λ (e : RosterEntry). HasLaunched heads (state_of heads (plain_entries roster.entries)).loopers e.by.0 e.event) (get_or-map plain roster.entries i entry entry.plain lt ∙ ap plain at)
             (each i entry.plain (omega (arith, length-map roster.entries plain, lt)))
 
-    of_run : (thread : ℕ) → IsBelow (length js) thread → IsOfRun h thread
-    of_run thread below = subst (λ (n : ℕ). IsBelow n thread) (sym as_many) below
+    of_run : (thread : ℕ) → IsBelow sessions (length js) thread → ActsIn h sessions thread
+    of_run thread below =
+        ⊎_elim (λ is_main. inl (inl is_main))
+        (λ rest. ⊎_elim (λ session. inr session) (λ looper. inl (inr (looper.0, subst (λ (n : ℕ). looper.0 < n) (sym as_many) looper.1, looper.2))) rest) below
 
-    pub roster_made : All (λ (entry : RosterEntry). IsOfRun h entry.by.0) h.roster.items
+    pub roster_made : All (λ (entry : RosterEntry). ActsIn h sessions entry.by.0) h.roster.items
     roster_made =
-        subst (All (λ (entry : RosterEntry). IsOfRun h entry.by.0)) (sym g.h_roster)
-        (All-weaker (λ (entry : RosterEntry). IsBelow (length js) entry.by.0) (λ (entry : RosterEntry). IsOfRun h entry.by.0) (λ entry below. of_run entry.by.0 below) (plain_entries roster.entries) roster_makers)
+        subst (All (λ (entry : RosterEntry). ActsIn h sessions entry.by.0)) (sym g.h_roster)
+        (All-weaker (λ (entry : RosterEntry). IsBelow sessions (length js) entry.by.0) (λ (entry : RosterEntry). ActsIn h sessions entry.by.0) (λ entry below. of_run entry.by.0 below) (plain_entries roster.entries) roster_makers)
 
     -- one that holds a looper's door, and is not the keeper
-    holder_of_run : (n : ℕ) (its : LooperData) → n < length js → slice_get (state_of heads (plain_entries roster.entries)).loopers n ≡ Some its → (thread : ℕ) → Contains (holders n its) thread → thread ≢ keeper_thread → IsBelow (length js) thread
+    holder_of_run : (n : ℕ) (its : LooperData) → n < length js → slice_get (state_of heads (plain_entries roster.entries)).loopers n ≡ Some its → (thread : ℕ) → Contains (holders n its) thread → thread ≢ keeper_thread → IsBelow sessions (length js) thread
     holder_of_run n its within there thread holds other =
         ⊎_elim (λ is_main. inl is_main)
-        (⊎_elim (λ is_looper. inr (n, within, is_looper))
-        (⊎_elim (λ is_own. inr (its.own, own_below n its there, is_own))
+        (⊎_elim (λ is_looper. inr (inr (n, within, is_looper)))
+        (⊎_elim (λ is_own. inr (inr (its.own, own_below n its there, is_own)))
         (⊎_elim (λ is_keeper. absurd (other is_keeper)) (λ took. took_below took))))
         ((told heads (plain_entries roster.entries) n its history there thread).0 holds)
       where
-        took_below : TookDoor (plain_entries roster.entries) n thread → IsBelow (length js) thread
-        took_below took = subst (IsBelow (length js)) (ap (λ (e : RosterEntry). e.by.0) took.3 ∙ took.4.0) (roster_makers took.0 took.1 took.2)
+        took_below : TookDoor (plain_entries roster.entries) n thread → IsBelow sessions (length js) thread
+        took_below took = subst (IsBelow sessions (length js)) (ap (λ (e : RosterEntry). e.by.0) took.3 ∙ took.4.0) (roster_makers took.0 took.1 took.2)
 
-    pub port_makers : (n : ℕ) → All (λ (entry : PortEntry). IsOfRun h entry.by.0) (port_list h n)
+    pub port_makers : (n : ℕ) → All (λ (entry : PortEntry). ActsIn h sessions entry.by.0) (port_list h n)
     port_makers n = ⊎_elim within past (slice_get_cases h.ports.items n).1
       where
-        within : (port : PortData) × (n < length h.ports.items) × (slice_get h.ports.items n ≡ Some port) × (get_or h.ports.items n port ≡ port) → All (λ (entry : PortEntry). IsOfRun h entry.by.0) (port_list h n)
+        within : (port : PortData) × (n < length h.ports.items) × (slice_get h.ports.items n ≡ Some port) × (get_or h.ports.items n port ≡ port) → All (λ (entry : PortEntry). ActsIn h sessions entry.by.0) (port_list h n)
         within at =
             let made = made_by_holders n at.0 at.2 in
             let low : n < length js = omega (arith, at.1, as_many) in
-            subst (λ (o : Option PortData). All (λ (entry : PortEntry). IsOfRun h entry.by.0) (unwrap_or (option_map (λ (port : PortData). port.entries) o) [])) (sym at.2)
-            (All-both (λ (entry : PortEntry). Contains (holders n made.its) (ports.by_number entry)) (λ (entry : PortEntry). ports.by_number entry ≢ keeper_thread) (λ (entry : PortEntry). IsOfRun h entry.by.0)
+            subst (λ (o : Option PortData). All (λ (entry : PortEntry). ActsIn h sessions entry.by.0) (unwrap_or (option_map (λ (port : PortData). port.entries) o) [])) (sym at.2)
+            (All-both (λ (entry : PortEntry). Contains (holders n made.its) (ports.by_number entry)) (λ (entry : PortEntry). ports.by_number entry ≢ keeper_thread) (λ (entry : PortEntry). ActsIn h sessions entry.by.0)
             (λ entry holds other. of_run (ports.by_number entry) (holder_of_run n made.its low made.there (ports.by_number entry) holds other)) at.0.entries made.makers made.no_keeper)
 
-        past : (length h.ports.items ≤ n) × (slice_get h.ports.items n ≡ None) → All (λ (entry : PortEntry). IsOfRun h entry.by.0) (port_list h n)
+        past : (length h.ports.items ≤ n) × (slice_get h.ports.items n ≡ None) → All (λ (entry : PortEntry). ActsIn h sessions entry.by.0) (port_list h n)
         past at =
-            subst (λ (o : Option PortData). All (λ (entry : PortEntry). IsOfRun h entry.by.0) (unwrap_or (option_map (λ (port : PortData). port.entries) o) [])) (sym at.1) (All-nil (λ (entry : PortEntry). IsOfRun h entry.by.0))
+            subst (λ (o : Option PortData). All (λ (entry : PortEntry). ActsIn h sessions entry.by.0) (unwrap_or (option_map (λ (port : PortData). port.entries) o) [])) (sym at.1) (All-nil (λ (entry : PortEntry). ActsIn h sessions entry.by.0))
 
-    pub desk_makers : (n : ℕ) → All (λ (entry : EntryData). IsOfRun h (desk_maker entry)) (desk_list h n)
+    pub desk_makers : (n : ℕ) → All (λ (entry : EntryData). ActsIn h sessions (desk_maker entry)) (desk_list h n)
     desk_makers n = ⊎_elim within past (slice_get_cases h.desks.items n).1
       where
-        within : (desk : DeskData) × (n < length h.desks.items) × (slice_get h.desks.items n ≡ Some desk) × (get_or h.desks.items n desk ≡ desk) → All (λ (entry : EntryData). IsOfRun h (desk_maker entry)) (desk_list h n)
+        within : (desk : DeskData) × (n < length h.desks.items) × (slice_get h.desks.items n ≡ Some desk) × (get_or h.desks.items n desk ≡ desk) → All (λ (entry : EntryData). ActsIn h sessions (desk_maker entry)) (desk_list h n)
         within at =
             let made = edited_by_holders n at.0 at.2 in
             let low : n < length js = omega (arith, at.1, as_many_desks later h.ports.items h.desks.items g.kept, g.gains.count) in
-            subst (λ (o : Option DeskData). All (λ (entry : EntryData). IsOfRun h (desk_maker entry)) (unwrap_or (option_map (λ (desk : DeskData). desk.entries) o) [])) (sym at.2)
-            (All-both (λ (entry : EntryData). Contains (holders n made.its) (desks.by_number entry)) (λ (entry : EntryData). desks.by_number entry ≢ keeper_thread) (λ (entry : EntryData). IsOfRun h (desk_maker entry))
+            subst (λ (o : Option DeskData). All (λ (entry : EntryData). ActsIn h sessions (desk_maker entry)) (unwrap_or (option_map (λ (desk : DeskData). desk.entries) o) [])) (sym at.2)
+            (All-both (λ (entry : EntryData). Contains (holders n made.its) (desks.by_number entry)) (λ (entry : EntryData). desks.by_number entry ≢ keeper_thread) (λ (entry : EntryData). ActsIn h sessions (desk_maker entry))
             (λ entry holds other. of_run (desks.by_number entry) (holder_of_run n made.its low made.there (desks.by_number entry) holds other)) at.0.entries made.makers made.no_keeper)
 
-        past : (length h.desks.items ≤ n) × (slice_get h.desks.items n ≡ None) → All (λ (entry : EntryData). IsOfRun h (desk_maker entry)) (desk_list h n)
+        past : (length h.desks.items ≤ n) × (slice_get h.desks.items n ≡ None) → All (λ (entry : EntryData). ActsIn h sessions (desk_maker entry)) (desk_list h n)
         past at =
-            subst (λ (o : Option DeskData). All (λ (entry : EntryData). IsOfRun h (desk_maker entry)) (unwrap_or (option_map (λ (desk : DeskData). desk.entries) o) [])) (sym at.1) (All-nil (λ (entry : EntryData). IsOfRun h (desk_maker entry)))
+            subst (λ (o : Option DeskData). All (λ (entry : EntryData). ActsIn h sessions (desk_maker entry)) (unwrap_or (option_map (λ (desk : DeskData). desk.entries) o) [])) (sym at.1) (All-nil (λ (entry : EntryData). ActsIn h sessions (desk_maker entry)))
 
-    pub book_makers : AreBelow (length js) at_book.names → All (λ (entry : ReplyEntry). IsOfRun h entry.by.0) h.book
+    pub book_makers : AreBelow sessions (length js) at_book.names → All (λ (entry : ReplyEntry). ActsIn h sessions entry.by.0) h.book
     book_makers names =
-        subst (All (λ (entry : ReplyEntry). IsOfRun h entry.by.0)) (sym g.h_book)
-        (All-weaker (λ (entry : ReplyEntry). IsBelow (length js) (books.maker_of entry)) (λ (entry : ReplyEntry). IsOfRun h entry.by.0) (λ entry below. of_run (books.maker_of entry) below) book
-        (by_names books.maker_of (length js) at_book.names book names g.of_book.named))
+        subst (All (λ (entry : ReplyEntry). ActsIn h sessions entry.by.0)) (sym g.h_book)
+        (All-weaker (λ (entry : ReplyEntry). IsBelow sessions (length js) (books.maker_of entry)) (λ (entry : ReplyEntry). ActsIn h sessions entry.by.0) (λ entry below. of_run (books.maker_of entry) below) book
+        (by_names books.maker_of sessions (length js) at_book.names book names g.of_book.named))

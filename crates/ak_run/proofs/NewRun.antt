@@ -26,6 +26,8 @@ use Rattle.ak_run.specs.Doing.{HasDoneSoFar, IsRecordedAtDesks, desk_front}
 use Rattle.ak_run.proofs.GoingOn.{desk_in}
 use Rattle.ak_run.proofs.Recorded.{nothing_yet}
 use Rattle.ak_run.specs.Running.{AreBelow, HasRoomToEnd, IsBelow, IsMember, IsOpenedAs, IsRunning}
+use Rattle.ak_run.specs.Sessions.{session_count}
+use Rattle.ak_run.proofs.SlotsStand.{no_slots}
 
 -- the heads of one application more
 pub heads_more : (apps : List AppText) (index : ℕ) (app : AppText) (head : AppHead) (heads heads' : List AppHead) → index < length apps → app ≡ get_or apps index app → head ≡ head_of app
@@ -45,8 +47,8 @@ no_edits_yet r none looper = ap (λ (ms : List Member). noted at_desks.by_number
 
 -- the run itself
 pub begins : (heads : List AppHead) (roster book : LockId) (r : Run) → All IsWholeApp r.apps.items → heads ≡ heads_of r.apps.items → r.roster_seat ≡ first_seat roster heads [] [] main_thread → r.hands.book_seat ≡ first_seat book tt [] [] main_thread
-    → r.members.items ≡ [] → looper_limit ≤ vec_capacity r.members → HasRoomToEnd r → r.hands.clock.time ≡ 0 → IsRunning r
-begins heads roster book r whole heads_are roster_is book_is none room ready time =
+    → r.members.items ≡ [] → looper_limit ≤ vec_capacity r.members → HasRoomToEnd r → r.hands.clock.time ≡ 0 → r.slots.sessions.items ≡ [] → r.slots.ways.items ≡ [] → IsRunning r
+begins heads roster book r whole heads_are roster_is book_is none room ready time no_sessions no_ways =
     let few : length r.members.items ≡ 0 = ap length none in
     record {
       heads = heads;
@@ -55,22 +57,23 @@ begins heads roster book r whole heads_are roster_is book_is none room ready tim
         heads_are = heads_are;
         opening = ap (λ (s : RosterSeat). s.opening) roster_is;
         roster_known = subst (KnowsWhole rosters.by_number) (sym roster_is) (first_knows rosters.by_number roster heads [] main_thread (All-nil (λ (entry : EntryWithObjects Object). rosters.by_number entry ≡ main_thread)));
-        roster_names = subst (λ (s : RosterSeat). AreBelow (length r.members.items) s.names) (sym roster_is) (main_below (length r.members.items));
+        roster_names = subst (λ (s : RosterSeat). AreBelow (session_count r) (length r.members.items) s.names) (sym roster_is) (main_below (session_count r) (length r.members.items));
         book_known = subst (KnowsWhole books.maker_of) (sym book_is) (first_knows books.maker_of book tt [] main_thread (All-nil (λ (entry : ReplyEntry). books.maker_of entry ≡ main_thread)));
-        book_names = subst (λ (s : ReplySeat). AreBelow (length r.members.items) s.names) (sym book_is) (main_below (length r.members.items));
+        book_names = subst (λ (s : ReplySeat). AreBelow (session_count r) (length r.members.items) s.names) (sym book_is) (main_below (session_count r) (length r.members.items));
         numbers = subst (λ (ms : List Member). map (λ (m : Member). m.number) ms ≡ range_with_len 0 (length ms)) (sym none) refl;
         each = subst (All (IsMember heads r.shared r.roster_seat)) (sym none) (All-nil (IsMember heads r.shared r.roster_seat));
         opened = subst (All (IsOpenedAs r.apps.items)) (sym none) (All-nil (IsOpenedAs r.apps.items));
         few = omega (arith, few);
         room = room;
         ready = ready;
+        sessions = no_slots heads r.shared r.slots no_sessions no_ways;
       };
       all = ap (started_by_main heads) roster_is ∙ sym few;
       recorded = record { did = []; recorded = nothing_yet r time (ap (λ (s : RosterSeat). s.front) roster_is) (ap (λ (s : ReplySeat). s.front) book_is) none; edits = no_edits_yet r none };
     }
   where
-    main_below : (n : ℕ) → AreBelow n (Some (main_thread ∷ []))
-    main_below n = All-cons (IsBelow n) main_thread [] (inl refl) (All-nil (IsBelow n))
+    main_below : (sessions n : ℕ) → AreBelow sessions n (Some (main_thread ∷ []))
+    main_below sessions n = All-cons (IsBelow sessions n) main_thread [] (inl refl) (All-nil (IsBelow sessions n))
 
 -- and main has done nothing
 pub done_nothing : (r : Run) → r.roster_seat.front ≡ [] → r.hands.book_seat.front ≡ [] → r.members.items ≡ [] → r.hands.clock.time ≡ 0 → HasDoneSoFar [] r

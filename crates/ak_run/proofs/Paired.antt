@@ -72,7 +72,7 @@ module _ (heads : List AppHead) (main : RosterSeat) (book : ReplySeat) (js : Lis
       ∙ leads_on main.front all.of.between j.number (door_object j.door.port_seat.lock j.door.desk_seat.lock) is.leads
 
   -- so what leads there leads where main's door leads
-  at_from : (place : ℕ) (port desk : LockId) → slice_get (objects_of roster.entries) place ≡ Some (door_object port desk) → IsAt js place port desk
+  pub at_from : (place : ℕ) (port desk : LockId) → slice_get (objects_of roster.entries) place ≡ Some (door_object port desk) → IsAt js place port desk
   at_from place port desk leads =
       let within : place < length js = subst (λ (n : ℕ). place < n) object_count (slice_get_within (objects_of roster.entries) place (door_object port desk) leads) in
       let j = at_place js place within in

@@ -35,6 +35,7 @@ use Rattle.ak_run.specs.declared.member.Member.{Member}
 use Rattle.ak_run.specs.declared.new_looper.NewLooper.{NewLooper}
 use Rattle.ak_run.specs.declared.new_looper.Shared.{Shared}
 use Rattle.ak_run.specs.declared.run.Run.{Run}
+use Rattle.ak_run.specs.declared.slots.Slots.{Slots}
 use Rattle.ak_run.specs.Counting.{started_by_main}
 use Rattle.ak_run.specs.Doors.{HasNoNames}
 use Rattle.ak_run.specs.Gathering.{HasRoomFor, HoldsNothing}
@@ -45,20 +46,39 @@ use Rattle.ak_run.specs.Opened.{IsLaunchOf}
 use Rattle.ak_run.specs.Opening.{names_in}
 use Rattle.ak_run.specs.Recording.{member_desk_front}
 use Rattle.ak_run.specs.Running.{AreBelow, IsBelow, IsMember, IsOpenedAs, KeepsRest, Stands}
+use Rattle.ak_run.specs.Sessions.{session_count, session_limit, told_in}
 use Rattle.ak_run.specs.Starting.{GoesOnAtNew, GoesOnWith, HasSplit, MayStart}
 use Rattle.ak_run.proofs.GoingOn.{desks_then, push_desks, same_desks, some_same}
 use Rattle.ak_run.proofs.Heads.{by_others, nothing_by_new}
-use Rattle.ak_run.proofs.Standing.{leads_still, member_sees}
+use Rattle.ak_run.proofs.Standing.{leads_still, member_sees, slots_still}
 
 -- ---- names
-pub new_name : (number : ℕ) (names : Option (List ℕ)) → AreBelow number names → IsNewName names (looper_thread number)
-new_name number None below = absurd below
-new_name number (Some ns) below = λ i d lt same. ⊎_elim (λ main. omega (arith, main, same)) (λ looper. omega (arith, looper.1, looper.2, same)) (below i d lt)
+pub new_name : (sessions number : ℕ) (names : Option (List ℕ)) → sessions ≤ session_limit → AreBelow sessions number names → IsNewName names (looper_thread number)
+new_name sessions number None few below = absurd below
+new_name sessions number (Some ns) few below = λ i d lt same.
+    ⊎_elim (λ main. omega (arith, main, same)) (λ rest. ⊎_elim (λ session. omega (arith, session.1, few, same)) (λ looper. omega (arith, looper.1, looper.2, same)) rest) (below i d lt)
 
-names_on : (number : ℕ) (names : Option (List ℕ)) → AreBelow number names → AreBelow (number + 1) (names_with names (looper_thread number))
-names_on number None below = absurd below
-names_on number (Some ns) below =
-    All-push (IsBelow (number + 1)) ns (looper_thread number) (All-weaker (IsBelow number) (IsBelow (number + 1)) (λ name is. ⊎_elim (λ main. inl main) (λ looper. inr (looper.0, omega (arith, looper.1), looper.2)) is) ns below) (inr (number, omega arith, refl))
+names_on : (sessions number : ℕ) (names : Option (List ℕ)) → AreBelow sessions number names → AreBelow sessions (number + 1) (names_with names (looper_thread number))
+names_on sessions number None below = absurd below
+names_on sessions number (Some ns) below =
+    All-push (IsBelow sessions (number + 1)) ns (looper_thread number)
+    (All-weaker (IsBelow sessions number) (IsBelow sessions (number + 1))
+    (λ name is. ⊎_elim (λ main. inl main) (λ rest. inr (⊎_elim (λ session. inl session) (λ looper. inr (looper.0, omega (arith, looper.1), looper.2)) rest)) is) ns below)
+    (inr (inr (number, omega arith, refl)))
+
+-- and a session's
+pub new_session : (sessions number : ℕ) (names : Option (List ℕ)) → sessions < session_limit → AreBelow sessions number names → IsNewName names (sessions + 1)
+new_session sessions number None few below = absurd below
+new_session sessions number (Some ns) few below = λ i d lt same.
+    ⊎_elim (λ main. omega (arith, main, same)) (λ rest. ⊎_elim (λ session. omega (arith, session.1, same)) (λ looper. omega (arith, looper.2, few, same)) rest) (below i d lt)
+
+pub session_on : (sessions number : ℕ) (names : Option (List ℕ)) → AreBelow sessions number names → AreBelow (sessions + 1) number (names_with names (sessions + 1))
+session_on sessions number None below = absurd below
+session_on sessions number (Some ns) below =
+    All-push (IsBelow (sessions + 1) number) ns (sessions + 1)
+    (All-weaker (IsBelow sessions number) (IsBelow (sessions + 1) number)
+    (λ name is. ⊎_elim (λ main. inl main) (λ rest. inr (⊎_elim (λ session. inl (session.0, omega (arith, session.1))) (λ looper. inr looper) rest)) is) ns below)
+    (inr (inl (omega arith, omega arith)))
 
 -- ---- numbers in order
 range_next : (a n : ℕ) → range_with_len a (suc n) ≡ range_with_len a n ++ (a + n) ∷ []
@@ -81,7 +101,7 @@ range_more n = ap (range_with_len 0) (one_more n) ∙ range_next 0 n ∙ ap (λ 
     one_more m = omega arith
 
 -- ---- what the new seats know
-roster_nothing : (seat : RosterSeat) (thread : ℕ) → KnowsWhole rosters.by_number seat → IsNewName seat.names thread → noted maker_of thread (plain_entries seat.front) ≡ []
+pub roster_nothing : (seat : RosterSeat) (thread : ℕ) → KnowsWhole rosters.by_number seat → IsNewName seat.names thread → noted maker_of thread (plain_entries seat.front) ≡ []
 roster_nothing seat thread known new =
     let others : AreByOthers rosters.by_number thread seat.front = by_others rosters.by_number seat.names thread seat.front known.names new in
     noted-others maker_of thread [] (plain_entries seat.front) (All-map (λ (entry : RosterEntry). entry.by.0 ≢ thread) (λ (entry : EntryWithObjects Object). entry.plain) seat.front others)
@@ -97,10 +117,10 @@ module _ (heads : List AppHead) (plans : List PlanParts) (k : ℕ) (t : Team) (n
   thread = looper_thread n.number
 
   pub roster_new : IsNewName r.roster_seat.names thread
-  roster_new = subst (λ x. IsNewName r.roster_seat.names (looper_thread x)) (sym number_is) (new_name count r.roster_seat.names m.stands.roster_names)
+  roster_new = subst (λ x. IsNewName r.roster_seat.names (looper_thread x)) (sym number_is) (new_name (session_count r) count r.roster_seat.names m.stands.sessions.few m.stands.roster_names)
 
   pub book_new : IsNewName r.hands.book_seat.names thread
-  book_new = subst (λ x. IsNewName r.hands.book_seat.names (looper_thread x)) (sym number_is) (new_name count r.hands.book_seat.names m.stands.book_names)
+  book_new = subst (λ x. IsNewName r.hands.book_seat.names (looper_thread x)) (sym number_is) (new_name (session_count r) count r.hands.book_seat.names m.stands.sessions.few m.stands.book_names)
 
   abbrev book_seat : ReplySeat
   book_seat = new_seat thread None r.hands.book_seat
@@ -166,9 +186,11 @@ module _ (heads : List AppHead) (plans : List PlanParts) (k : ℕ) (t : Team) (n
       heads_are = m.stands.heads_are ∙ ap (λ v. heads_of v.items) (sym split.rest.apps);
       opening = ap (λ (x : RosterSeat). x.opening) split.roster_seat ∙ m.stands.opening;
       roster_known = split.roster_known m.stands.roster_known;
-      roster_names = subst (AreBelow (count + 1)) (sym (ap (λ (x : RosterSeat). x.names) split.roster_seat)) (subst (λ x. AreBelow (count + 1) (names_with r.roster_seat.names (looper_thread x))) (sym number_is) (names_on count r.roster_seat.names m.stands.roster_names));
+      roster_names = subst (λ (z : Slots). AreBelow (length (told_in z)) (count + 1) s.roster_seat.names) (sym split.rest.slots)
+          (subst (AreBelow (session_count r) (count + 1)) (sym (ap (λ (x : RosterSeat). x.names) split.roster_seat)) (subst (λ x. AreBelow (session_count r) (count + 1) (names_with r.roster_seat.names (looper_thread x))) (sym number_is) (names_on (session_count r) count r.roster_seat.names m.stands.roster_names)));
       book_known = split.book_known m.stands.book_known;
-      book_names = subst (AreBelow (count + 1)) (sym (ap (λ (x : ReplySeat). x.names) split.book_seat)) (subst (λ x. AreBelow (count + 1) (names_with r.hands.book_seat.names (looper_thread x))) (sym number_is) (names_on count r.hands.book_seat.names m.stands.book_names));
+      book_names = subst (λ (z : Slots). AreBelow (length (told_in z)) (count + 1) s.hands.book_seat.names) (sym split.rest.slots)
+          (subst (AreBelow (session_count r) (count + 1)) (sym (ap (λ (x : ReplySeat). x.names) split.book_seat)) (subst (λ x. AreBelow (session_count r) (count + 1) (names_with r.hands.book_seat.names (looper_thread x))) (sym number_is) (names_on (session_count r) count r.hands.book_seat.names m.stands.book_names)));
       numbers = subst (λ v. map (λ (x : Member). x.number) v.items ≡ range_with_len 0 (length v.items)) (sym split.members) m.stands.numbers;
       each = subst (λ v. All (IsMember heads s.shared s.roster_seat) v.items) (sym split.members) (subst (λ h. All (IsMember heads h s.roster_seat) r.members.items) (sym split.rest.shared)
           (All-weaker (IsMember heads r.shared r.roster_seat) (IsMember heads r.shared s.roster_seat) (member_sees heads r.shared r.roster_seat s.roster_seat on) r.members.items m.stands.each));
@@ -183,6 +205,7 @@ module _ (heads : List AppHead) (plans : List PlanParts) (k : ℕ) (t : Team) (n
         for_ports = subst (λ v. looper_limit ≤ vec_capacity v) (sym split.rest.ports) m.stands.ready.for_ports;
         for_desks = subst (λ v. looper_limit ≤ vec_capacity v) (sym split.rest.desks) m.stands.ready.for_desks;
       };
+      sessions = slots_still heads r s split.rest m.stands.sessions;
     }
 
     -- there is room for it, however the run went on
@@ -297,9 +320,11 @@ module _ (heads : List AppHead) (plans : List PlanParts) (k : ℕ) (t : Team) (n
         heads_are = stood.heads_are ∙ ap (λ w. heads_of w.items) (sym kept.apps);
         opening = ap (λ (y : RosterSeat). y.opening) v_roster ∙ stood.opening;
         roster_known = subst (KnowsWhole rosters.by_number) (sym v_roster) stood.roster_known;
-        roster_names = subst (λ c. AreBelow c v.roster_seat.names) (sym count_v) (subst (λ (y : RosterSeat). AreBelow (count + 1) y.names) (sym v_roster) stood.roster_names);
+        roster_names = subst (λ c. AreBelow (session_count v) c v.roster_seat.names) (sym count_v)
+            (subst (λ (z : Slots). AreBelow (length (told_in z)) (count + 1) v.roster_seat.names) (sym kept.slots) (subst (λ (y : RosterSeat). AreBelow (session_count u) (count + 1) y.names) (sym v_roster) stood.roster_names));
         book_known = subst (λ h. KnowsWhole books.maker_of h.book_seat) (sym v_hands) stood.book_known;
-        book_names = subst (λ c. AreBelow c v.hands.book_seat.names) (sym count_v) (subst (λ h. AreBelow (count + 1) h.book_seat.names) (sym v_hands) stood.book_names);
+        book_names = subst (λ c. AreBelow (session_count v) c v.hands.book_seat.names) (sym count_v)
+            (subst (λ (z : Slots). AreBelow (length (told_in z)) (count + 1) v.hands.book_seat.names) (sym kept.slots) (subst (λ h. AreBelow (session_count u) (count + 1) h.book_seat.names) (sym v_hands) stood.book_names));
         numbers = ap (map (λ (y : Member). y.number)) v_items ∙ map-append (λ (y : Member). y.number) u.members.items (x ∷ []) ∙ numbers_on u.members.items x (length v.members.items) stood.numbers (x_number ∙ number_is ∙ sym count_u) (count_v ∙ ap (λ c. c + 1) (sym count_u));
         each = subst (All (IsMember heads v.shared v.roster_seat)) (sym v_items) (subst (λ h. All (IsMember heads h v.roster_seat) (u.members.items ++ x ∷ [])) (sym kept.shared)
             (subst (λ y. All (IsMember heads u.shared y) (u.members.items ++ x ∷ [])) (sym v_roster) (All-push (IsMember heads u.shared u.roster_seat) u.members.items x stood.each new_member)));
@@ -314,6 +339,7 @@ module _ (heads : List AppHead) (plans : List PlanParts) (k : ℕ) (t : Team) (n
           for_ports = subst (λ w. looper_limit ≤ vec_capacity w) (sym kept.ports) stood.ready.for_ports;
           for_desks = subst (λ w. looper_limit ≤ vec_capacity w) (sym kept.desks) stood.ready.for_desks;
         };
+        sessions = slots_still heads u v kept stood.sessions;
       }
         where
           numbers_on : (xs : List Member) (y : Member) (total : ℕ) → map (λ (z : Member). z.number) xs ≡ range_with_len 0 (length xs) → y.number ≡ length xs → total ≡ length xs + 1 → map (λ (z : Member). z.number) xs ++ y.number ∷ [] ≡ range_with_len 0 total
@@ -331,5 +357,6 @@ module _ (heads : List AppHead) (plans : List PlanParts) (k : ℕ) (t : Team) (n
         on = subst (λ (y : RosterSeat). StartsWith y.front r.roster_seat.front) (sym v_roster) (starts_then_starts r.roster_seat.front s.roster_seat.front u.roster_seat.front on goes.on);
         apps = kept.apps ∙ goes.apps ∙ split.rest.apps;
         shared = kept.shared ∙ goes.shared ∙ split.rest.shared;
+        slots = kept.slots ∙ goes.slots ∙ split.rest.slots;
         desks_on = desks_then r s v (same_desks r s split.members) (desks_then s u v goes.desks_on (push_desks u v x v_items untouched));
       }

@@ -23,9 +23,11 @@ use Rattle.ak_looper.proofs.Surface.{leads_on}
 use Rattle.ak_run.specs.declared.member.Member.{Member}
 use Rattle.ak_run.specs.declared.new_looper.Shared.{Shared}
 use Rattle.ak_run.specs.declared.run.Run.{Run}
+use Rattle.ak_run.specs.declared.slots.Slots.{Slots}
 use Rattle.ak_run.specs.Counting.{started_by_main}
 use Rattle.ak_run.specs.Gathering.{HasRoomFor, HoldsNothing}
 use Rattle.ak_run.specs.Running.{AreBelow, HasRoomToEnd, IsMember, IsOpenedAs, KeepsRest, Stands}
+use Rattle.ak_run.specs.Sessions.{HasSlots, session_count, told_in}
 use Rattle.ak_run.proofs.RosterTurn.{RosterOn}
 
 -- ---- one looper
@@ -100,6 +102,10 @@ room_still r r' keeps has = record {
   for_desks = subst (λ v. looper_limit ≤ vec_capacity v) (sym keeps.desks) has.for_desks;
 }
 
+-- the sessions are as they were
+pub slots_still : (heads : List AppHead) (r r' : Run) → KeepsRest r r' → HasSlots heads r.shared r.slots → HasSlots heads r'.shared r'.slots
+slots_still heads r r' keeps has = subst (λ (s : Slots). HasSlots heads r'.shared s) (sym keeps.slots) (subst (λ (s : Shared). HasSlots heads s r.slots) (sym keeps.shared) has)
+
 -- no looper more: as many as before, with the same numbers, in a list with as much room
 pub record SameLoopers (heads : List AppHead) (r r' : Run) : Type 0 where
   pub numbers : map (λ (m : Member). m.number) r'.members.items ≡ map (λ (m : Member). m.number) r.members.items
@@ -119,15 +125,16 @@ stands_on next heads more r r' keeps roster book same stands = record {
   heads_are = stands.heads_are ∙ ap (λ v. heads_of v.items) (sym keeps.apps);
   opening = roster.keeps.opening ∙ stands.opening;
   roster_known = roster.known;
-  roster_names = subst (AreBelow next) (sym roster.keeps.names) stands.roster_names;
+  roster_names = subst (λ (s : Slots). AreBelow (length (told_in s)) next r'.roster_seat.names) (sym keeps.slots) (subst (AreBelow (session_count r) next) (sym roster.keeps.names) stands.roster_names);
   book_known = book.known stands.book_known;
-  book_names = subst (AreBelow next) (sym book.keeps.names) stands.book_names;
+  book_names = subst (λ (s : Slots). AreBelow (length (told_in s)) next r'.hands.book_seat.names) (sym keeps.slots) (subst (AreBelow (session_count r) next) (sym book.keeps.names) stands.book_names);
   numbers = same.numbers ∙ stands.numbers ∙ ap (range_with_len 0) (sym same.count);
   each = subst (λ shared. All (IsMember heads shared r'.roster_seat) r'.members.items) (sym keeps.shared) (All-weaker (IsMember heads r.shared r.roster_seat) (IsMember heads r.shared r'.roster_seat) (member_sees heads r.shared r.roster_seat r'.roster_seat roster.on) r'.members.items same.each);
   opened = subst (λ v. All (IsOpenedAs v.items) r'.members.items) (sym keeps.apps) same.opened;
   few = subst (λ n. n ≤ looper_limit) (sym same.count) stands.few;
   room = subst (λ n. looper_limit ≤ n) (sym same.capacity) stands.room;
   ready = room_still r r' keeps stands.ready;
+  sessions = slots_still heads r r' keeps stands.sessions;
 }
 
 -- nothing of the kind changed

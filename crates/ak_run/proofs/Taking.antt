@@ -185,6 +185,13 @@ pub heads_still : (js js' : List Joined) (place : ℕ) (keeps : List KeptDoor) �
 heads_still js js' place [] gains all = tt
 heads_still js js' place (kept ∷ keeps) gains all = (head_still js js' place kept gains all.0, heads_still js js' (suc place) keeps gains all.1)
 
+-- the same of all that were given back
+pub ways_later : (js js' : List Joined) (all : List (Vec (ℕ × Door) Global)) → AreGaining js js' → All (AreWaysIn js) all → All (AreWaysIn js') all
+ways_later js js' all gains there = All-weaker (AreWaysIn js) (AreWaysIn js') (λ ways at. all_ways_still js js' ways.items gains at) all there
+
+pub taken_later : (js js' : List Joined) (all : List (Vec (ℕ × Door) Global)) → AreGaining js js' → All (AreTakenIn js) all → All (AreTakenIn js') all
+taken_later js js' all gains taken = All-weaker (AreTakenIn js) (AreTakenIn js') (λ ways at. all_taken_still js js' ways.items gains at) all taken
+
 -- ---- the doors of all loopers, looper by looper
 all_mapped : {X Y : Type 0} (P : Y → Type 0) (f : X → Y) (xs : List X) → All P (map f xs) → All (λ x. P (f x)) xs
 all_mapped P f xs all = λ k d lt. subst P (get_or-map f xs k d (f d) lt) (all k (f d) (omega (arith, length-map xs f, lt)))

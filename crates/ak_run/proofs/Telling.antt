@@ -375,7 +375,7 @@ module _ (heads : List AppHead) (main : RosterSeat) (at_book : ReplySeat) (js la
 
 -- ---- the run
 module _ (heads : List AppHead) (main : RosterSeat) (at_book : ReplySeat) (js later : List Joined) (roster : RosterData KeptDoor Object) (book : List ReplyEntry) (h : Histories) (all : AllAreJoined heads main at_book js roster)
-    (g : IsGathered js later roster at_book book h) (roster_names : AreBelow (length js) main.names) (book_names : AreBelow (length js) at_book.names) (told : HoldersAreTold) (strangers : StrangersAreTold) (tell : EntriesTellPlain Object)
+    (g : IsGathered js later roster at_book book h) (sessions : ℕ) (roster_names : AreBelow sessions (length js) main.names) (book_names : AreBelow sessions (length js) at_book.names) (told : HoldersAreTold) (strangers : StrangersAreTold) (tell : EntriesTellPlain Object)
     (owns : OwnsStayInTeams) (launches : LaunchesHaveLoopers) (short : List ℕ) (are : short ≡ short_of js) where
   one : (k : ℕ) → k < length h.ports.items → HasLooper heads short h k
   one k low =
@@ -386,7 +386,7 @@ module _ (heads : List AppHead) (main : RosterSeat) (at_book : ReplySeat) (js la
       let own = books_at later h.ports.items h.desks.items k now.0 g.kept now.1 in
       has_looper heads main at_book js later roster book h all g k j.0 j.1 is now.0 now.2 own owns strangers tell short are
 
-  pub is_run : IsRunOfLoopers heads short h
+  pub is_run : IsRunOfLoopers heads short sessions h
   is_run = record {
     histories = record {
       roster = subst (IsHistory heads) (sym g.h_roster) (history heads main at_book js later roster book h all g);
@@ -403,8 +403,8 @@ module _ (heads : List AppHead) (main : RosterSeat) (at_book : ReplySeat) (js la
         subst (All (λ (n : ℕ). n < length h.ports.items)) (sym are)
         (subst (λ (m : ℕ). All (λ (n : ℕ). n < m) (short_of js)) (sym (as_many heads main at_book js later roster book h all g)) (short_below js all.numbers));
     short_once = subst (AllPairs (λ (a b : ℕ). a < b)) (sym are) (short_rise js all.numbers);
-    roster_makers = roster_made heads main at_book js later roster book h all g roster_names told launches;
-    book_makers = book_makers heads main at_book js later roster book h all g roster_names told launches book_names;
-    port_makers = port_makers heads main at_book js later roster book h all g roster_names told launches;
-    desk_makers = desk_makers heads main at_book js later roster book h all g roster_names told launches;
+    roster_makers = roster_made heads main at_book js later roster book h all g sessions roster_names told launches;
+    book_makers = book_makers heads main at_book js later roster book h all g sessions roster_names told launches book_names;
+    port_makers = port_makers heads main at_book js later roster book h all g sessions roster_names told launches;
+    desk_makers = desk_makers heads main at_book js later roster book h all g sessions roster_names told launches;
   }

@@ -18,4 +18,5 @@ pub mod Opening
 pub mod Recording
 pub mod Running
 pub mod Sending
+pub mod Sessions
 pub mod Starting

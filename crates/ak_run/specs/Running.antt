@@ -12,6 +12,7 @@ use Rattle.ak_port.specs.ReplySeats as books
 use Rattle.ak_action.specs.declared.state.DeskState.{DeskState}
 use Rattle.ak_describe.specs.declared.described.AppText.{AppText}
 use Rattle.ak_describe.specs.Whole.{IsWholeApp, heads_of}
+use Rattle.ak_headline.specs.Run.{IsSession}
 use Rattle.ak_looper.specs.Job.{IsReady, facts_of}
 use Rattle.ak_looper.specs.Rosters as rosters
 use Rattle.ak_looper.specs.Rosters.{LeadsTo}
@@ -25,6 +26,7 @@ use Rattle.ak_run.specs.Gathering.{HasRoomFor, HoldsNothing}
 use Rattle.ak_run.specs.Jobs.{StartsAt}
 use Rattle.ak_run.specs.Members.{IsLifeOf, OpensAs}
 use Rattle.ak_run.specs.Recording.{HasRecord, fronts_of}
+use Rattle.ak_run.specs.Sessions.{HasSlots, session_count}
 
 -- ---- a looper that was started
 -- main's door leads to the port and the desk that the thread was started with, which the roster pairs with its number; neither main nor the
@@ -59,14 +61,14 @@ pub record IsOpenedAs (apps : List AppText) (m : Member) : Type 0 where
   pub opens : OpensAs apps (rosters.plain_of m.job.value.roster_seat) m.number m.job.value.team m.job.value.first desk
 
 -- ---- main's seats at what all share
--- main, or a looper with a number below that one
-abbrev pub IsBelow : ℕ → ℕ → Type 0
-IsBelow next thread = (thread ≡ main_thread) ⊎ ((looper : ℕ) × (looper < next) × (thread ≡ looper_thread looper))
+-- main, one of so many sessions, or a looper with a number below that one
+abbrev pub IsBelow : ℕ → ℕ → ℕ → Type 0
+IsBelow sessions next thread = (thread ≡ main_thread) ⊎ (IsSession sessions thread ⊎ ((looper : ℕ) × (looper < next) × (thread ≡ looper_thread looper)))
 
 -- the head, of which all names are such threads
-abbrev pub AreBelow : ℕ → Option (List ℕ) → Type 0
-AreBelow next None = ⊥
-AreBelow next (Some names) = All (IsBelow next) names
+abbrev pub AreBelow : ℕ → ℕ → Option (List ℕ) → Type 0
+AreBelow sessions next None = ⊥
+AreBelow sessions next (Some names) = All (IsBelow sessions next) names
 
 -- room for what the end gathers, where nothing was gathered yet
 pub record HasRoomToEnd (r : Run) : Type 0 where
@@ -77,22 +79,23 @@ pub record HasRoomToEnd (r : Run) : Type 0 where
   pub for_ports : looper_limit ≤ vec_capacity r.ports
   pub for_desks : looper_limit ≤ vec_capacity r.desks
 
--- Main's seats are the heads, whose names are main and the loopers below this number. This is so while a looper starts, whose thread has
--- had its seats and which is not among the loopers yet
+-- Main's seats are the heads, whose names are main, the sessions that were opened, and the loopers below this number. This is so while a
+-- looper starts, whose thread has had its seats and which is not among the loopers yet
 pub record Stands (next : ℕ) (heads : List AppHead) (r : Run) : Type 0 where
   pub whole : All IsWholeApp r.apps.items
   pub heads_are : heads ≡ heads_of r.apps.items
   pub opening : r.roster_seat.opening ≡ Some heads
   pub roster_known : KnowsWhole rosters.by_number r.roster_seat
-  pub roster_names : AreBelow next r.roster_seat.names
+  pub roster_names : AreBelow (session_count r) next r.roster_seat.names
   pub book_known : KnowsWhole books.maker_of r.hands.book_seat
-  pub book_names : AreBelow next r.hands.book_seat.names
+  pub book_names : AreBelow (session_count r) next r.hands.book_seat.names
   pub numbers : map (λ (m : Member). m.number) r.members.items ≡ range_with_len 0 (length r.members.items)
   pub each : All (IsMember heads r.shared r.roster_seat) r.members.items
   pub opened : All (IsOpenedAs r.apps.items) r.members.items
   pub few : length r.members.items ≤ looper_limit
   pub room : looper_limit ≤ vec_capacity r.members
   pub ready : HasRoomToEnd r
+  pub sessions : HasSlots heads r.shared r.slots
 
 pub record IsStanding (r : Run) : Type 0 where
   pub next : ℕ
@@ -106,6 +109,7 @@ pub record KeepsRest (r r' : Run) : Type 0 where
   pub joined : r'.joined ≡ r.joined
   pub ports : r'.ports ≡ r.ports
   pub desks : r'.desks ≡ r.desks
+  pub slots : r'.slots ≡ r.slots
 
 -- each looper that main started has its thread; and main has its diary
 pub record IsRunning (r : Run) : Type 0 where

@@ -37,6 +37,7 @@ pub record GoesOn (r r' : Run) : Type 0 where
   pub on : StartsWith r'.roster_seat.front r.roster_seat.front
   pub shared : r'.shared ≡ r.shared
   pub apps : r'.apps ≡ r.apps
+  pub slots : r'.slots ≡ r.slots
   pub desks_on : IsQuietAtDesks r r'
   pub recorded : RecordsBeside r r'
 
@@ -48,6 +49,7 @@ pub record GoesOnAtNew (port port' : List PortEntry) (r r' : Run) : Type 0 where
   pub on : StartsWith r'.roster_seat.front r.roster_seat.front
   pub shared : r'.shared ≡ r.shared
   pub apps : r'.apps ≡ r.apps
+  pub slots : r'.slots ≡ r.slots
   pub desks_on : IsQuietAtDesks r r'
   pub recorded : RecordsAtNew port port' r r'
 
@@ -59,6 +61,7 @@ pub record GoesOnWith (more : ℕ) (r r' : Run) : Type 0 where
   pub on : StartsWith r'.roster_seat.front r.roster_seat.front
   pub shared : r'.shared ≡ r.shared
   pub apps : r'.apps ≡ r.apps
+  pub slots : r'.slots ≡ r.slots
   pub desks_on : IsQuietAtDesks r r'
 
 -- the roster pairs the looper with what main's door to it leads to

@@ -6,6 +6,7 @@ use crate::gathering::{
 };
 use crate::new_looper::Shared;
 use crate::run::Run;
+use crate::slots::join_slots;
 use ak_base::Items;
 use ak_diary::Histories;
 use ak_headline::{each_waiting_send_got_one_reply, runs_are_accounted, runs_go_by_rule};
@@ -16,18 +17,19 @@ use std::sync::Wait;
 use std::thread::Threads;
 
 impl Run {
-    ghost use Rattle.std.specs.Prelude.{◌≡◌, List};
+    ghost use Rattle.std.specs.Prelude.{◌≡◌, List, true};
     ghost use Rattle.ak_base.specs.Thread.{main_thread};
     ghost use Rattle.ak_describe.specs.Whole.{heads_of};
     ghost use Rattle.ak_diary.specs.Step.{Step};
     ghost use Rattle.ak_headline.specs.Headline.{EachGotOneReply, EachLooper, IsAccounted, IsByRule};
-    ghost use Rattle.ak_headline.specs.Run.{HasDone, IsRun};
-    ghost use Rattle.ak_run.specs.AtEnd.{DoneAtEnd};
+    ghost use Rattle.ak_headline.specs.Run.{HasDone, IsRunWith};
+    ghost use Rattle.ak_run.specs.AtEnd.{DoneAtEnd, SessionsDone};
     ghost use Rattle.ak_run.specs.Doing.{HasDoneSoFar, IsRecordedAtDesks};
     ghost use Rattle.ak_run.specs.Ending.{EndsAs, IsRunOfLoopers};
     ghost use Rattle.ak_run.specs.Opened.{WereOpened};
     ghost use Rattle.ak_run.specs.Recording.{IsRecorded, fronts_of};
     ghost use Rattle.ak_run.specs.Running.{IsRunning};
+    ghost use Rattle.ak_run.specs.Sessions.{all_closed, session_count};
 
     /// Ends what runs, joins all threads and keeps the histories, which go on from what main had seen. For each looper that was started
     /// there are a port and a desk. Each looper's diary has all that its thread did at the roster, the reply book, every port and every
@@ -37,14 +39,16 @@ impl Run {
     /// make for it. Each looper's desk was opened as its plan says in the application that was launched. Takes no memory.
     pub fn end<R: Threads + Wait>(mut self, rt: &R) -> Ended
         requires running { IsRunning self }
+        requires closed { all_closed self ≡ true }
         ensures apps { result.apps.items ≡ self.apps.items }
-        ensures run { IsRun (heads_of self.apps.items) result.short result.histories }
+        ensures run { IsRunWith (session_count self) (heads_of self.apps.items) result.short result.histories }
         ensures accepted { EachLooper result.histories IsAccounted }
         ensures dispatched { EachLooper result.histories IsByRule }
         ensures answered { EachGotOneReply result.short result.histories }
         ensures opened { WereOpened self.apps.items result.histories }
         ensures same { EndsAs self result.histories }
         ensures did { (steps : List Step) → HasDoneSoFar steps self → DoneAtEnd (heads_of self.apps.items) steps result.histories }
+        ensures sessions { SessionsDone self result.histories }
     {
         runs_are_accounted();
         runs_go_by_rule();
@@ -56,11 +60,13 @@ impl Run {
     // Joins all threads and keeps the histories.
     fn gathered<R: Threads + Wait>(self, rt: &R) -> Ended
         requires running { IsRunning self }
-        ensures run { IsRunOfLoopers (heads_of self.apps.items) result.short result.histories }
+        requires closed { all_closed self ≡ true }
+        ensures run { IsRunOfLoopers (heads_of self.apps.items) result.short (session_count self) result.histories }
         ensures apps { result.apps ≡ self.apps }
         ensures done { (steps : List Step) → IsRecorded steps (fronts_of self) → IsRecordedAtDesks steps self → HasDone result.histories main_thread steps }
         ensures opened { WereOpened self.apps.items result.histories }
         ensures same { EndsAs self result.histories }
+        ensures sessions { SessionsDone self result.histories }
     {
         holders_are_told();
         loopers_are_of_their_teams();
@@ -71,6 +77,7 @@ impl Run {
             shared,
             mut roster_seat,
             members,
+            slots,
             mut joined,
             mut ports,
             mut desks,
@@ -90,6 +97,7 @@ impl Run {
             &mut book_seat,
             &mut joined,
         );
+        let doors = join_slots(slots, &roster, &mut roster_seat, &book, &mut book_seat);
         let AllJoined {
             mut loopers,
             ways,
@@ -98,6 +106,7 @@ impl Run {
         let mut roster = keep_roster(rt, &roster, roster_seat);
         take_kept(&mut loopers, roster.take_doors());
         take_all_ways(&mut loopers, ways);
+        take_all_ways(&mut loopers, doors);
         keep_all(rt, loopers, &mut ports, &mut desks);
         let book = keep_book(rt, &book, book_seat);
         Ended {

@@ -8,6 +8,7 @@ ghost use Rattle.ak_run.specs.Finding.{IsEntered, IsFoundAt, LooksUp};
 ghost use Rattle.ak_run.specs.Launching.{ByMain, IsTurnInTime};
 ghost use Rattle.ak_run.specs.Running.{IsRunning};
 ghost use Rattle.ak_run.specs.Sending.{looper_count};
+ghost use Rattle.ak_run.specs.Sessions.{sessions_of};
 
 use crate::answers::Found;
 use crate::launching::count_by_main;
@@ -27,6 +28,7 @@ impl Run {
         ensures started { IsStartedTeam (looper_count self.new) result }
         ensures running { IsRunning self.new }
         ensures apps { self.new.apps ≡ self.old.apps }
+        ensures sessions { sessions_of self.new ≡ sessions_of self.old }
         ensures count { looper_count self.new ≡ looper_count self.old }
     {
         let mut turn = self.shared.roster.lock(rt, &mut self.roster_seat);

@@ -6,6 +6,7 @@ ghost use Rattle.ak_run.specs.Doing.{DoesSo, LaunchedSo};
 ghost use Rattle.ak_run.specs.Entering.{DoesWith, EntersLaunch, GreetsAgain, GreetsSo};
 ghost use Rattle.ak_run.specs.Running.{IsRunning};
 ghost use Rattle.ak_run.specs.Sending.{looper_count};
+ghost use Rattle.ak_run.specs.Sessions.{sessions_of};
 ghost use Rattle.ak_run.specs.Starting.{HasEnteredLaunch, launched_fronts};
 
 use crate::answers::LaunchAnswer;
@@ -41,6 +42,7 @@ impl Run {
         ensures never_falls { W.faults spawner.old ≤ W.faults spawner.new }
         ensures running { IsRunning self.new }
         ensures apps { self.new.apps ≡ self.old.apps }
+        ensures sessions { sessions_of self.new ≡ sessions_of self.old }
         ensures count { looper_count self.old ≤ looper_count self.new }
     {
         let Ok(gates) = clones(*self.members.allocator(), gate) else {
@@ -80,6 +82,7 @@ impl Run {
         requires word { IsWord word.now }
         ensures launch { HasEnteredLaunch self.old self.new result }
         ensures apps { self.new.apps ≡ self.old.apps }
+        ensures slots { self.new.slots ≡ self.old.slots }
         ensures count { looper_count self.new ≡ looper_count self.old }
         ensures did { DoesWith (EntersLaunch self.old.apps.items word.now (option_map (λ m. m.now) arguments.entry) result self.new) (launched_fronts result) self.old self.new }
     {
@@ -116,6 +119,7 @@ impl Run {
         ensures did { DoesSo (GreetsSo first (option_map (λ m. m.now) arguments.entry) result) self.old self.new }
         ensures running { IsRunning self.new }
         ensures apps { self.new.apps ≡ self.old.apps }
+        ensures slots { self.new.slots ≡ self.old.slots }
         ensures count { looper_count self.new ≡ looper_count self.old }
     {
         let alloc = *self.members.allocator();

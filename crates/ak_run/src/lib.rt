@@ -1,5 +1,6 @@
 //! A run as main carries it out: it launches applications, starts a thread for each of their loopers, looks teams up,
-//! sends and edits, and ends what runs. Each call tells, step by step, what main did. Once all threads are joined it keeps the history of each object.
+//! sends and edits, opens and closes sessions, and ends what runs. Each call tells, step by step, what main did. Once all threads are joined it
+//! keeps the history of each object.
 #![tactic(auto)]
 
 mod answers;
@@ -17,6 +18,8 @@ mod new_team;
 mod opening;
 mod run;
 mod sending;
+mod sessions;
+mod slots;
 mod starting;
 mod team;
 

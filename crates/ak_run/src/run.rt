@@ -8,6 +8,7 @@ ghost use Rattle.ak_roster.specs.Heads.{IsHeads};
 use crate::gathering::AllJoined;
 use crate::member::Member;
 use crate::new_looper::Shared;
+use crate::slots::Slots;
 use ak_base::{LOOPER_LIMIT, NoMemory, ThreadId};
 use ak_describe::AppText;
 use ak_desk::Desk;
@@ -19,8 +20,8 @@ use ak_turn::{Clock, Seat, TurnLock};
 use std::alloc::Global;
 use std::sync::Arc;
 
-/// A run as main has it: the applications, main's hands, its seat at the roster, and the loopers that were started, by
-/// their numbers.
+/// A run as main has it: the applications, main's hands, its seat at the roster, the loopers that were started, by their
+/// numbers, and the sessions that were opened.
 #[derive(Drop)]
 pub struct Run {
     pub(crate) apps: Vec<AppText>,
@@ -28,6 +29,7 @@ pub struct Run {
     pub(crate) shared: Shared,
     pub(crate) roster_seat: Seat<RosterBook<KeptDoor>>,
     pub(crate) members: Vec<Member>,
+    pub(crate) slots: Slots,
     // Room for the end, which takes no memory.
     pub(crate) joined: AllJoined,
     pub(crate) ports: Vec<PortBook>,
@@ -67,6 +69,7 @@ impl Run {
     ghost use Rattle.ak_run.specs.Doing.{HasDoneSoFar};
     ghost use Rattle.ak_run.specs.Running.{IsRunning};
     ghost use Rattle.ak_run.specs.Sending.{looper_count};
+    ghost use Rattle.ak_run.specs.Sessions.{sessions_of};
 
     /// A run of these applications, which are as a description gives them, and in which nothing was done. It makes room for what its end
     /// needs. Answers `NoMemory` where memory ran out.
@@ -76,6 +79,7 @@ impl Run {
         ensures running { IfOk result (λ run. IsRunning run) }
         ensures apps { IfOk result (λ run. run.apps.items ≡ apps.items) }
         ensures none { IfOk result (λ run. looper_count run ≡ 0) }
+        ensures sessions { IfOk result (λ run. sessions_of run ≡ []) }
         ensures nothing { IfOk result (λ run. HasDoneSoFar [] run) }
     {
         let heads = heads_of(alloc, &apps)?;
@@ -96,6 +100,10 @@ impl Run {
         };
         Ok(Run {
             members: Vec::with_capacity(alloc, LOOPER_LIMIT as usize)?,
+            slots: Slots {
+                sessions: Vec::new(alloc),
+                ways: Vec::new(alloc),
+            },
             joined: AllJoined {
                 loopers: Vec::with_capacity(alloc, LOOPER_LIMIT as usize)?,
                 ways: Vec::with_capacity(alloc, LOOPER_LIMIT as usize)?,

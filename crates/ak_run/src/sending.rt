@@ -13,6 +13,7 @@ ghost use Rattle.ak_run.specs.Doors.{KeepsSeats};
 ghost use Rattle.ak_run.specs.Recording.{fronts_of, list_at};
 ghost use Rattle.ak_run.specs.Running.{IsRunning};
 ghost use Rattle.ak_run.specs.Sending.{AnswersAtDesk, AnswersAtPort, AsksAt, IsAtPlace, edited_event, looper_count};
+ghost use Rattle.ak_run.specs.Sessions.{sessions_of};
 
 use crate::answers::Edited;
 use crate::run::Run;
@@ -54,6 +55,7 @@ impl Run {
         ensures running { IsRunning self.new }
         ensures count { looper_count self.new ≡ looper_count self.old }
         ensures apps { self.new.apps ≡ self.old.apps }
+        ensures sessions { sessions_of self.new ≡ sessions_of self.old }
     {
         let alloc = *self.members.allocator();
         let door = &mut self.members[looper as usize].door;
@@ -86,6 +88,7 @@ impl Run {
         ensures running { IsRunning self.new }
         ensures count { looper_count self.new ≡ looper_count self.old }
         ensures apps { self.new.apps ≡ self.old.apps }
+        ensures sessions { sessions_of self.new ≡ sessions_of self.old }
     {
         let alloc = *self.members.allocator();
         let door = &mut self.members[looper as usize].door;
@@ -112,6 +115,7 @@ impl Run {
         ensures running { IsRunning self.new }
         ensures count { looper_count self.new ≡ looper_count self.old }
         ensures apps { self.new.apps ≡ self.old.apps }
+        ensures sessions { sessions_of self.new ≡ sessions_of self.old }
     {
         let alloc = *self.members.allocator();
         let door = &mut self.members[looper as usize].door;
@@ -135,6 +139,7 @@ impl Run {
         ensures running { IsRunning self.new }
         ensures count { looper_count self.new ≡ looper_count self.old }
         ensures apps { self.new.apps ≡ self.old.apps }
+        ensures sessions { sessions_of self.new ≡ sessions_of self.old }
     {
         let door = &mut self.members[looper as usize].door;
         edit_through(rt, &mut self.hands.clock, door, edit)

@@ -79,8 +79,11 @@ impl Run {
         all
     }
 
-    // Seats of that thread at what all share.
-    fn split_seats(&mut self, thread: ThreadId) -> (Seat<ReplyBook>, Seat<RosterBook<KeptDoor>>)
+    /// Seats of that thread at what all share.
+    pub(crate) fn split_seats(
+        &mut self,
+        thread: ThreadId,
+    ) -> (Seat<ReplyBook>, Seat<RosterBook<KeptDoor>>)
         requires book_new { IsNewName self.old.hands.book_seat.names thread.0 }
         requires roster_new { IsNewName self.old.roster_seat.names thread.0 }
         ensures book { result.0 ≡ new_seat thread.0 None self.old.hands.book_seat }

@@ -339,10 +339,13 @@ impl Stage {
         Ok(())
     }
 
-    // Ends the run, and keeps what was told.
-    fn end<R: Threads + Wait>(self, rt: &R) -> Ended
+    // Ends the run, in which no session was opened, and keeps what was told.
+    fn end<R: Threads + Wait>(self, rt: &R) -> Result<Ended, Fail>
         requires running { IsRunning self.run }
     {
+        if self.run.sessions() > 0 {
+            return Err(Fail::new("a session was opened"));
+        }
         let Stage {
             alloc,
             run,
@@ -351,14 +354,14 @@ impl Stage {
             notes,
             told,
         } = self;
-        Ended {
+        Ok(Ended {
             alloc,
             histories: run.end(rt).histories,
             gate,
             asked: spawner.asked(),
             notes,
             told,
-        }
+        })
     }
 }
 
@@ -472,7 +475,7 @@ pub fn told_of<R: Threads + Wait + Clock + Copy + Send + 'static>(
 ) -> Result<Bytes, Fail> {
     let mut stage = Stage::open(alloc, scene)?;
     stage.act_all(rt, scene.acts)?;
-    let mut ended = stage.end(rt);
+    let mut ended = stage.end(rt)?;
     for what in scene.tells {
         ended.tell(*what)?;
     }

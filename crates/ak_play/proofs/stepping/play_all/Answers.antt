@@ -22,6 +22,7 @@ loop-statement-init g c =
       spawner_kept = refl;
       running = c.requires.running;
       apps = refl;
+      sessions = refl;
     }
 
 pub loop-statement-preserved : goal.loop-statement-preserved
@@ -46,6 +47,7 @@ loop-statement-preserved g c =
       spawner_kept = told.spawner_kept (λ bad. absurd (cc bad)) ∙ inv.spawner_kept;
       running = told.running;
       apps = told.apps ∙ inv.apps;
+      sessions = told.sessions ∙ inv.sessions;
     }
 
 pub returns-in_err-step-clause-played : goal.returns-in_err-step-clause-played

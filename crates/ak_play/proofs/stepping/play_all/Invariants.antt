@@ -1,5 +1,6 @@
 use Rattle.std.proofs.Common.{◌≡◌, length, vec_capacity}
 use Rattle.ak_run.specs.Running.{IsRunning}
+use Rattle.ak_run.specs.Sessions.{sessions_of}
 use Rattle.ak_play.specs.Steps.{IsPlayedSoFar}
 use Rattle.ak_play.proofs.stepping.play_all.Given as goal
 
@@ -12,4 +13,5 @@ invariant-loop-statement g l = record {
   spawner_kept : g.W.Spawner.faults l.spawner ≡ g.W.Spawner.faults l.fn.spawner;
   running : IsRunning l.run;
   apps : l.run.apps ≡ l.fn.run.apps;
+  sessions : sessions_of l.run ≡ sessions_of l.fn.run;
 }

@@ -41,7 +41,7 @@ returns-clause-running g c =
     let m = c.index_mut.result.now in
     let item = item_in c.args.envelope duty.None c.args.message.now in
     still_running r _ (ask_goes r _ c.args.looper m _ c.requires.there (sym c.index_mut.ensures.value) refl refl item c.ask.result (r.hands.thread ∙ r.main) (main_has _ c.requires.running.heads r c.args.looper m c.requires.there (sym c.index_mut.ensures.value) c.requires.running.stands) c.ask.ensures.answered
-    (record { port = c.ask.ensures.seat; desk = keeps_itself m.door.desk_seat; desk_front = refl }) refl (record { apps = refl; shared = refl; joined = refl; ports = refl; desks = refl }) (record { keeps = c.ask.ensures.book_seat; known = c.ask.ensures.book_knows_still })) c.requires.running
+    (record { port = c.ask.ensures.seat; desk = keeps_itself m.door.desk_seat; desk_front = refl }) refl (record { apps = refl; shared = refl; joined = refl; ports = refl; desks = refl; slots = refl }) (record { keeps = c.ask.ensures.book_seat; known = c.ask.ensures.book_knows_still })) c.requires.running
 
 pub returns-clause-count : goal.returns-clause-count
 returns-clause-count g c = length-set c.args.self.now.members.items c.args.looper _

@@ -44,7 +44,7 @@ returns-clause-running g c =
     let keeps = desk_keeps (edited_event c.args.edit e.result) r.hands.clock e.new.clock m.door.desk_seat e.new.door.desk_seat e.ensures.answered in
     let main = m.door.thread ∙ main_has _ c.requires.running.heads r c.args.looper m c.requires.there there c.requires.running.stands in
     one_runs r _ c.args.looper m e.new.door c.requires.there there refl refl (EditedSo c.args.looper c.args.edit e.result) (subst (KeepsSeat m.door.port_seat) (sym e.ensures.port_seat) (keeps_itself m.door.port_seat)) keeps.0 refl
-    (record { apps = refl; shared = refl; joined = refl; ports = refl; desks = refl }) (same_book r _ refl)
+    (record { apps = refl; shared = refl; joined = refl; ports = refl; desks = refl; slots = refl }) (same_book r _ refl)
     (edited_does r _ c.args.looper m _ c.requires.there there refl refl refl (ap (λ s. s.front) e.ensures.port_seat) main c.args.edit e.result e.ensures.answered e.ensures.place) c.requires.running
 
 pub returns-clause-count : goal.returns-clause-count

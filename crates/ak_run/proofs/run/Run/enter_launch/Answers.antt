@@ -46,12 +46,13 @@ returns g c =
     let comes = subst (λ (apps : List AppText). ComesTo apps r.shared c.args.word.now c.book.result.now l.new.book l.result) c.deref-2.ensures.value l.ensures.launch in
     let told = subst (λ (apps : List AppText). TellsTeam apps arguments c.args.word.now c.book.result.now l.result) c.deref-2.ensures.value l.ensures.told in
     record {
-      launch = has_entered r _ c.requires.running (record { apps = refl; shared = refl; joined = refl; ports = refl; desks = refl }) refl (same_book r _ l.ensures.book_seat) (ap (λ s. s.front) l.ensures.book_seat) c.lock-turn.new.seat c.book.result.now l.new.book
+      launch = has_entered r _ c.requires.running (record { apps = refl; shared = refl; joined = refl; ports = refl; desks = refl; slots = refl }) refl (same_book r _ l.ensures.book_seat) (ap (λ s. s.front) l.ensures.book_seat) c.lock-turn.new.seat c.book.result.now l.new.book
           (c.lock-turn.ensures.opening ∙ ap (λ (b : Book). Some b.heads) (sym value)) c.lock-turn.ensures.seen c.lock-turn.ensures.known (ap (λ (b : Book). b.entries) value ∙ c.lock-turn.ensures.list)
           c.finish.ensures.same c.finish.ensures.entered c.finish.ensures.known l.ensures.by_main c.args.word.now arguments l.result comes told l.ensures.in_time;
       apps = refl;
+      slots = refl;
       count = refl;
-      did = enters r _ c.requires.running (record { apps = refl; shared = refl; joined = refl; ports = refl; desks = refl }) refl (same_book r _ l.ensures.book_seat) (ap (λ s. s.front) l.ensures.book_seat) c.lock-turn.new.seat c.book.result.now l.new.book
+      did = enters r _ c.requires.running (record { apps = refl; shared = refl; joined = refl; ports = refl; desks = refl; slots = refl }) refl (same_book r _ l.ensures.book_seat) (ap (λ s. s.front) l.ensures.book_seat) c.lock-turn.new.seat c.book.result.now l.new.book
           (c.lock-turn.ensures.opening ∙ ap (λ (b : Book). Some b.heads) (sym value)) c.lock-turn.ensures.seen c.lock-turn.ensures.known (ap (λ (b : Book). b.entries) value ∙ c.lock-turn.ensures.list)
           c.finish.ensures.same c.finish.ensures.entered c.finish.ensures.known l.ensures.by_main c.args.word.now arguments l.result comes told l.ensures.in_time;
     }

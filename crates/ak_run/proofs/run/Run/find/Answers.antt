@@ -49,7 +49,7 @@ returns-clause-did g c =
     let r = c.args.self.now in
     let value = c.book.ensures.value in
     let l = c.look_up_at_turn-answer in
-    found_does r _ c.requires.running (record { apps = refl; shared = refl; joined = refl; ports = refl; desks = refl }) refl (same_book r _ refl) refl c.lock-turn.new.seat c.book.result.now l.new.book
+    found_does r _ c.requires.running (record { apps = refl; shared = refl; joined = refl; ports = refl; desks = refl; slots = refl }) refl (same_book r _ refl) refl c.lock-turn.new.seat c.book.result.now l.new.book
     (c.lock-turn.ensures.opening ∙ ap (λ (b : Book). Some b.heads) (sym value)) c.lock-turn.ensures.seen c.lock-turn.ensures.known (ap (λ (b : Book). b.entries) value ∙ c.lock-turn.ensures.list)
     c.finish.ensures.same c.finish.ensures.entered c.finish.ensures.known l.ensures.by_main l.ensures.in_time c.args.word.now l.result c.found_at.result l.ensures.found c.found_at.ensures
 
@@ -70,6 +70,6 @@ returns-clause-running g c =
     let value = c.book.ensures.value in
     let l = c.look_up_at_turn-answer in
     let entered = looks_entered c.args.word.now l.result c.book.result.now l.new.book l.ensures.found in
-    runs_on r _ c.requires.running (record { apps = refl; shared = refl; joined = refl; ports = refl; desks = refl }) refl (same_book r _ refl) refl c.lock-turn.new.seat c.book.result.now l.new.book
+    runs_on r _ c.requires.running (record { apps = refl; shared = refl; joined = refl; ports = refl; desks = refl; slots = refl }) refl (same_book r _ refl) refl c.lock-turn.new.seat c.book.result.now l.new.book
     (c.lock-turn.ensures.opening ∙ ap (λ (b : Book). Some b.heads) (sym value)) c.lock-turn.ensures.seen c.lock-turn.ensures.known (ap (λ (b : Book). b.entries) value ∙ c.lock-turn.ensures.list)
     c.finish.ensures.same c.finish.ensures.entered c.finish.ensures.known l.ensures.by_main l.ensures.in_time entered.0 entered.1

@@ -31,8 +31,9 @@ returns-in_default-send g c =
     record {
       answer = tt;
       did = one_does r _ c.args.first m door c.requires.there (sym c.index_mut.ensures.value) refl refl (λ steps. Unit {0}) (seats_of m.door door c.send.ensures.door).desk_front (acts_as c.args.first _ _ AreAtPorts (λ steps. Unit {0}) _ _ _ _ (λ steps is. tt) alone);
-      running = still_running r _ (one_goes r _ c.args.first m door c.requires.there (sym c.index_mut.ensures.value) refl refl AreAtPorts (seats_of m.door door c.send.ensures.door) refl (record { apps = refl; shared = refl; joined = refl; ports = refl; desks = refl }) (same_book r _ c.send.ensures.book_seat) alone) c.requires.running;
+      running = still_running r _ (one_goes r _ c.args.first m door c.requires.there (sym c.index_mut.ensures.value) refl refl AreAtPorts (seats_of m.door door c.send.ensures.door) refl (record { apps = refl; shared = refl; joined = refl; ports = refl; desks = refl; slots = refl }) (same_book r _ c.send.ensures.book_seat) alone) c.requires.running;
       apps = refl;
+      slots = refl;
       count = length-set r.members.items c.args.first _;
     }
 
@@ -50,9 +51,10 @@ returns-in-Ok g c =
       answer = (refl, c.last_place-place.ensures);
       did = does_as r _ c.args.first m door c.requires.there (sym c.index_mut.ensures.value) refl refl (greets c.args.arguments) e (seats_of m.door door c.send.ensures.door).desk_front main (may_post from_main message sent.sent) sent.answered c.send.ensures.book_seat
           (λ steps entered. subst (λ (o : Option (Bor Message)). greets o steps) (sym c.in-Some.is) (sends_each c.args.first message _ steps sent.sent entered sent.too_long sent.not_blocked sent.not_wanting));
-      running = still_running r _ (one_goes r _ c.args.first m door c.requires.there (sym c.index_mut.ensures.value) refl refl AreAtPorts (seats_of m.door door c.send.ensures.door) refl (record { apps = refl; shared = refl; joined = refl; ports = refl; desks = refl }) (same_book r _ c.send.ensures.book_seat)
+      running = still_running r _ (one_goes r _ c.args.first m door c.requires.there (sym c.index_mut.ensures.value) refl refl AreAtPorts (seats_of m.door door c.send.ensures.door) refl (record { apps = refl; shared = refl; joined = refl; ports = refl; desks = refl; slots = refl }) (same_book r _ c.send.ensures.book_seat)
           (port_alone c.args.first r.hands.clock.time c.send.new.hands.clock.time r.hands.book_seat _ _ _ c.send.ensures.book_seat (c.send.ensures.adds main))) c.requires.running;
       apps = refl;
+      slots = refl;
       count = length-set r.members.items c.args.first _;
     }
 
@@ -63,7 +65,8 @@ returns-in_default g c =
     record {
       answer = (refl, c.last_place-place.ensures);
       did = does_same (greets c.args.arguments) r _ (subst (λ (o : Option (Bor Message)). greets o []) (sym c.in_default.is) refl) refl refl refl refl;
-      running = still_running r _ (goes_same r _ (record { apps = refl; shared = refl; joined = refl; ports = refl; desks = refl }) refl refl refl refl) c.requires.running;
+      running = still_running r _ (goes_same r _ (record { apps = refl; shared = refl; joined = refl; ports = refl; desks = refl; slots = refl }) refl refl refl refl) c.requires.running;
       apps = refl;
+      slots = refl;
       count = refl;
     }

@@ -16,7 +16,7 @@ returns g c =
     let value = c.book.ensures.value in
     let entered = gone_entered book c.gone.new.self r.hands.clock c.gone.new.clock c.args.team c.gone.result r.main c.gone.ensures.entry c.gone.ensures.stays in
     let what = gone_event c.args.team c.gone.result in
-    goes_by r _ book.heads (record { apps = refl; shared = refl; joined = refl; ports = refl; desks = refl }) (c.lock-turn.ensures.opening ∙ ap (λ (b : Book). Some b.heads) (sym value))
+    goes_by r _ book.heads (record { apps = refl; shared = refl; joined = refl; ports = refl; desks = refl; slots = refl }) (c.lock-turn.ensures.opening ∙ ap (λ (b : Book). Some b.heads) (sym value))
     (goes_on r.roster_seat c.lock-turn.new.seat c.finish.new.seat book c.gone.new.self 0 r.roster_idle (r.roster_thread ∙ r.main) c.lock-turn.ensures.seen c.lock-turn.ensures.known (ap (λ (b : Book). b.entries) value ∙ c.lock-turn.ensures.list) what entered c.finish.ensures.same c.finish.ensures.entered c.finish.ensures.known)
     (same_book r _ refl) (λ next heads k. same_loopers next heads r _ refl k) refl
     (λ new. turn_acts r.roster_seat c.lock-turn.new.seat c.finish.new.seat book c.gone.new.self 0 r.roster_idle (r.roster_thread ∙ r.main) c.lock-turn.ensures.seen c.lock-turn.ensures.known (ap (λ (b : Book). b.entries) value ∙ c.lock-turn.ensures.list) what entered c.finish.ensures.same c.finish.ensures.entered c.finish.ensures.known

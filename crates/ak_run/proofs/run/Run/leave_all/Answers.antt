@@ -12,7 +12,7 @@ use Rattle.ak_run.proofs.run.Run.leave_all.Goals as goal
 
 pub loop-place-init : goal.loop-place-init
 loop-place-init g c = record {
-  goes = goes_same c.args.self.now _ (record { apps = refl; shared = refl; joined = refl; ports = refl; desks = refl }) refl refl refl refl;
+  goes = goes_same c.args.self.now _ (record { apps = refl; shared = refl; joined = refl; ports = refl; desks = refl; slots = refl }) refl refl refl refl;
   closed = closes_same (λ so_far. EndsTeams (heads_of c.args.self.now.apps.items) so_far (range_with_len 1 0)) c.args.self.now _ (λ so_far. refl) refl refl refl refl;
 }
 

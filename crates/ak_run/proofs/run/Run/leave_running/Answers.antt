@@ -48,12 +48,12 @@ returns g c =
     let opening = c.lock-turn.ensures.opening ∙ ap (λ (b : Book). Some b.heads) (sym value) in
     let list = ap (λ (b : Book). b.entries) value ∙ c.lock-turn.ensures.list in
     record {
-      goes = goes_by r _ book.heads (record { apps = refl; shared = refl; joined = refl; ports = refl; desks = refl }) opening
+      goes = goes_by r _ book.heads (record { apps = refl; shared = refl; joined = refl; ports = refl; desks = refl; slots = refl }) opening
           (goes_on r.roster_seat c.lock-turn.new.seat c.finish.new.seat book l.new.book 0 r.roster_idle (r.roster_thread ∙ r.main) c.lock-turn.ensures.seen c.lock-turn.ensures.known list entered.0 entered.1 c.finish.ensures.same c.finish.ensures.entered c.finish.ensures.known)
           (same_book r _ refl) (λ next heads k. same_loopers next heads r _ refl k) refl
           (λ new. turn_acts r.roster_seat c.lock-turn.new.seat c.finish.new.seat book l.new.book 0 r.roster_idle (r.roster_thread ∙ r.main) c.lock-turn.ensures.seen c.lock-turn.ensures.known list entered.0 entered.1 c.finish.ensures.same c.finish.ensures.entered c.finish.ensures.known
           r.hands.clock.time l.new.clock.time l.ensures.in_time r.hands.book_seat.front (map member_front r.members.items ++ new)) refl;
-      closed = leaves r _ c.requires.running (record { apps = refl; shared = refl; joined = refl; ports = refl; desks = refl }) refl (same_book r _ refl) refl c.lock-turn.new.seat book l.new.book opening c.lock-turn.ensures.seen c.lock-turn.ensures.known list
+      closed = leaves r _ c.requires.running (record { apps = refl; shared = refl; joined = refl; ports = refl; desks = refl; slots = refl }) refl (same_book r _ refl) refl c.lock-turn.new.seat book l.new.book opening c.lock-turn.ensures.seen c.lock-turn.ensures.known list
           c.finish.ensures.same c.finish.ensures.entered c.finish.ensures.known l.ensures.by_main l.ensures.in_time c.args.team l.result l.ensures.left;
       started = leaves_started c.args.team l.result book l.new.book (length r.members.items)
           (loopers_counted r c.requires.running c.lock-turn.new.seat c.finish.new.seat book l.new.book opening c.lock-turn.ensures.seen c.lock-turn.ensures.known list c.finish.ensures.same c.finish.ensures.entered c.finish.ensures.known l.ensures.by_main entered.0 0 entered.1) l.ensures.left;

@@ -40,7 +40,7 @@ returns-clause-running g =
       for_ports = g.in_ok-with_capacity-5.ensures.capacity;
       for_desks = g.in_ok-with_capacity-6.ensures.capacity;
     })
-    begun
+    begun g.new-5.ensures.items g.new-6.ensures.items
 
 pub returns-clause-nothing : goal.returns-clause-nothing
 returns-clause-nothing g =

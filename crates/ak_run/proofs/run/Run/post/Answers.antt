@@ -42,7 +42,7 @@ returns-clause-running g c =
     let m = c.index_mut.result.now in
     let e = post_event c.args.envelope c.args.message.now c.post.result in
     still_running r _ (post_goes r _ c.args.looper m _ c.requires.there (sym c.index_mut.ensures.value) refl refl e (main_has _ c.requires.running.heads r c.args.looper m c.requires.there (sym c.index_mut.ensures.value) c.requires.running.stands)
-    (may_post c.args.envelope c.args.message.now c.post.result) c.post.ensures.answered c.post.ensures.book_seat (record { port = c.post.ensures.seat; desk = keeps_itself m.door.desk_seat; desk_front = refl }) refl (record { apps = refl; shared = refl; joined = refl; ports = refl; desks = refl })) c.requires.running
+    (may_post c.args.envelope c.args.message.now c.post.result) c.post.ensures.answered c.post.ensures.book_seat (record { port = c.post.ensures.seat; desk = keeps_itself m.door.desk_seat; desk_front = refl }) refl (record { apps = refl; shared = refl; joined = refl; ports = refl; desks = refl; slots = refl })) c.requires.running
 
 pub returns-clause-count : goal.returns-clause-count
 returns-clause-count g c = length-set c.args.self.now.members.items c.args.looper _

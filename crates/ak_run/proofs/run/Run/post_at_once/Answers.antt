@@ -41,7 +41,7 @@ returns-clause-running g c =
     let m = c.index_mut.result.now in
     let e = post_event c.args.envelope c.args.message.now c.post_in_turn.result in
     still_running r _ (post_goes r _ c.args.looper m _ c.requires.there (sym c.index_mut.ensures.value) refl refl e (main_has _ c.requires.running.heads r c.args.looper m c.requires.there (sym c.index_mut.ensures.value) c.requires.running.stands)
-    (may_post c.args.envelope c.args.message.now c.post_in_turn.result) c.post_in_turn.ensures.answered c.post_in_turn.ensures.book_seat c.post_in_turn.ensures.door refl (record { apps = refl; shared = refl; joined = refl; ports = refl; desks = refl })) c.requires.running
+    (may_post c.args.envelope c.args.message.now c.post_in_turn.result) c.post_in_turn.ensures.answered c.post_in_turn.ensures.book_seat c.post_in_turn.ensures.door refl (record { apps = refl; shared = refl; joined = refl; ports = refl; desks = refl; slots = refl })) c.requires.running
 
 pub returns-clause-count : goal.returns-clause-count
 returns-clause-count g c = length-set c.args.self.now.members.items c.args.looper _

@@ -5,7 +5,7 @@ use Rattle.ak_run.proofs.GoingOn.{goes_then_goes}
 use Rattle.ak_run.proofs.run.Run.shut.Goals as goal
 
 pub loop-place-init : goal.loop-place-init
-loop-place-init g c = goes_same c.args.self.now _ (record { apps = refl; shared = refl; joined = refl; ports = refl; desks = refl }) refl refl refl refl
+loop-place-init g c = goes_same c.args.self.now _ (record { apps = refl; shared = refl; joined = refl; ports = refl; desks = refl; slots = refl }) refl refl refl refl
 
 pub shut_one-requires-clause-stands : goal.shut_one-requires-clause-stands
 shut_one-requires-clause-stands g c = stands_further c.args.self.now _ c.loop-place.invariant c.requires.stands

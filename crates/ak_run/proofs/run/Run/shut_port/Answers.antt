@@ -22,7 +22,7 @@ returns g c =
     let main = main_has _ c.requires.running.heads r c.args.looper m c.requires.there (sym c.index_mut.ensures.value) c.requires.running.stands in
     record {
       goes = one_goes r _ c.args.looper m _ c.requires.there (sym c.index_mut.ensures.value) refl refl AreAtPorts (record { port = c.close.ensures.seat; desk = keeps_itself m.door.desk_seat; desk_front = refl }) refl
-          (record { apps = refl; shared = refl; joined = refl; ports = refl; desks = refl }) (same_book r _ refl)
+          (record { apps = refl; shared = refl; joined = refl; ports = refl; desks = refl; slots = refl }) (same_book r _ refl)
           (port_alone c.args.looper r.hands.clock.time c.close.new.clock.time r.hands.book_seat _ m.door.port_seat.front _ refl (adds_by (close_entry c.close.result) r.hands.clock c.close.new.clock m.door.port_seat c.close.new.seat main (may_close c.close.result) c.close.ensures.answered));
       closed = shut_closes r _ c.args.looper m _ c.requires.there (sym c.index_mut.ensures.value) refl refl
           (shuts_so c.args.looper c.close.result r.hands.clock c.close.new.clock m.door.port_seat c.close.new.seat r.hands.book_seat.front main c.close.ensures.shut c.close.ensures.answered);

@@ -9,7 +9,7 @@ pub returns-clause-split : goal.returns-clause-split
 returns-clause-split c =
     let r = c.args.self.now in
     record {
-      rest = record { apps = refl; shared = refl; joined = refl; ports = refl; desks = refl };
+      rest = record { apps = refl; shared = refl; joined = refl; ports = refl; desks = refl; slots = refl };
       time = refl;
       members = refl;
       book_seat = c.split-book_seat.ensures.old;

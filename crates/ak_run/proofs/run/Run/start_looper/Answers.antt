@@ -14,7 +14,7 @@ pub start_by-requires-send-T : goal.start_by-requires-send-T
 start_by-requires-send-T g c κs within = search (LooperEnd-send, sendable) depth 12 parts 0
 
 pub returns-in-Ok-clause-run : goal.returns-in-Ok-clause-run
-returns-in-Ok-clause-run g c = goes_at_new c.args.self.now c.args.self.now _ _ (record { apps = refl; shared = refl; joined = refl; ports = refl; desks = refl }) refl refl refl (at_new_same c.args.self.now _ _ refl)
+returns-in-Ok-clause-run g c = goes_at_new c.args.self.now c.args.self.now _ _ (record { apps = refl; shared = refl; joined = refl; ports = refl; desks = refl; slots = refl }) refl refl refl (at_new_same c.args.self.now _ _ refl)
 
 pub returns-in-Err-clause-run : goal.returns-in-Err-clause-run
 returns-in-Err-clause-run g c = goes_then_at_new _ _ _ _ _ c.stop_team.ensures c.shut_door.ensures.run

@@ -60,7 +60,7 @@ returns g c =
     let roster = seats.ensures.roster ∙ ap (λ (t : ℕ). new_seat t None r.roster_seat) c.looper.ensures in
     let leads = subst (λ (d : Door). StillLeads d c.life_of-life.new.door) c.into_job-door.ensures.door c.life_of-life.ensures.door in
     record {
-      started = goes_with s.0 s.1 s.2 c.args.team c.args.new c.args.ways.items r s.3 now split c.life_of-life.new.self _ _ c.life_of-life.ensures.run _ (record { apps = refl; shared = refl; joined = refl; ports = refl; desks = refl }) refl refl
+      started = goes_with s.0 s.1 s.2 c.args.team c.args.new c.args.ways.items r s.3 now split c.life_of-life.new.self _ _ c.life_of-life.ensures.run _ (record { apps = refl; shared = refl; joined = refl; ports = refl; desks = refl; slots = refl }) refl refl
           _ c.push_reserved.ensures.items c.push_reserved.ensures.capacity c.life_of-life.new.door c.into_job-door.result.1 seats.result.0 seats.result.1 book roster c.into_job-door.ensures.job c.into_job-door.ensures.ready leads refl refl c.of-snapshot.ensures c.life_of-life.ensures.life;
       recorded = start_acts r now c.life_of-life.new.self _ c.life_of-life.new.door c.args.new.door.port_seat.front _ split.time split.members (ap (λ s. s.front) split.roster_seat) (ap (λ s. s.front) split.book_seat)
           (subst (λ (d : Door). RecordsAtNew d.port_seat.front c.life_of-life.new.door.port_seat.front now c.life_of-life.new.self) c.into_job-door.ensures.door c.life_of-life.ensures.run.recorded) refl c.push_reserved.ensures.items refl refl;
