@@ -22,10 +22,10 @@ ends_well ending.ReadFault k k' w w' is write thread sink spawner = absurd is
 
 -- a run that ends without memory is short
 pub ends_short
-    : (run : Option RunEnd) (end : Ending) (old new : Option (List ℕ)) (Failed : Type 0) → IfSome run (λ (r : RunEnd). PlaysAndCloses r end old new Failed)
+    : (run : Option RunEnd) (end : Ending) (old new : Option (List ℕ)) (a b : ℕ) → IfSome run (λ (r : RunEnd). PlaysAndCloses r end old new a b)
     → IfSome run (λ (r : RunEnd). end ≡ ending.NoMemory → IsShort r.short)
-ends_short (Some r) end old new Failed plays = plays.play.ran_short
-ends_short None end old new Failed plays = tt
+ends_short (Some r) end old new a b plays = plays.play.ran_short
+ends_short None end old new a b plays = tt
 
 -- what was read is no fault
 pub no_fault : {A E : Type 0} (r : Result A E) (x : A) (e f : E) → r ≡ Ok x → (r ≡ Err e) ⊎ (r ≡ Err f) → ⊥

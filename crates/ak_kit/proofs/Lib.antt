@@ -2,5 +2,6 @@ pub mod ClosingLine
 pub mod Command
 pub mod Counting
 pub mod Ends
+pub mod Playing
 pub mod Reading
 pub mod Scripts

@@ -7,6 +7,7 @@ use Rattle.ak_base.specs.declared.ending.Ending.TheVariants as ending
 use Rattle.ak_base.specs.declared.ending.RefusalKind.{RefusalKind}
 use Rattle.ak_base.specs.Refusal.{text_of}
 use Rattle.ak_message.specs.Limits.{input_limit}
+use Rattle.ak_outside.specs.Faults.{Rose}
 use Rattle.ak_outside.specs.Sink.{AppendsPart}
 use Rattle.ak_script.specs.declared.script.Script.{Script}
 use Rattle.ak_script.specs.Script.{ScriptData, script_of}
@@ -142,8 +143,12 @@ Tells ending.ReadFault left left' old new Failed = Closes ending.ReadFault old n
 Tells ending.ThreadFault left left' old new Failed = Closes ending.ThreadFault old new Failed
 Tells ending.NoMemory left left' old new Failed = Closes ending.NoMemory old new Failed
 
--- the lines of the run's statements, and behind them the closing line
-pub record PlaysAndCloses (run : RunEnd) (end : Ending) (old new : Option (List ℕ)) (Failed : Type 0) : Type 0 where
+-- the lines of the run's statements, those of a block session by session, and behind them the closing line. The sink failed so often before
+-- and after all, and so often between
+pub record PlaysAndCloses (run : RunEnd) (end : Ending) (old new : Option (List ℕ)) (faults faults' : ℕ) : Type 0 where
   pub between : Option (List ℕ)
-  pub play : IsPlay run.script.apps.items run.script.statements.items end run old between
-  pub closes : Closes end between new Failed
+  pub faults_between : ℕ
+  pub first : faults ≤ faults_between
+  pub second : faults_between ≤ faults'
+  pub play : IsPlay run.script.apps.items run.script.statements.items end run old between (Rose faults faults_between) (faults_between ≡ faults)
+  pub closes : Closes end between new (Rose faults_between faults')

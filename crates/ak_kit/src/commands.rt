@@ -3,8 +3,7 @@ ghost use Rattle.std.specs.Prelude.{◌≡◌, ◌≢◌, ◌≤◌, None, IfSom
 ghost use Rattle.ak_outside.specs.Faults.{Rose};
 ghost use Rattle.ak_describe.specs.Whole.{AreWholeApps, heads_of};
 ghost use Rattle.ak_headline.specs.Headline.{EachGotOneReply, EachLooper, IsAccounted, IsByRule};
-ghost use Rattle.ak_headline.specs.Run.{IsRun};
-ghost use Rattle.ak_play.specs.Play.{IsPlayEnding};
+ghost use Rattle.ak_play.specs.Play.{IsPlayEnding, IsRunOf};
 ghost use Rattle.ak_run.specs.Opened.{WereOpened};
 ghost use Rattle.ak_script.specs.Seen.{script_seen};
 ghost use Rattle.ak_kit.specs.Kit as kit;
@@ -33,13 +32,13 @@ pub(crate) fn play<
     ensures no_run { IfNone result.run (result.ending ≡ Ending.NoMemory) }
 
     ensures script { IfSome result.run (λ run. script_seen run.script ≡ script_seen script) }
-    ensures run { IfSome result.run (λ run. IsRun (heads_of run.script.apps.items) run.short.loopers run.histories) }
+    ensures run { IfSome result.run (λ run. IsRunOf (heads_of run.script.apps.items) run) }
     ensures opened { IfSome result.run (λ run. WereOpened run.script.apps.items run.histories) }
     ensures accepted { IfSome result.run (λ run. EachLooper run.histories IsAccounted) }
     ensures dispatched { IfSome result.run (λ run. EachLooper run.histories IsByRule) }
     ensures answered { IfSome result.run (λ run. EachGotOneReply run.short.loopers run.histories) }
 
-    ensures play { IfSome result.run (λ run. kit.PlaysAndCloses run result.ending (K.written sink.old) (K.written sink.new) (Rose (K.faults sink.old) (K.faults sink.new))) }
+    ensures play { IfSome result.run (λ run. kit.PlaysAndCloses run result.ending (K.written sink.old) (K.written sink.new) (K.faults sink.old) (K.faults sink.new)) }
     ensures closing { IfNone result.run (kit.Closes result.ending (K.written sink.old) (K.written sink.new) (Rose (K.faults sink.old) (K.faults sink.new))) }
 
     ensures write_fault { result.ending ≡ Ending.WriteFault → Rose (K.faults sink.old) (K.faults sink.new) }

@@ -8,10 +8,11 @@ ghost use Rattle.ak_kit.specs.Summary as counts;
 use ak_action::{LooperPlan, plans_are_whole};
 use ak_base::{Bytes, NoMemory, print_uint};
 use ak_describe::AppText;
-use ak_script::Script;
+use ak_script::{Script, count_lines};
 use std::alloc::Global;
 
-/// The line that tells how many applications, loopers, `handler` lines and statements the script has.
+/// The line that tells how many applications, loopers, `handler` lines and statements the script has. A block counts as the
+/// lines of its sessions.
 pub(crate) fn summary(alloc: Global, script: &Script) -> Result<Bytes, NoMemory>
     requires { AreWholeApps script.now.apps.items }
     ensures { IfOk result (λ line. line ≡ counts.summary (script_seen script.now)) }
@@ -21,7 +22,7 @@ pub(crate) fn summary(alloc: Global, script: &Script) -> Result<Bytes, NoMemory>
     put_count(&mut line, b"apps ", script.apps.len())?;
     put_count(&mut line, b" loopers ", count_loopers(&script.apps))?;
     put_count(&mut line, b" handlers ", count_handlers(&script.apps))?;
-    put_count(&mut line, b" statements ", script.statements.len())?;
+    put_count(&mut line, b" statements ", count_lines(&script.statements))?;
     line.push(b'\n')?;
     Ok(line)
 }

@@ -4,8 +4,7 @@ ghost use Rattle.ak_outside.specs.Faults.{Rose, Stayed};
 ghost use Rattle.ak_outside.specs.Source.{ConsumesAtMost};
 ghost use Rattle.ak_describe.specs.Whole.{heads_of};
 ghost use Rattle.ak_headline.specs.Headline.{EachGotOneReply, EachLooper, IsAccounted, IsByRule};
-ghost use Rattle.ak_headline.specs.Run.{IsRun};
-ghost use Rattle.ak_play.specs.Play.{IsShort};
+ghost use Rattle.ak_play.specs.Play.{IsRunOf, IsShort};
 ghost use Rattle.ak_run.specs.Opened.{WereOpened};
 ghost use Rattle.ak_script.specs.Script.{ScriptData, script_of};
 ghost use Rattle.ak_kit.specs.Kit as kit;
@@ -32,8 +31,9 @@ fn is_word(words: &[Bytes], name: &[u8]) -> bool
 }
 
 /// The program: reads the source to its end, and does with the script that the input is the text of what the words say.
-/// With `run` it carries the script out, with a thread for each looper, and writes to the sink the line of each
-/// statement; before it returns, the run is ended and its threads are joined. With `read` it does as `kit_read`. It
+/// With `run` it carries the script out, with a thread for each looper and each session of a block, and writes to the
+/// sink the line of each statement, those of a block session by session; before it returns, the run is ended and its
+/// threads are joined. With `read` it does as `kit_read`. It
 /// writes a closing line where it ends otherwise than Done or WriteFault.
 ///
 /// `words` are those behind the program's name. Usage, with nothing read, exactly where they are neither `run` nor
@@ -76,14 +76,14 @@ pub fn kit<
     ensures no_run { words.now ≢ kit.read_words → IfNone result.run (kit.IsUnrun result.ending) }
 
     // The headline.
-    ensures run { IfSome result.run (λ run. IsRun (heads_of run.script.apps.items) run.short.loopers run.histories) }
+    ensures run { IfSome result.run (λ run. IsRunOf (heads_of run.script.apps.items) run) }
     ensures opened { IfSome result.run (λ run. WereOpened run.script.apps.items run.histories) }
     ensures accepted { IfSome result.run (λ run. EachLooper run.histories IsAccounted) }
     ensures dispatched { IfSome result.run (λ run. EachLooper run.histories IsByRule) }
     ensures answered { IfSome result.run (λ run. EachGotOneReply run.short.loopers run.histories) }
 
-    // What main did for the statements, and what was written.
-    ensures play { IfSome result.run (λ run. kit.PlaysAndCloses run result.ending (K.written sink.old) (K.written sink.new) (Rose (K.faults sink.old) (K.faults sink.new))) }
+    // What main and the sessions did for the statements, and what was written.
+    ensures play { IfSome result.run (λ run. kit.PlaysAndCloses run result.ending (K.written sink.old) (K.written sink.new) (K.faults sink.old) (K.faults sink.new)) }
     ensures closing { words.now ≢ kit.read_words → IfNone result.run (kit.Closes result.ending (K.written sink.old) (K.written sink.new) (Rose (K.faults sink.old) (K.faults sink.new))) }
 
     // With `read` nothing is run, and the summary line is written.

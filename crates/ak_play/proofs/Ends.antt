@@ -1,7 +1,6 @@
 -- The run of a script, from what was carried out of it to its end.
-use Rattle.std.proofs.Common.{◌≡◌, ◌≢◌, inl, inr, ⊎_elim, ℕ, List, [], ◌∷◌, ◌++◌, length, All, refl, sym, ◌∙◌, subst, append_assoc}
-use Rattle.std.specs.Prelude.{Option, Ok, Err, Result, OnOk, Bool, true, false}
-use Rattle.std.specs.Io.KnownBytes.{Appends}
+use Rattle.std.proofs.Common.{◌≡◌, ◌≢◌, ◌⊎◌, ◌||◌, inl, inr, ⊎_elim, ℕ, ◌+◌, ◌<◌, List, [], ◌∷◌, ◌++◌, length, All, refl, sym, ◌∙◌, subst, append_assoc}
+use Rattle.std.specs.Prelude.{Option, None, Some, Ok, Err, Result, IfSome, IsSomeAnd, Bool, true, false, slice_get}
 use Rattle.std.proofs.lemmas.List.Concat.{flat_map-append}
 use Rattle.ak_base.specs.declared.ending.Ending.{Ending}
 use Rattle.ak_base.specs.declared.ending.Ending.TheVariants as ending
@@ -14,20 +13,26 @@ use Rattle.ak_diary.specs.declared.histories.Histories.{Histories}
 use Rattle.ak_diary.specs.Step.{AreStamped, Step, desk_entries, desk_entry}
 use Rattle.ak_headline.specs.Headline.{EachGotOneReply}
 use Rattle.ak_headline.specs.Main.{IsMainDiary}
-use Rattle.ak_headline.specs.Run.{HasDone, IsRun, desk_list}
+use Rattle.ak_headline.specs.Run.{HasDone, IsRunWith, desk_list}
 use Rattle.ak_run.specs.declared.run.Run.{Run}
-use Rattle.ak_print.specs.declared.told.Told.{Told}
+use Rattle.ak_script.specs.declared.statement.SessionLines.{SessionLines}
 use Rattle.ak_script.specs.declared.statement.Statement.{Statement}
-use Rattle.ak_run.specs.AtEnd.{DoneAtEnd}
+use Rattle.ak_run.specs.AtEnd.{DoneAtEnd, SessionsDone}
 use Rattle.ak_run.specs.Doing.{HasDoneSoFar}
-use Rattle.ak_play.specs.declared.outcome.Outcome.{Outcome}
+use Rattle.ak_run.specs.Sessions.{session_count}
+use Rattle.ak_block.specs.Carried.{IsCarriedIn, SessionPart}
+use Rattle.ak_lines.specs.Carried as carried
+use Rattle.ak_lines.specs.declared.outcome.Outcome.{Outcome}
 use Rattle.ak_play.specs.declared.run_end.RunEnd.{RunEnd}
 use Rattle.ak_play.specs.declared.run_end.Short.{Short}
 use Rattle.ak_play.specs.declared.stop.Stop.{Stop}
 use Rattle.ak_play.specs.declared.stop.Stop.TheVariants as stop
-use Rattle.ak_play.specs.Play.{IsPlay, IsShort, IsWritten, all_steps, text_of}
-use Rattle.ak_play.specs.Steps.{IsPlayedTo, ended_as, is_any, is_lack, stopped_as}
+use Rattle.ak_play.specs.Parts.{IsCut, Part, all_sessions, all_steps, all_tolds, sessions_in}
+use Rattle.ak_play.specs.Play.{AreReplies, IsPlay, IsShort, cut_tolds, first_tolds, last_tolds}
+use Rattle.ak_play.specs.Sessions.{HasCarried}
+use Rattle.ak_play.specs.Steps.{IsPlayedTo, any_short, ended_as, is_any, is_lack, stopped_as}
 use Rattle.ak_play.proofs.Lists.{all_front}
+use Rattle.ak_play.proofs.Parts.{parts_so, some_cut_so}
 use Rattle.ak_play.proofs.Playing.{written_at_end}
 use Rattle.ak_play.proofs.Replies.{replies}
 
@@ -40,64 +45,103 @@ some_any : (xs : List ℕ) → is_any xs ≡ true → xs ≢ []
 some_any [] any none = absurd (cc any)
 some_any (x ∷ xs) any none = absurd (cc none)
 
-done_not_short : {A : Type 0} (played : Result A Stop) (s : Short) (lacked : Bool) → s.main ≡ is_lack played → is_any s.loopers ≡ lacked → IsShort s → ended_as played lacked ≢ ending.Done
-done_not_short (Ok x) s true main any short done = absurd (cc done)
-done_not_short (Ok x) s false main any short done =
-    ⊎_elim (λ (by_main : s.main ≡ true). let bad : true ≡ false = sym by_main ∙ main in absurd (cc bad)) (λ (some : s.loopers ≢ []). some (not_any s.loopers any)) short
-done_not_short (Err stop.WriteFault) s lacked main any short done = absurd (cc done)
-done_not_short (Err stop.ThreadFault) s lacked main any short done = absurd (cc done)
-done_not_short (Err stop.NoMemory) s lacked main any short done = absurd (cc done)
+-- neither a session nor a looper; or one of them
+neither : (a b : Bool) → (a || b) ≡ false → (a ≡ false) × (b ≡ false)
+neither true b e = absurd (cc e)
+neither false true e = absurd (cc e)
+neither false false e = (refl, refl)
 
-lacking_is_short : {A : Type 0} (played : Result A Stop) (s : Short) (lacked : Bool) → s.main ≡ is_lack played → is_any s.loopers ≡ lacked → ended_as played lacked ≡ ending.NoMemory → IsShort s
-lacking_is_short (Ok x) s true main any end = inr (some_any s.loopers any)
-lacking_is_short (Ok x) s false main any end = absurd (cc end)
-lacking_is_short (Err stop.WriteFault) s lacked main any end = absurd (cc end)
-lacking_is_short (Err stop.ThreadFault) s lacked main any end = absurd (cc end)
-lacking_is_short (Err stop.NoMemory) s lacked main any end = inl main
+one_of : (a b : Bool) → (a || b) ≡ true → (a ≡ true) ⊎ (b ≡ true)
+one_of true b e = inl refl
+one_of false true e = inr refl
+one_of false false e = absurd (cc e)
 
-done_is_whole : {A : Type 0} (P : Type 0) (played : Result A Stop) (lacked : Bool) → OnOk played P → ended_as played lacked ≡ ending.Done → P
-done_is_whole P (Ok x) lacked whole done = whole
-done_is_whole P (Err stop.WriteFault) lacked whole done = absurd (cc done)
-done_is_whole P (Err stop.ThreadFault) lacked whole done = absurd (cc done)
-done_is_whole P (Err stop.NoMemory) lacked whole done = absurd (cc done)
+no_threads : (s : Short) → any_short s ≡ false → (s.sessions ≢ []) ⊎ (s.loopers ≢ []) → ⊥
+no_threads s any some =
+    let none = neither (is_any s.sessions) (is_any s.loopers) any in
+    ⊎_elim (λ (is : s.sessions ≢ []). is (not_any s.sessions none.0)) (λ (is : s.loopers ≢ []). is (not_any s.loopers none.1)) some
 
--- where main found memory, each line was written
-lines_by_main : {A : Type 0} (played : Result A Stop) (lacked main : Bool) (tolds : List Told) (old new : Option (List ℕ)) → main ≡ is_lack played → IsWritten (stopped_as played) tolds old new → main ≡ false → ended_as played lacked ≡ ending.NoMemory
-    → Appends old new (text_of tolds)
-lines_by_main (Ok x) lacked main tolds old new is written found end = written
-lines_by_main (Err stop.WriteFault) lacked main tolds old new is written found end = absurd (cc end)
-lines_by_main (Err stop.ThreadFault) lacked main tolds old new is written found end = absurd (cc end)
-lines_by_main (Err stop.NoMemory) lacked main tolds old new is written found end = let bad : true ≡ false = sym is ∙ found in absurd (cc bad)
+some_thread : (s : Short) → any_short s ≡ true → (s.sessions ≢ []) ⊎ (s.loopers ≢ [])
+some_thread s any =
+    ⊎_elim (λ (is : is_any s.sessions ≡ true). inl (some_any s.sessions is)) (λ (is : is_any s.loopers ≡ true). inr (some_any s.loopers is)) (one_of (is_any s.sessions) (is_any s.loopers) any)
 
--- so it is where main found memory, no write failed and each thread was started
-whole_by_main : {A : Type 0} (P : Type 0) (played : Result A Stop) (lacked main : Bool) → main ≡ is_lack played → OnOk played P → main ≡ false → ended_as played lacked ≢ ending.WriteFault → ended_as played lacked ≢ ending.ThreadFault → P
-whole_by_main P (Ok x) lacked main is whole found no_write no_start = whole
-whole_by_main P (Err stop.WriteFault) lacked main is whole found no_write no_start = absurd (no_write refl)
-whole_by_main P (Err stop.ThreadFault) lacked main is whole found no_write no_start = absurd (no_start refl)
-whole_by_main P (Err stop.NoMemory) lacked main is whole found no_write no_start = let bad : true ≡ false = sym is ∙ found in absurd (cc bad)
+module _ {A : Type 0} where
+  done_not_short : (played : Result A Stop) (s : Short) (lacked : Bool) → s.main ≡ is_lack played → any_short s ≡ lacked → IsShort s → ended_as played lacked ≢ ending.Done
+  done_not_short (Ok x) s true main any short done = absurd (cc done)
+  done_not_short (Ok x) s false main any short done =
+      ⊎_elim (λ (by_main : s.main ≡ true). let bad : true ≡ false = sym by_main ∙ main in absurd (cc bad)) (λ (some : (s.sessions ≢ []) ⊎ (s.loopers ≢ [])). no_threads s any some) short
+  done_not_short (Err stop.WriteFault) s lacked main any short done = absurd (cc done)
+  done_not_short (Err (stop.ThreadFault lacking)) s lacked main any short done = absurd (cc done)
+  done_not_short (Err stop.NoMemory) s lacked main any short done = absurd (cc done)
 
--- where main found none, that is how it ended
-main_short : {A : Type 0} (played : Result A Stop) (lacked main : Bool) → main ≡ is_lack played → main ≡ true → ended_as played lacked ≡ ending.NoMemory
-main_short (Ok x) lacked main is lacks = let bad : false ≡ true = sym is ∙ lacks in absurd (cc bad)
-main_short (Err stop.WriteFault) lacked main is lacks = let bad : false ≡ true = sym is ∙ lacks in absurd (cc bad)
-main_short (Err stop.ThreadFault) lacked main is lacks = let bad : false ≡ true = sym is ∙ lacks in absurd (cc bad)
-main_short (Err stop.NoMemory) lacked main is lacks = refl
+  lacking_is_short : (played : Result A Stop) (s : Short) (lacked : Bool) → s.main ≡ is_lack played → any_short s ≡ lacked → ended_as played lacked ≡ ending.NoMemory → IsShort s
+  lacking_is_short (Ok x) s true main any end = inr (some_thread s any)
+  lacking_is_short (Ok x) s false main any end = absurd (cc end)
+  lacking_is_short (Err stop.WriteFault) s lacked main any end = absurd (cc end)
+  lacking_is_short (Err (stop.ThreadFault lacking)) s lacked main any end = absurd (cc end)
+  lacking_is_short (Err stop.NoMemory) s lacked main any end = inl main
 
--- a thread fault is one of what was carried out
-refused_before : {A : Type 0} (played : Result A Stop) (lacked : Bool) → ended_as played lacked ≡ ending.ThreadFault → stopped_as played ≡ ending.ThreadFault
-refused_before (Ok x) true refused = absurd (cc refused)
-refused_before (Ok x) false refused = absurd (cc refused)
-refused_before (Err stop.WriteFault) lacked refused = absurd (cc refused)
-refused_before (Err stop.ThreadFault) lacked refused = refl
-refused_before (Err stop.NoMemory) lacked refused = absurd (cc refused)
+  -- what is so where it was done
+  done_so : (P : Type 0) (played : Result A Stop) (lacked : Bool) → (stopped_as played ≡ ending.Done → P) → ended_as played lacked ≡ ending.Done → P
+  done_so P (Ok x) lacked whole done = whole refl
+  done_so P (Err stop.WriteFault) lacked whole done = absurd (cc done)
+  done_so P (Err (stop.ThreadFault lacking)) lacked whole done = absurd (cc done)
+  done_so P (Err stop.NoMemory) lacked whole done = absurd (cc done)
 
--- where main found memory, and each thread was started, it stopped at no statement
-stopped_nowhere : {A : Type 0} (P : Type 0) (played : Result A Stop) (lacked main : Bool) (more : List Step) → main ≡ is_lack played → OnOk played P → (P → more ≡ []) → (stopped_as played ≡ ending.WriteFault → more ≡ []) → main ≡ false
-    → ended_as played lacked ≢ ending.ThreadFault → more ≡ []
-stopped_nowhere P (Ok x) lacked main more is whole none at_a_write found other = none whole
-stopped_nowhere P (Err stop.WriteFault) lacked main more is whole none at_a_write found other = at_a_write refl
-stopped_nowhere P (Err stop.ThreadFault) lacked main more is whole none at_a_write found other = absurd (other refl)
-stopped_nowhere P (Err stop.NoMemory) lacked main more is whole none at_a_write found other = let bad : true ≡ false = sym is ∙ found in absurd (cc bad)
+  -- so it is where main found memory, no write failed and each thread was started
+  by_main : (P : Type 0) (played : Result A Stop) (lacked main : Bool) → main ≡ is_lack played → (stopped_as played ≡ ending.Done → P) → main ≡ false → ended_as played lacked ≢ ending.WriteFault → ended_as played lacked ≢ ending.ThreadFault → P
+  by_main P (Ok x) lacked main is whole found no_write no_start = whole refl
+  by_main P (Err stop.WriteFault) lacked main is whole found no_write no_start = absurd (no_write refl)
+  by_main P (Err (stop.ThreadFault lacking)) lacked main is whole found no_write no_start = absurd (no_start refl)
+  by_main P (Err stop.NoMemory) lacked main is whole found no_write no_start = let bad : true ≡ false = sym is ∙ found in absurd (cc bad)
+
+  -- where main found none, that is how it ended, or a thread could not be started for a session of a block
+  main_short : (P : Type 0) (played : Result A Stop) (lacked main : Bool) → main ≡ is_lack played → (stopped_as played ≡ ending.ThreadFault → is_lack played ≡ true → P) → main ≡ true → (ended_as played lacked ≡ ending.NoMemory) ⊎ ((ended_as played lacked ≡ ending.ThreadFault) × P)
+  main_short P (Ok x) lacked main is inside lacks = let bad : false ≡ true = sym is ∙ lacks in absurd (cc bad)
+  main_short P (Err stop.WriteFault) lacked main is inside lacks = let bad : false ≡ true = sym is ∙ lacks in absurd (cc bad)
+  main_short P (Err (stop.ThreadFault lacking)) lacked main is inside lacks = inr (refl, inside refl (sym is ∙ lacks))
+  main_short P (Err stop.NoMemory) lacked main is inside lacks = inl refl
+
+  -- a block that was cut where memory ran out
+  lacking_before : (cut : Option Part) (Q : Part → Type 0) (played : Result A Stop) (lacked : Bool) → (stopped_as played ≡ ending.Done → cut ≡ None) → (stopped_as played ≡ ending.NoMemory → IfSome cut Q) → ended_as played lacked ≡ ending.NoMemory → IfSome cut Q
+  lacking_before cut Q (Ok x) lacked none before end = subst (λ (c : Option Part). IfSome c Q) (sym (none refl)) tt
+  lacking_before cut Q (Err stop.WriteFault) lacked none before end = absurd (cc end)
+  lacking_before cut Q (Err (stop.ThreadFault lacking)) lacked none before end = absurd (cc end)
+  lacking_before cut Q (Err stop.NoMemory) lacked none before end = before refl
+
+  -- it ended otherwise than at a write
+  no_write : (played : Result A Stop) (lacked : Bool) → ended_as played lacked ≢ ending.WriteFault → stopped_as played ≢ ending.WriteFault
+  no_write (Ok x) lacked other at_a_write = cc at_a_write
+  no_write (Err stop.WriteFault) lacked other at_a_write = other refl
+  no_write (Err (stop.ThreadFault lacking)) lacked other at_a_write = cc at_a_write
+  no_write (Err stop.NoMemory) lacked other at_a_write = cc at_a_write
+
+  -- a thread fault is one of what was carried out
+  refused_before : (played : Result A Stop) (lacked : Bool) → ended_as played lacked ≡ ending.ThreadFault → stopped_as played ≡ ending.ThreadFault
+  refused_before (Ok x) true refused = absurd (cc refused)
+  refused_before (Ok x) false refused = absurd (cc refused)
+  refused_before (Err stop.WriteFault) lacked refused = absurd (cc refused)
+  refused_before (Err (stop.ThreadFault lacking)) lacked refused = refl
+  refused_before (Err stop.NoMemory) lacked refused = absurd (cc refused)
+
+  -- where main found memory, and each thread was started, it stopped at no statement
+  nowhere : (P : Type 0) (played : Result A Stop) (lacked main : Bool) → main ≡ is_lack played → (stopped_as played ≡ ending.Done → P) → (stopped_as played ≡ ending.WriteFault → P) → main ≡ false → ended_as played lacked ≢ ending.ThreadFault → P
+  nowhere P (Ok x) lacked main is whole at_a_write found other = whole refl
+  nowhere P (Err stop.WriteFault) lacked main is whole at_a_write found other = at_a_write refl
+  nowhere P (Err (stop.ThreadFault lacking)) lacked main is whole at_a_write found other = absurd (other refl)
+  nowhere P (Err stop.NoMemory) lacked main is whole at_a_write found other = let bad : true ≡ false = sym is ∙ found in absurd (cc bad)
+
+-- ---- sessions, at the end
+pub carried_at_end : (heads : List AppHead) (r : Run) (h : Histories) → SessionsDone r h → (n : ℕ) (lines : SessionLines) (part : SessionPart) → IsCarriedIn heads r n lines part → HasCarried heads h n lines part
+carried_at_end heads r h sessions n lines part is =
+    let done = sessions is.place is.opened is.closed is.there heads is.opened.hands.clock.time (carried.all_steps is.did.blocks ++ is.did.stopped) is.stands in
+    record {
+      did = is.did;
+      time = is.opened.hands.clock.time;
+      stamped = is.stands.stamped;
+      done = subst (λ (m : ℕ). HasDone h m (carried.all_steps is.did.blocks ++ is.did.stopped)) (sym is.number_is) done.done;
+      edits = done.edits;
+    }
 
 -- ---- the steps at the end
 module _ (heads : List AppHead) (h : Histories) (steps more : List Step) (at_end : DoneAtEnd heads (steps ++ more) h) where
@@ -118,49 +162,69 @@ module _ (heads : List AppHead) (h : Histories) (steps more : List Step) (at_end
       all_front (StandsIn (desk_list h looper)) (desk_entries looper steps) (desk_entries looper more)
       (subst (All (StandsIn (desk_list h looper))) (flat_map-append (desk_entry looper) steps more) (at_end.edits looper))
 
-module _ {A : Type 0} (apps : List AppText) (statements : List Statement) (played : Result A Stop) (run : Run) (end : RunEnd) (old new : Option (List ℕ)) where
-  pub is_play : IsPlayedTo apps statements end.outcomes (stopped_as played) run old new → OnOk played (length end.outcomes ≡ length statements) → end.short.main ≡ is_lack played → IsRun (heads_of apps) end.short.loopers end.histories
-      → EachGotOneReply end.short.loopers end.histories → ((steps : List Step) → HasDoneSoFar steps run → DoneAtEnd (heads_of apps) steps end.histories) → IsPlay apps statements (ended_as played (is_any end.short.loopers)) end old new
-  is_play to whole main of_run answered did =
+module _ {A : Type 0} (apps : List AppText) (statements : List Statement) (played : Result A Stop) (run : Run) (end : RunEnd) (old new : Option (List ℕ)) (Failed Kept : Type 0) where
+  pub is_play : IsPlayedTo apps statements end.outcomes end.short.sessions played run old new Failed Kept → end.short.main ≡ is_lack played → IsRunWith (session_count run) (heads_of apps) end.short.loopers end.histories
+      → EachGotOneReply end.short.loopers end.histories → SessionsDone run end.histories → ((steps : List Step) → HasDoneSoFar steps run → DoneAtEnd (heads_of apps) steps end.histories) → IsPlay apps statements (ended_as played (any_short end.short)) end old new Failed Kept
+  is_play to main of_run answered sessions did =
       let h = end.histories in
-      let steps = all_steps to.blocks in
+      let heads = heads_of apps in
+      let lacked = any_short end.short in
+      let steps = all_steps to.parts in
       let at_end = did (steps ++ to.more) to.done in
-      let done = done_at_end (heads_of apps) h steps to.more at_end in
+      let done = done_at_end heads h steps to.more at_end in
+      let turned = carried_at_end heads run h sessions in
+      let are = parts_so (IsCarriedIn heads run) (HasCarried heads h) turned apps 1 statements to.parts to.are in
+      let cut = cut_so to.cut (slice_get statements (length to.parts)) turned (all_sessions to.parts + 1) to.cut_is in
       record {
-        tolds = to.tolds;
+        tolds = all_tolds to.parts ++ cut_tolds to.cut;
         played = record {
-          blocks = to.blocks;
-          are = to.are;
+          parts = to.parts;
+          are = are;
+          cut = to.cut;
+          cut_is = cut;
+          outcomes_are = to.outcomes_are;
+          tolds_are = refl;
+          short_are = to.short_are;
           stopped = to.more;
           none_stopped = to.none_more;
+          none_inside = to.none_inside;
           closing = at_end.closing;
           closes = at_end.closes;
-          diary = diary_at_end (heads_of apps) h steps to.more at_end;
-          stamped = stamped_at_end (heads_of apps) h steps to.more at_end;
+          diary = diary_at_end heads h steps to.more at_end;
+          stamped = stamped_at_end heads h steps to.more at_end;
           done = done;
-          edits = edits_at_end (heads_of apps) h steps to.more at_end;
+          edits = edits_at_end heads h steps to.more at_end;
         };
-        written = written_at_end played (is_any end.short.loopers) to.tolds old new to.written;
-        all_lines = lines_by_main played (is_any end.short.loopers) end.short.main to.tolds old new main to.written;
-        replies = replies end.short.loopers h (steps ++ (to.more ++ at_end.closing)) of_run.histories.ports done answered apps statements end.outcomes to.tolds to.blocks (to.more ++ at_end.closing) refl to.are;
-        stopped_nowhere = stopped_nowhere (length end.outcomes ≡ length statements) played (is_any end.short.loopers) end.short.main to.more main whole to.none_more to.none_at_a_write;
-        whole_by_main = whole_by_main (length end.outcomes ≡ length statements) played (is_any end.short.loopers) end.short.main main whole;
-        at_a_launch = λ refused. to.at_a_launch (refused_before played (is_any end.short.loopers) refused);
-        main_short = main_short played (is_any end.short.loopers) end.short.main main;
-        whole = done_is_whole (length end.outcomes ≡ length statements) played (is_any end.short.loopers) whole;
-        short = λ short. done_not_short played end.short (is_any end.short.loopers) main refl short;
-        ran_short = lacking_is_short played end.short (is_any end.short.loopers) main refl;
+        run_of = subst (λ (n : ℕ). IsRunWith n heads end.short.loopers h) to.sessions of_run;
+        written = written_at_end played lacked end.short.main (IsSomeAnd to.cut (λ (part : Part). Failed)) (first_tolds to.parts to.cut) (last_tolds to.parts to.cut) old new main to.written;
+        sink = λ other none. to.sink (no_write played lacked other) none;
+        replies = subst (λ (os : List Outcome). AreReplies end.short.loopers h os (all_tolds to.parts ++ cut_tolds to.cut)) (sym to.outcomes_are)
+            (replies end.short.loopers h (steps ++ (to.more ++ at_end.closing)) of_run.histories.ports done answered apps statements to.parts (to.more ++ at_end.closing) (all_sessions to.parts + 1) (slice_get statements (length to.parts)) to.cut refl are cut);
+        whole = done_so (length to.parts ≡ length statements) played lacked (λ done_all. (to.none_when_done done_all).0);
+        whole_by_main = by_main (length to.parts ≡ length statements) played lacked end.short.main main (λ done_all. (to.none_when_done done_all).0);
+        at_a_start = λ refused. to.at_a_start (refused_before played lacked refused);
+        before_last = lacking_before to.cut (λ (part : Part). IsSomeAnd (slice_get statements (length to.parts)) (λ (s : Statement). part.sessions < sessions_in s)) played lacked (λ done_all. (to.none_when_done done_all).1) to.before_last;
+        stopped_nowhere = nowhere ((to.more ≡ []) × (to.cut ≡ None)) played lacked end.short.main main (λ done_all. (to.none_more (to.none_when_done done_all).0, (to.none_when_done done_all).1)) to.none_at_a_write;
+        short = λ short. done_not_short played end.short lacked main refl short;
+        ran_short = lacking_is_short played end.short lacked main refl;
+        main_short = main_short (IsSomeAnd to.cut (λ (part : Part). Unit {0})) played lacked end.short.main main to.lacks_inside;
       }
+    where
+      cut_so : (c : Option Part) (o : Option Statement) → ((n : ℕ) (lines : SessionLines) (part : SessionPart) → IsCarriedIn (heads_of apps) run n lines part → HasCarried (heads_of apps) end.histories n lines part) → (from : ℕ)
+          → IfSome c (λ (part : Part). IsSomeAnd o (λ (s : Statement). IsCut (IsCarriedIn (heads_of apps) run) from s part)) → IfSome c (λ (part : Part). IsSomeAnd o (λ (s : Statement). IsCut (HasCarried (heads_of apps) end.histories) from s part))
+      cut_so None o turned from is = tt
+      cut_so (Some part) o turned from is = some_cut_so (IsCarriedIn (heads_of apps) run) (HasCarried (heads_of apps) end.histories) turned from o part is
 
   -- the same, as the calls tell it
-  pub is_play_as : (apps1 : List AppText) (heads1 heads2 : List AppHead) (statements1 : List Statement) (outcomes : List Outcome) (end_is : Ending) → apps1 ≡ apps → heads1 ≡ heads_of apps → heads2 ≡ heads_of apps → statements1 ≡ statements → end.outcomes ≡ outcomes
-      → end_is ≡ ended_as played (is_any end.short.loopers) → IsPlayedTo apps1 statements1 outcomes (stopped_as played) run old new → OnOk played (length outcomes ≡ length statements1) → end.short.main ≡ is_lack played → IsRun heads1 end.short.loopers end.histories
-      → EachGotOneReply end.short.loopers end.histories → ((steps : List Step) → HasDoneSoFar steps run → DoneAtEnd heads2 steps end.histories) → IsPlay apps statements end_is end old new
-  is_play_as apps1 heads1 heads2 statements1 outcomes end_is one two three of_script kept ended to whole main of_run answered did =
-      let to_kept = subst (λ (os : List Outcome). IsPlayedTo apps1 statements1 os (stopped_as played) run old new) (sym kept) to in
-      let to_apps = subst (λ (xs : List AppText). IsPlayedTo xs statements1 end.outcomes (stopped_as played) run old new) one to_kept in
-      let to_all = subst (λ (ss : List Statement). IsPlayedTo apps ss end.outcomes (stopped_as played) run old new) of_script to_apps in
-      let whole_kept = subst (λ (os : List Outcome). OnOk played (length os ≡ length statements1)) (sym kept) whole in
-      let whole_all = subst (λ (ss : List Statement). OnOk played (length end.outcomes ≡ length ss)) of_script whole_kept in
-      subst (λ (e : Ending). IsPlay apps statements e end old new) (sym ended)
-      (is_play to_all whole_all main (subst (λ (hs : List AppHead). IsRun hs end.short.loopers end.histories) two of_run) answered (λ steps done. subst (λ (hs : List AppHead). DoneAtEnd hs steps end.histories) three (did steps done)))
+  pub is_play_as : (apps1 : List AppText) (heads1 heads2 : List AppHead) (statements1 : List Statement) (outcomes : List Outcome) (short : List ℕ) (end_is : Ending) → apps1 ≡ apps → heads1 ≡ heads_of apps → heads2 ≡ heads_of apps → statements1 ≡ statements
+      → end.outcomes ≡ outcomes → end.short.sessions ≡ short → end_is ≡ ended_as played (any_short end.short) → IsPlayedTo apps1 statements1 outcomes short played run old new Failed Kept → end.short.main ≡ is_lack played
+      → IsRunWith (session_count run) heads1 end.short.loopers end.histories → EachGotOneReply end.short.loopers end.histories → SessionsDone run end.histories → ((steps : List Step) → HasDoneSoFar steps run → DoneAtEnd heads2 steps end.histories)
+      → IsPlay apps statements end_is end old new Failed Kept
+  is_play_as apps1 heads1 heads2 statements1 outcomes short end_is one two three of_script kept kept_short ended to main of_run answered sessions did =
+      let to_kept = subst (λ (os : List Outcome). IsPlayedTo apps1 statements1 os short played run old new Failed Kept) (sym kept) to in
+      let to_short = subst (λ (ns : List ℕ). IsPlayedTo apps1 statements1 end.outcomes ns played run old new Failed Kept) (sym kept_short) to_kept in
+      let to_apps = subst (λ (xs : List AppText). IsPlayedTo xs statements1 end.outcomes end.short.sessions played run old new Failed Kept) one to_short in
+      let to_all = subst (λ (ss : List Statement). IsPlayedTo apps ss end.outcomes end.short.sessions played run old new Failed Kept) of_script to_apps in
+      subst (λ (e : Ending). IsPlay apps statements e end old new Failed Kept) (sym ended)
+      (is_play to_all main (subst (λ (hs : List AppHead). IsRunWith (session_count run) hs end.short.loopers end.histories) two of_run) answered sessions
+      (λ steps done. subst (λ (hs : List AppHead). DoneAtEnd hs steps end.histories) three (did steps done)))

@@ -11,12 +11,14 @@ use Rattle.ak_script.specs.declared.statement.Post.{Post}
 use Rattle.ak_print.specs.declared.told.Told.{Told}
 use Rattle.ak_print.specs.declared.told.Told.TheVariants as told
 use Rattle.ak_run.specs.declared.run.Run.{Run}
-use Rattle.ak_run.specs.declared.answers.Found.TheVariants as found
-use Rattle.ak_run.specs.Doing.{DoesSo, FoundSo}
-use Rattle.ak_play.specs.declared.came.Came.{Came}
-use Rattle.ak_play.specs.declared.outcome.Outcome.{Outcome}
-use Rattle.ak_play.specs.declared.outcome.Outcome.TheVariants as came
-use Rattle.ak_play.specs.Blocks.{FindingLooper, FindingNone, IsAnswered, IsEdited, IsHeyBlock, IsLockBlock, IsPostBlock, IsPostRefused, IsPosted, IsRefused, hey_item, post_item}
+use Rattle.ak_session.specs.declared.answers.Found.TheVariants as found
+use Rattle.ak_run.specs.Doing.{DoesSo}
+use Rattle.ak_session.specs.Doing.{FoundSo}
+use Rattle.ak_lines.specs.declared.came.Came.{Came}
+use Rattle.ak_lines.specs.declared.outcome.Outcome.{Outcome}
+use Rattle.ak_lines.specs.declared.outcome.Outcome.TheVariants as came
+use Rattle.ak_play.specs.Blocks.{IsHeyBlock, IsLockBlock, IsPostBlock}
+use Rattle.ak_lines.specs.Blocks.{FindingLooper, FindingNone, IsAnswered, IsEdited, IsPostRefused, IsPosted, IsRefused, hey_item, post_item}
 use Rattle.ak_play.specs.Came.{IsAsked, IsLocked, IsSent, MayCome}
 use Rattle.ak_run.proofs.Surface.{does_so_then}
 use Rattle.ak_play.proofs.Doing.{does_as}

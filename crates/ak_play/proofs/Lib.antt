@@ -1,8 +1,13 @@
+pub mod Blocks
 pub mod Doing
 pub mod Ends
 pub mod Finding
+pub mod Keeping
 pub mod Lists
+pub mod Parts
 pub mod Playing
 pub mod Refusals
 pub mod Replies
+pub mod Room
+pub mod Texts
 pub mod Whole

@@ -1,39 +1,35 @@
 -- Statement after statement.
-use Rattle.std.proofs.Common.{◌≡◌, ◌≢◌, inl, inr, ℕ, List, [], ◌∷◌, ◌++◌, length, take, Some, None, Err, slice_get, refl, sym, ap, ◌∙◌, subst, append-nil, arith}
+use Rattle.std.proofs.Common.{◌≡◌, ◌≢◌, ◌≤◌, ◌<◌, ◌+◌, inl, inr, ℕ, zero, suc, List, [], ◌∷◌, ◌++◌, length, length-append, take, Some, None, Err, slice_get, refl, sym, ap, ◌∙◌, subst, append-nil, arith}
 use Rattle.std.specs.Prelude.{Option, Ok, Result, Bool, true, false, IsSomeAnd}
 use Rattle.std.specs.Io.KnownBytes.{Appends}
-use Rattle.std.proofs.Math.Seq.{take-append_seam, take-length}
-use Rattle.std.proofs.lemmas.List.{length_push}
 use Rattle.std.proofs.lemmas.Option.{slice_get_within}
-use Rattle.ak_base.specs.declared.ending.Ending.{Ending}
 use Rattle.ak_base.specs.declared.ending.Ending.TheVariants as ending
 use Rattle.ak_outside.proofs.Surface.{Appends-joined}
+use Rattle.ak_describe.specs.Whole.{heads_of}
 use Rattle.ak_describe.specs.declared.described.AppText.{AppText}
 use Rattle.ak_diary.specs.Step.{Step}
 use Rattle.ak_print.specs.declared.told.Told.{Told}
 use Rattle.ak_print.specs.Told.{told_line}
 use Rattle.ak_run.specs.declared.run.Run.{Run}
+use Rattle.ak_run.specs.Sessions as sessions
+use Rattle.ak_run.specs.Sessions.{session_count, sessions_of}
+use Rattle.ak_script.specs.declared.statement.SessionLines.{SessionLines}
 use Rattle.ak_script.specs.declared.statement.Statement.{Statement}
 use Rattle.ak_run.specs.Doing.{HasDoneSoFar}
-use Rattle.ak_play.specs.declared.outcome.Outcome.{Outcome}
+use Rattle.ak_lines.specs.declared.outcome.Outcome.{Outcome}
+use Rattle.ak_block.specs.Carried.{HasSessionsMore, IsCarriedIn, SessionPart}
 use Rattle.ak_play.specs.declared.stop.Stop.{Stop}
 use Rattle.ak_play.specs.declared.stop.Stop.TheVariants as stop
-use Rattle.ak_play.specs.Blocks.{AreBlocks, IsBlock, IsLaunch}
-use Rattle.ak_play.specs.Play.{IsStopped, IsWritten, all_steps, text_of}
-use Rattle.ak_play.specs.Steps.{HasStepped, IsPlayedSoFar, IsPlayedTo, StepsOn, StopsShort, ended_as, stopped_as}
+use Rattle.ak_play.specs.Blocks.{IsLaunch}
+use Rattle.ak_play.specs.Parts.{AreParts, IsCut, IsPart, Part, all_outcomes, all_sessions, all_short, all_steps, all_tolds, sessions_in}
+use Rattle.ak_play.specs.Play.{IsCutText, IsFrontText, IsLeft, IsWritten, first_tolds, last_tolds, text_of}
+use Rattle.ak_play.specs.Steps.{HasStepped, IsPlayedSoFar, IsPlayedTo, StepsOn, StopsInside, StopsShort, ended_as, is_lack, stopped_as}
 use Rattle.ak_run.proofs.Surface.{done_then}
 use Rattle.ak_play.proofs.Lists.{gathered_push}
+use Rattle.ak_play.proofs.Parts.{all_told, first_push, last_push, parts_push, parts_so, sessions_push, text-append, text_push}
 
--- ---- blocks
--- one more
-blocks_push : (apps : List AppText) (ss : List Statement) (os : List Outcome) (ts : List Told) (bs : List (List Step)) (s : Statement) (o : Outcome) (t : Told) (b : List Step) → AreBlocks apps ss os ts bs → slice_get ss (length os) ≡ Some s → IsBlock apps s o t b
-    → AreBlocks apps ss (os ++ o ∷ []) (ts ++ t ∷ []) (bs ++ b ∷ [])
-blocks_push apps [] [] [] [] s o t b are at is = absurd (cc at)
-blocks_push apps (x ∷ ss) [] [] [] s o t b are at is = let same : x ≡ s = cc at in (subst (λ (y : Statement). IsBlock apps y o t b) (sym same) is, tt)
-blocks_push apps (x ∷ ss) (p ∷ os) (q ∷ ts) (c ∷ bs) s o t b are at is = (are.0, blocks_push apps ss os ts bs s o t b are.1 at is)
-blocks_push apps _ _ _ _ s o t b are at is = absurd are
-
-Appends-nothing : (given : Option (List ℕ)) → Appends given given []
+-- ---- what was written
+pub Appends-nothing : (given : Option (List ℕ)) → Appends given given []
 Appends-nothing None = tt
 Appends-nothing (Some bytes) = sym (append-nil bytes)
 
@@ -41,107 +37,250 @@ Appends-nothing (Some bytes) = sym (append-nil bytes)
 Appends-no_more : (old mid new : Option (List ℕ)) (text : List ℕ) → Appends old mid text → Appends mid new [] → Appends old new text
 Appends-no_more old mid new text one two = subst (Appends old new) (append-nil text) (Appends-joined old mid new text [] one two)
 
-module _ (apps : List AppText) (statements : List Statement) where
-  pub play_begun : (r : Run) (given : Option (List ℕ)) → HasDoneSoFar [] r → IsPlayedSoFar apps statements [] r given given
-  play_begun r given nothing = record { tolds = []; blocks = []; are = tt; done = nothing; written = Appends-nothing given }
+-- behind lines that are written whole
+module _ (before last : List Told) (old mid new : Option (List ℕ)) (one : Appends old mid (text_of before)) where
+  front_behind : IsFrontText [] last mid new → IsFrontText before last old new
+  front_behind two = record { lines = two.lines; most = two.most; written = Appends-joined old mid new (text_of before) (text_of (take two.lines last)) one two.written }
 
-  module _ (s : Statement) (os os' : List Outcome) (r r' : Run) (old mid new : Option (List ℕ)) (so_far : IsPlayedSoFar apps statements os r old mid) (at : slice_get statements (length os) ≡ Some s) where
-    -- its block stands behind the others
-    are_pushed : {W : List ℕ → Type 0} (on : StepsOn apps s os os' r r' W) → AreBlocks apps statements os' (so_far.tolds ++ on.told ∷ []) (so_far.blocks ++ on.block ∷ [])
-    are_pushed on =
-        subst (λ (outcomes : List Outcome). AreBlocks apps statements outcomes (so_far.tolds ++ on.told ∷ []) (so_far.blocks ++ on.block ∷ [])) (sym on.pushed)
-        (blocks_push apps statements os so_far.tolds so_far.blocks s on.outcome on.told on.block so_far.are at on.is)
-
-    done_pushed : {W : List ℕ → Type 0} (on : StepsOn apps s os os' r r' W) → HasDoneSoFar (all_steps (so_far.blocks ++ on.block ∷ [])) r'
-    done_pushed on = subst (λ (steps : List Step). HasDoneSoFar steps r') (sym (gathered_push (λ (block : List Step). block) so_far.blocks on.block)) (done_then (all_steps so_far.blocks) on.block r r' so_far.done on.does)
-
-    pub play_goes_on : StepsOn apps s os os' r r' (Appends mid new) → IsPlayedSoFar apps statements os' r' old new
-    play_goes_on on = record {
-      tolds = so_far.tolds ++ on.told ∷ [];
-      blocks = so_far.blocks ++ on.block ∷ [];
-      are = are_pushed on;
-      done = done_pushed on;
-      written = subst (Appends old new) (sym (gathered_push told_line so_far.tolds on.told)) (Appends-joined old mid new (text_of so_far.tolds) (told_line on.told) so_far.written on.written);
-    }
-
-    -- with its outcome, and what was written then
-    stops_behind : {W : List ℕ → Type 0} (end : Ending) → end ≢ ending.ThreadFault → (on : StepsOn apps s os os' r r' W) → IsWritten end (so_far.tolds ++ on.told ∷ []) old new → IsPlayedTo apps statements os' end r' old new
-    stops_behind end other on written = record {
-      tolds = so_far.tolds ++ on.told ∷ [];
-      blocks = so_far.blocks ++ on.block ∷ [];
-      are = are_pushed on;
-      more = [];
-      none_more = λ all. refl;
-      none_at_a_write = λ at_a_write. refl;
-      at_a_launch = λ refused. absurd (other refused);
-      done = subst (λ (steps : List Step). HasDoneSoFar steps r') (sym (append-nil (all_steps (so_far.blocks ++ on.block ∷ [])))) (done_pushed on);
-      written = written;
-    }
-
-    -- without one
-    stops_before : (end : Ending) → end ≢ ending.WriteFault → (end ≡ ending.ThreadFault → IsLaunch s) → StopsShort os os' r r' mid new → IsWritten end so_far.tolds old new → IsPlayedTo apps statements os' end r' old new
-    stops_before end other launch short written = record {
-      tolds = so_far.tolds;
-      blocks = so_far.blocks;
-      are = subst (λ (outcomes : List Outcome). AreBlocks apps statements outcomes so_far.tolds so_far.blocks) (sym short.same) so_far.are;
-      more = short.steps;
-      none_more = λ all. absurd (omega (arith, all, ap length short.same, slice_get_within statements (length os) s at));
-      none_at_a_write = λ at_a_write. absurd (other at_a_write);
-      at_a_launch = λ refused. subst (λ (o : Option Statement). IsSomeAnd o IsLaunch) (sym (ap (λ (l : List Outcome). slice_get statements (length l)) short.same ∙ at)) (launch refused);
-      done = done_then (all_steps so_far.blocks) short.steps r r' so_far.done short.does;
-      written = written;
-    }
-
-    all_lines : Appends old new (text_of so_far.tolds) → IsStopped so_far.tolds old new
-    all_lines written = record {
-      lines = length so_far.tolds;
-      most = omega arith;
-      written = subst (λ (tolds : List Told). Appends old new (text_of tolds)) (sym (take-length so_far.tolds)) written;
-    }
-
-    but_the_last : (t : Told) → Appends old new (text_of so_far.tolds) → IsStopped (so_far.tolds ++ t ∷ []) old new
-    but_the_last t written = record {
-      lines = length so_far.tolds;
-      most = omega (arith, length_push so_far.tolds t);
-      written = subst (λ (tolds : List Told). Appends old new (text_of tolds)) (sym (take-append_seam so_far.tolds (t ∷ []))) written;
-    }
-
-    pub play_stops : (why : Stop) → HasStepped {A = Unit {0}} apps s (Err why) os os' r r' mid new → IsPlayedTo apps statements os' (stopped_as {A = Unit {0}} (Err why)) r' old new
-    play_stops stop.WriteFault on = stops_behind ending.WriteFault (λ refused. absurd (cc refused)) on (record {
-      front = so_far.tolds;
-      last = on.told;
-      tolds_are = refl;
-      part = on.written.0;
-      short = on.written.1;
-      written = Appends-joined old mid new (text_of so_far.tolds) (take on.written.0 (told_line on.told)) so_far.written on.written.2;
-    })
-    play_stops stop.ThreadFault (launch, short) =
-        stops_before ending.ThreadFault (λ at_a_write. absurd (cc at_a_write)) (λ refused. launch) short (Appends-no_more old mid new (text_of so_far.tolds) so_far.written short.written)
-    play_stops stop.NoMemory (inl short) = stops_before ending.NoMemory (λ at_a_write. absurd (cc at_a_write)) (λ refused. absurd (cc refused)) short (all_lines (Appends-no_more old mid new (text_of so_far.tolds) so_far.written short.written))
-    play_stops stop.NoMemory (inr on) = stops_behind ending.NoMemory (λ refused. absurd (cc refused)) on (but_the_last on.told (Appends-no_more old mid new (text_of so_far.tolds) so_far.written on.written))
-
-  -- behind the last one
-  pub play_ends : (os : List Outcome) (r : Run) (old new : Option (List ℕ)) → IsPlayedSoFar apps statements os r old new → IsPlayedTo apps statements os ending.Done r old new
-  play_ends os r old new so_far = record {
-    tolds = so_far.tolds;
-    blocks = so_far.blocks;
-    are = so_far.are;
-    more = [];
-    none_more = λ all. refl;
-    none_at_a_write = λ at_a_write. refl;
-    at_a_launch = λ refused. absurd (cc refused);
-    done = subst (λ (steps : List Step). HasDoneSoFar steps r) (sym (append-nil (all_steps so_far.blocks))) so_far.done;
-    written = so_far.written;
+  cut_behind : IsCutText [] last mid new → IsCutText before last old new
+  cut_behind two = record {
+    front = two.front;
+    line = two.line;
+    behind = two.behind;
+    last_is = two.last_is;
+    part = two.part;
+    short = two.short;
+    written = Appends-joined old mid new (text_of before) (text_of two.front ++ take two.part (told_line two.line)) one two.written;
   }
 
--- where a looper found no memory, it is not done, and each line was written
-pub written_at_end : {A : Type 0} (played : Result A Stop) (lacked : Bool) (tolds : List Told) (old new : Option (List ℕ)) → IsWritten (stopped_as played) tolds old new → IsWritten (ended_as played lacked) tolds old new
-written_at_end (Ok x) true tolds old new written = record {
-  lines = length tolds;
-  most = omega arith;
-  written = subst (λ (ts : List Told). Appends old new (text_of ts)) (sym (take-length tolds)) written;
+  left_behind : (lacks : Bool) (Failed1 Failed : Type 0) → (Failed1 → Failed) → IsLeft lacks Failed1 [] last mid new → IsLeft lacks Failed before last old new
+  left_behind lacks Failed1 Failed failed (inl all) = inl (Appends-joined old mid new (text_of before) (text_of last) one all)
+  left_behind lacks Failed1 Failed failed (inr (inl (so, two))) = inr (inl (so, front_behind two))
+  left_behind lacks Failed1 Failed failed (inr (inr (so, two))) = inr (inr (failed so, cut_behind two))
+
+-- lines of parts, as those before the last part's and those
+pub in_two : (ps : List Part) (old new : Option (List ℕ)) → Appends old new (text_of (all_tolds ps)) → Appends old new (text_of (first_tolds ps None) ++ text_of (last_tolds ps None))
+in_two ps old new written = subst (Appends old new) (ap text_of (sym (all_told ps)) ∙ text-append (first_tolds ps None) (last_tolds ps None)) written
+
+plus_nothing : (n : ℕ) → n ≡ n + 0
+plus_nothing n = omega arith
+
+-- ---- sessions stay as they are
+still_there : {X : Type 0} (xs ys : List X) (k : ℕ) (x : X) → slice_get xs k ≡ Some x → slice_get (xs ++ ys) k ≡ Some x
+still_there [] ys k x at = absurd (omega (arith, slice_get_within [] k x at))
+still_there (y ∷ xs) ys zero x at = at
+still_there (y ∷ xs) ys (suc k) x at = still_there xs ys k x at
+
+module _ (apps : List AppText) (r r' : Run) (more : ℕ) (still : HasSessionsMore more r r') where
+  abbrev Before : ℕ → SessionLines → SessionPart → Type 0
+  Before = IsCarriedIn (heads_of apps) r
+
+  abbrev Now : ℕ → SessionLines → SessionPart → Type 0
+  Now = IsCarriedIn (heads_of apps) r'
+
+  pub carried_still : (n : ℕ) (lines : SessionLines) (part : SessionPart) → Before n lines part → Now n lines part
+  carried_still n lines part is = record {
+    did = is.did;
+    place = is.place;
+    number_is = is.number_is;
+    opened = is.opened;
+    closed = is.closed;
+    there = ap (λ (all : List sessions.Told). slice_get all is.place) still.on.1 ∙ still_there (sessions_of r) still.on.0 is.place (is.opened, Some is.closed) is.there;
+    keeps = is.keeps;
+    stands = is.stands;
+  }
+
+pub no_sessions_more : (r r' : Run) → sessions_of r' ≡ sessions_of r → HasSessionsMore 0 r r'
+no_sessions_more r r' same = record {
+  on = ([], same ∙ sym (append-nil (sessions_of r)));
+  count = ap (λ (all : List sessions.Told). length all) same ∙ plus_nothing (session_count r);
 }
-written_at_end (Ok x) false tolds old new written = written
-written_at_end (Err stop.WriteFault) lacked tolds old new written = written
-written_at_end (Err stop.ThreadFault) lacked tolds old new written = written
-written_at_end (Err stop.NoMemory) lacked tolds old new written = written
+
+module _ (apps : List AppText) (statements : List Statement) where
+  pub play_begun : (r : Run) (given : Option (List ℕ)) (Kept : Type 0) → Kept → HasDoneSoFar [] r → sessions_of r ≡ [] → IsPlayedSoFar apps statements [] [] 0 r given given Kept
+  play_begun r given Kept kept nothing none = record {
+    parts = [];
+    count = refl;
+    are = tt;
+    sessions = ap (λ (all : List sessions.Told). length all) none;
+    outcomes_are = refl;
+    short_are = refl;
+    done_so = nothing;
+    written = Appends-nothing given;
+    sink = kept;
+  }
+
+  module _ (s : Statement) (os os' : List Outcome) (ns ns' : List ℕ) (count : ℕ) (r r' : Run) (old mid new : Option (List ℕ)) (Kept0 Kept : Type 0) (so_far : IsPlayedSoFar apps statements os ns count r old mid Kept0) (at : slice_get statements count ≡ Some s) where
+    at_parts : slice_get statements (length so_far.parts) ≡ Some s
+    at_parts = ap (slice_get statements) so_far.count ∙ at
+
+    next : session_count r + 1 ≡ 1 + all_sessions so_far.parts
+    next = omega (arith, so_far.sessions)
+
+    -- ---- it has its part, which stands behind the others
+    module _ {W : List Told → Type 0} (on : StepsOn apps s os os' ns ns' r r' W) where
+      are_pushed : AreParts (IsCarriedIn (heads_of apps) r') apps 1 statements (so_far.parts ++ on.part ∷ [])
+      are_pushed =
+          parts_push (IsCarriedIn (heads_of apps) r') apps 1 statements so_far.parts s on.part
+          (parts_so (IsCarriedIn (heads_of apps) r) (IsCarriedIn (heads_of apps) r') (carried_still apps r r' on.part.sessions on.sessions) apps 1 statements so_far.parts so_far.are)
+          at_parts (subst (λ (n : ℕ). IsPart (IsCarriedIn (heads_of apps) r') apps n s on.part) next on.is)
+
+      done_pushed : HasDoneSoFar (all_steps (so_far.parts ++ on.part ∷ [])) r'
+      done_pushed = subst (λ (steps : List Step). HasDoneSoFar steps r') (sym (gathered_push (λ (part : Part). part.steps) so_far.parts on.part)) (done_then (all_steps so_far.parts) on.part.steps r r' so_far.done_so on.does)
+
+      sessions_pushed : session_count r' ≡ all_sessions (so_far.parts ++ on.part ∷ [])
+      sessions_pushed = on.sessions.count ∙ ap (λ (n : ℕ). n + on.part.sessions) so_far.sessions ∙ sym (sessions_push so_far.parts on.part)
+
+      outcomes_pushed : os' ≡ all_outcomes (so_far.parts ++ on.part ∷ [])
+      outcomes_pushed = on.kept.outcomes_are ∙ ap (λ (l : List Outcome). l ++ on.part.outcomes) so_far.outcomes_are ∙ sym (gathered_push (λ (part : Part). part.outcomes) so_far.parts on.part)
+
+      short_pushed : ns' ≡ all_short (so_far.parts ++ on.part ∷ [])
+      short_pushed = on.kept.short_are ∙ ap (λ (l : List ℕ). l ++ on.part.short) so_far.short_are ∙ sym (gathered_push (λ (part : Part). part.short) so_far.parts on.part)
+
+      count_pushed : length (so_far.parts ++ on.part ∷ []) ≡ count + 1
+      count_pushed = length-append so_far.parts (on.part ∷ []) ∙ ap (λ (n : ℕ). n + 1) so_far.count
+
+      -- and it ended then
+      stops_behind : (why : Stop) (Failed : Type 0) → stopped_as {A = Unit {0}} (Err why) ≢ ending.ThreadFault → stopped_as {A = Unit {0}} (Err why) ≢ ending.Done
+          → IsWritten (stopped_as {A = Unit {0}} (Err why)) (is_lack {A = Unit {0}} (Err why)) ⊥ (all_tolds so_far.parts) on.part.tolds old new → (stopped_as {A = Unit {0}} (Err why) ≢ ending.WriteFault → Kept)
+          → IsPlayedTo {A = Unit {0}} apps statements os' ns' (Err why) r' old new Failed Kept
+      stops_behind why Failed started not_done written kept = record {
+        parts = so_far.parts ++ on.part ∷ [];
+        are = are_pushed;
+        cut = None;
+        sessions = sessions_pushed ∙ plus_nothing (all_sessions (so_far.parts ++ on.part ∷ []));
+        cut_is = tt;
+        outcomes_are = outcomes_pushed ∙ sym (append-nil (all_outcomes (so_far.parts ++ on.part ∷ [])));
+        short_are = short_pushed ∙ sym (append-nil (all_short (so_far.parts ++ on.part ∷ [])));
+        more = [];
+        none_more = λ all. refl;
+        none_inside = tt;
+        none_at_a_write = λ at_a_write. (refl, refl);
+        none_when_done = λ done. absurd (not_done done);
+        at_a_start = λ refused. absurd (started refused);
+        before_last = λ lacks. tt;
+        lacks_inside = λ refused lacks. absurd (started refused);
+        done = subst (λ (steps : List Step). HasDoneSoFar steps r') (sym (append-nil (all_steps (so_far.parts ++ on.part ∷ [])))) done_pushed;
+        written = subst (λ (l : List Told). IsWritten (stopped_as {A = Unit {0}} (Err why)) (is_lack {A = Unit {0}} (Err why)) ⊥ (first_tolds (so_far.parts ++ on.part ∷ []) None) l old new) (sym (last_push so_far.parts on.part))
+            (subst (λ (l : List Told). IsWritten (stopped_as {A = Unit {0}} (Err why)) (is_lack {A = Unit {0}} (Err why)) ⊥ l on.part.tolds old new) (sym (first_push so_far.parts on.part)) written);
+        sink = λ other none. kept other;
+      }
+
+    pub play_goes_on : (Kept1 : Type 0) → (Kept0 → Kept1 → Kept) → StepsOn apps s os os' ns ns' r r' (λ tolds. Appends mid new (text_of tolds) × Kept1) → IsPlayedSoFar apps statements os' ns' (count + 1) r' old new Kept
+    play_goes_on Kept1 joined on = record {
+      parts = so_far.parts ++ on.part ∷ [];
+      count = count_pushed on;
+      are = are_pushed on;
+      sessions = sessions_pushed on;
+      outcomes_are = outcomes_pushed on;
+      short_are = short_pushed on;
+      done_so = done_pushed on;
+      written = subst (Appends old new) (sym (text_push so_far.parts on.part)) (Appends-joined old mid new (text_of (all_tolds so_far.parts)) (text_of on.part.tolds) so_far.written on.written.0);
+      sink = joined so_far.sink on.written.1;
+    }
+
+    -- ---- it is a block that was cut
+    stops_inside : {W : List Told → Type 0} {Far : Part → Type 0} (why : Stop) (Failed : Type 0) → stopped_as {A = Unit {0}} (Err why) ≢ ending.WriteFault → stopped_as {A = Unit {0}} (Err why) ≢ ending.Done
+        → (in' : StopsInside apps s os os' ns ns' r r' Far W) → (stopped_as {A = Unit {0}} (Err why) ≡ ending.ThreadFault → 1 ≤ in'.part.sessions) → (stopped_as {A = Unit {0}} (Err why) ≡ ending.NoMemory → in'.part.sessions < sessions_in s)
+        → IsWritten (stopped_as {A = Unit {0}} (Err why)) (is_lack {A = Unit {0}} (Err why)) Failed (all_tolds so_far.parts) in'.part.tolds old new → IsPlayedTo {A = Unit {0}} apps statements os' ns' (Err why) r' old new Failed Kept
+    stops_inside why Failed other not_done in' some not_all written = record {
+      parts = so_far.parts;
+      are = parts_so (IsCarriedIn (heads_of apps) r) (IsCarriedIn (heads_of apps) r') (carried_still apps r r' in'.part.sessions in'.sessions) apps 1 statements so_far.parts so_far.are;
+      cut = Some in'.part;
+      sessions = in'.sessions.count ∙ ap (λ (n : ℕ). n + in'.part.sessions) so_far.sessions;
+      cut_is = subst (λ (o : Option Statement). IsSomeAnd o (λ (x : Statement). IsCut (IsCarriedIn (heads_of apps) r') (all_sessions so_far.parts + 1) x in'.part)) (sym at_parts)
+          (subst (λ (n : ℕ). IsCut (IsCarriedIn (heads_of apps) r') n s in'.part) (ap (λ (n : ℕ). n + 1) so_far.sessions) in'.is);
+      outcomes_are = in'.kept.outcomes_are ∙ ap (λ (l : List Outcome). l ++ in'.part.outcomes) so_far.outcomes_are;
+      short_are = in'.kept.short_are ∙ ap (λ (l : List ℕ). l ++ in'.part.short) so_far.short_are;
+      more = [];
+      none_more = λ all. refl;
+      none_inside = refl;
+      none_at_a_write = λ at_a_write. absurd (other at_a_write);
+      none_when_done = λ done. absurd (not_done done);
+      at_a_start = λ refused. inr (some refused);
+      before_last = λ lacks. subst (λ (o : Option Statement). IsSomeAnd o (λ (x : Statement). in'.part.sessions < sessions_in x)) (sym at_parts) (not_all lacks);
+      lacks_inside = λ refused lacks. tt;
+      done = done_then (all_steps so_far.parts) [] r r' so_far.done_so in'.does;
+      written = written;
+      sink = λ another none. absurd (cc none);
+    }
+
+    -- ---- it has none
+    stops_before : (why : Stop) (Failed Kept1 : Type 0) → (Kept0 → Kept1 → Kept) → stopped_as {A = Unit {0}} (Err why) ≢ ending.WriteFault → stopped_as {A = Unit {0}} (Err why) ≢ ending.Done → (stopped_as {A = Unit {0}} (Err why) ≡ ending.ThreadFault → IsLaunch s)
+        → (stopped_as {A = Unit {0}} (Err why) ≡ ending.ThreadFault → is_lack {A = Unit {0}} (Err why) ≡ true → ⊥) → (short : StopsShort os os' ns ns' r r' mid new Kept1)
+        → IsWritten (stopped_as {A = Unit {0}} (Err why)) (is_lack {A = Unit {0}} (Err why)) ⊥ (first_tolds so_far.parts None) (last_tolds so_far.parts None) old new → IsPlayedTo {A = Unit {0}} apps statements os' ns' (Err why) r' old new Failed Kept
+    stops_before why Failed Kept1 joined other not_done launch not_lacking short written =
+        let still = no_sessions_more r r' short.sessions in
+        record {
+          parts = so_far.parts;
+          are = parts_so (IsCarriedIn (heads_of apps) r) (IsCarriedIn (heads_of apps) r') (carried_still apps r r' 0 still) apps 1 statements so_far.parts so_far.are;
+          cut = None;
+          sessions = still.count ∙ ap (λ (n : ℕ). n + 0) so_far.sessions;
+          cut_is = tt;
+          outcomes_are = short.same ∙ so_far.outcomes_are ∙ sym (append-nil (all_outcomes so_far.parts));
+          short_are = short.same_short ∙ so_far.short_are ∙ sym (append-nil (all_short so_far.parts));
+          more = short.steps;
+          none_more = λ all. absurd (omega (arith, all, slice_get_within statements (length so_far.parts) s at_parts));
+          none_inside = tt;
+          none_at_a_write = λ at_a_write. absurd (other at_a_write);
+          none_when_done = λ done. absurd (not_done done);
+          at_a_start = λ refused. inl (subst (λ (o : Option Statement). IsSomeAnd o IsLaunch) (sym at_parts) (launch refused));
+          before_last = λ lacks. tt;
+          lacks_inside = λ refused lacks. absurd (not_lacking refused lacks);
+          done = done_then (all_steps so_far.parts) short.steps r r' so_far.done_so short.does;
+          written = written;
+          sink = λ another none. joined so_far.sink short.sink;
+        }
+
+    all_written : {Kept1 : Type 0} → StopsShort os os' ns ns' r r' mid new Kept1 → Appends old new (text_of (first_tolds so_far.parts None) ++ text_of (last_tolds so_far.parts None))
+    all_written short = in_two so_far.parts old new (Appends-no_more old mid new (text_of (all_tolds so_far.parts)) so_far.written short.written)
+
+    left : (last : List Told) (lacks : Bool) (Failed1 Failed : Type 0) → (Failed1 → Failed) → IsLeft lacks Failed1 [] last mid new → IsLeft lacks Failed (all_tolds so_far.parts) last old new
+    left last lacks Failed1 Failed failed is = left_behind (all_tolds so_far.parts) last old mid new so_far.written lacks Failed1 Failed failed is
+
+    module _ (Failed1 Failed Kept1 : Type 0) (failed : Failed1 → Failed) (joined : Kept0 → Kept1 → Kept) where
+      pub play_stops : (why : Stop) → HasStepped apps s os os' ns ns' r r' mid new Failed1 Kept1 {A = Unit {0}} (Err why) → IsPlayedTo {A = Unit {0}} apps statements os' ns' (Err why) r' old new Failed Kept
+      play_stops stop.WriteFault on =
+          stops_behind on stop.WriteFault Failed (λ refused. absurd (cc refused)) (λ done. absurd (cc done)) (cut_behind (all_tolds so_far.parts) on.part.tolds old mid new so_far.written on.written) (λ other. absurd (other refl))
+      play_stops (stop.ThreadFault lacks) (inl (launch, by_main, short)) =
+          stops_before (stop.ThreadFault lacks) Failed Kept1 joined (λ at_a_write. absurd (cc at_a_write)) (λ done. absurd (cc done)) (λ refused. launch)
+          (λ refused so. let bad : false ≡ true = sym by_main ∙ so in absurd (cc bad)) short (inl (all_written short))
+      play_stops (stop.ThreadFault lacks) (inr in') =
+          stops_inside (stop.ThreadFault lacks) Failed (λ at_a_write. absurd (cc at_a_write)) (λ done. absurd (cc done)) in' (λ refused. in'.far) (λ no_memory. absurd (cc no_memory)) (left in'.part.tolds lacks Failed1 Failed failed in'.written)
+      play_stops stop.NoMemory (inl short) =
+          stops_before stop.NoMemory Failed Kept1 joined (λ at_a_write. absurd (cc at_a_write)) (λ done. absurd (cc done)) (λ refused. absurd (cc refused)) (λ refused so. absurd (cc refused)) short (inl (all_written short))
+      play_stops stop.NoMemory (inr (inl on)) =
+          stops_behind on stop.NoMemory Failed (λ refused. absurd (cc refused)) (λ done. absurd (cc done)) (inr (inl (refl, front_behind (all_tolds so_far.parts) on.part.tolds old mid new so_far.written on.written.0))) (λ other. joined so_far.sink on.written.1)
+      play_stops stop.NoMemory (inr (inr in')) =
+          stops_inside stop.NoMemory Failed (λ at_a_write. absurd (cc at_a_write)) (λ done. absurd (cc done)) in' (λ refused. absurd (cc refused)) (λ no_memory. in'.far) (left in'.part.tolds true Failed1 Failed failed in'.written)
+
+  -- behind the last one
+  pub play_ends : {A : Type 0} (x : A) (os : List Outcome) (ns : List ℕ) (r : Run) (old new : Option (List ℕ)) (Failed Kept : Type 0) → IsPlayedSoFar apps statements os ns (length statements) r old new Kept → IsPlayedTo {A = A} apps statements os ns (Ok x) r old new Failed Kept
+  play_ends x os ns r old new Failed Kept so_far = record {
+    parts = so_far.parts;
+    are = so_far.are;
+    cut = None;
+    sessions = so_far.sessions ∙ plus_nothing (all_sessions so_far.parts);
+    cut_is = tt;
+    outcomes_are = so_far.outcomes_are ∙ sym (append-nil (all_outcomes so_far.parts));
+    short_are = so_far.short_are ∙ sym (append-nil (all_short so_far.parts));
+    more = [];
+    none_more = λ all. refl;
+    none_inside = tt;
+    none_at_a_write = λ at_a_write. (refl, refl);
+    none_when_done = λ done. (so_far.count, refl);
+    at_a_start = λ refused. absurd (cc refused);
+    before_last = λ lacks. tt;
+    lacks_inside = λ refused lacks. absurd (cc refused);
+    done = subst (λ (steps : List Step). HasDoneSoFar steps r) (sym (append-nil (all_steps so_far.parts))) so_far.done_so;
+    written = in_two so_far.parts old new so_far.written;
+    sink = λ other none. so_far.sink;
+  }
+
+-- where a session or a looper found no memory, it is not done, and each line was written
+pub written_at_end : {A : Type 0} (played : Result A Stop) (lacked lacks : Bool) (Failed : Type 0) (before last : List Told) (old new : Option (List ℕ)) → lacks ≡ is_lack played → IsWritten (stopped_as played) (is_lack played) Failed before last old new → IsWritten (ended_as played lacked) lacks Failed before last old new
+written_at_end (Ok x) true lacks Failed before last old new is written = inl written
+written_at_end (Ok x) false lacks Failed before last old new is written = written
+written_at_end (Err stop.WriteFault) lacked lacks Failed before last old new is written = written
+written_at_end (Err (stop.ThreadFault by_main)) lacked lacks Failed before last old new is written = subst (λ (b : Bool). IsLeft b Failed before last old new) (sym is) written
+written_at_end (Err stop.NoMemory) lacked lacks Failed before last old new is written = subst (λ (b : Bool). IsLeft b Failed before last old new) (sym is) written

@@ -1,5 +1,5 @@
 -- What a send came to that was not written.
-use Rattle.std.proofs.Common.{◌≡◌, ℕ, ◌-◌, ◌<◌, List, length, false, Some, Ok, Err, refl, sym, ap, subst, arith}
+use Rattle.std.proofs.Common.{◌≡◌, ◌≢◌, ℕ, ◌-◌, ◌<◌, List, length, false, Some, Ok, Err, refl, sym, ap, subst, arith}
 use Rattle.std.proofs.lemmas.List.{length_push}
 use Rattle.std.specs.Prelude.{Result}
 use Rattle.ak_base.specs.declared.error.KitError.{KitError}
@@ -24,12 +24,14 @@ use Rattle.ak_print.specs.declared.told.Told.TheVariants as told
 use Rattle.ak_run.specs.declared.run.Run.{Run}
 use Rattle.ak_run.specs.Recording.{fronts_of, list_at}
 use Rattle.ak_messenger.specs.Sends.{item_in}
-use Rattle.ak_run.specs.Doing.{Answered, AskedSo, DoesSo, EntersLast, PostedSo, RefusedBy}
-use Rattle.ak_play.specs.declared.came.Came.{Came}
-use Rattle.ak_play.specs.declared.outcome.Outcome.{Outcome}
-use Rattle.ak_play.specs.declared.outcome.Outcome.TheVariants as came
-use Rattle.ak_play.specs.Blocks.{error_of, hey_item}
-use Rattle.ak_play.specs.Came.{IsAsked, IsEnveloped, IsRefusal, IsRefusedAs, IsSent, MayCome, MayRefuse, post_envelope}
+use Rattle.ak_run.specs.Doing.{AskedSo, DoesSo, EntersLast, PostedSo, RefusedBy}
+use Rattle.ak_session.specs.Doing.{Answered}
+use Rattle.ak_lines.specs.declared.came.Came.{Came}
+use Rattle.ak_lines.specs.declared.outcome.Outcome.{Outcome}
+use Rattle.ak_lines.specs.declared.outcome.Outcome.TheVariants as came
+use Rattle.ak_lines.specs.Blocks.{error_of, hey_item}
+use Rattle.ak_play.specs.Came.{IsAsked, IsSent, MayCome}
+use Rattle.ak_lines.specs.Came.{IsEnveloped, IsRefusal, IsRefusedAs, MayRefuse, post_envelope}
 use Rattle.ak_play.proofs.Doing.{does_as}
 
 -- the item of a hey line
@@ -55,15 +57,15 @@ module _ (looper : ℕ) (r' : Run) where
   refused_as P why (Err e) is holds Q tells = absurd is
 
   -- ---- asks
-  ask_refused : (h : Hey) (e : PortEvent) (why : KitError) (steps : List Step) (result : Result Came NoMemory) → error_of e ≡ Some why → RefusedBy looper (hey_item h) e r' steps → IsRefusedAs looper seen why result → MayCome (IsAsked h looper) result steps
-  ask_refused h e why steps result why_is by is =
+  ask_refused : (h : Hey) (e : PortEvent) (why : KitError) (steps : List Step) (result : Result Came NoMemory) → error_of e ≡ Some why → why ≢ error.WouldBlock → RefusedBy looper (hey_item h) e r' steps → IsRefusedAs looper seen why result → MayCome (IsAsked h looper) result steps
+  ask_refused h e why steps result why_is waited by is =
       refused_as (λ o t. IsAsked h looper o t steps) why result is
-      (refl, record { at_is = refl; e = e; why_is = why_is; withdraws = by.withdraws; enters = by.refused.enters; place_is = last_place e by.withdraws.refused by.refused })
+      (refl, record { at_is = refl; e = e; why_is = why_is; waited = waited; withdraws = by.withdraws; enters = by.refused.enters; place_is = last_place e by.withdraws.refused by.refused })
       (λ made. MayCome (IsAsked h looper) made steps) (λ c holds. holds)
 
   pub ask_came : (h : Hey) (why : SendFault) (steps : List Step) (result : Result Came NoMemory) → AskedSo looper (hey_item h) (Err why) r' steps → IsRefusal looper seen why result → MayCome (IsAsked h looper) result steps
-  ask_came h fault.BadPort steps result asked is = ask_refused h event.Refused error.BadPortId steps result refl asked is
-  ask_came h fault.Spent steps result asked is = ask_refused h event.Spent error.Spent steps result refl asked is
+  ask_came h fault.BadPort steps result asked is = ask_refused h event.Refused error.BadPortId steps result refl (λ same. absurd (cc same)) asked is
+  ask_came h fault.Spent steps result asked is = ask_refused h event.Spent error.Spent steps result refl (λ same. absurd (cc same)) asked is
   ask_came h fault.TooLong steps result asked is = absurd is
   ask_came h fault.NoMemory steps (Ok c) asked is = absurd is
   ask_came h fault.NoMemory steps (Err e) asked is = tt

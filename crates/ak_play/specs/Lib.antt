@@ -1,4 +1,6 @@
 pub mod Blocks
 pub mod Came
+pub mod Parts
 pub mod Play
+pub mod Sessions
 pub mod Steps

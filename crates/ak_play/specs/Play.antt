@@ -1,5 +1,5 @@
--- A script that was carried out: what main did for its statements, and what was written of them.
-use Rattle.std.specs.Prelude.{◌≡◌, ◌≢◌, ◌≤◌, ◌<◌, ◌+◌, ◌⊎◌, ℕ, true, false, List, [], ◌∷◌, ◌++◌, length, slice_get, take, All, IsSomeAnd, Option}
+-- A script that was carried out: what main and the sessions did for its statements, and what was written of them.
+use Rattle.std.specs.Prelude.{◌≡◌, ◌≢◌, ◌≤◌, ◌<◌, ◌+◌, ◌⊎◌, ℕ, Bool, true, false, List, [], ◌∷◌, ◌++◌, length, slice_get, take, All, IfSome, IsSomeAnd, Option, None, Some}
 use Rattle.std.specs.List.{flat_map}
 use Rattle.std.specs.Io.KnownBytes.{Appends}
 use Rattle.ak_base.specs.declared.ending.Ending.{Ending}
@@ -7,41 +7,66 @@ use Rattle.ak_base.specs.declared.ending.Ending.TheVariants as ending
 use Rattle.ak_base.specs.Thread.{main_thread}
 use Rattle.ak_flatten.specs.Laws.{Spells}
 use Rattle.ak_turn.specs.Noted.{StandsIn}
+use Rattle.ak_roster.specs.declared.head.AppHead.{AppHead}
 use Rattle.ak_describe.specs.Whole.{heads_of}
 use Rattle.ak_describe.specs.declared.described.AppText.{AppText}
 use Rattle.ak_diary.specs.declared.histories.Histories.{Histories}
 use Rattle.ak_diary.specs.Step.{AreStamped, Step, desk_entries}
 use Rattle.ak_headline.specs.Answers.{GotOneReply}
 use Rattle.ak_headline.specs.Main.{IsMainDiary}
-use Rattle.ak_headline.specs.Run.{HasDone, desk_list}
+use Rattle.ak_headline.specs.Run.{HasDone, IsRunWith, desk_list}
 use Rattle.ak_print.specs.declared.told.Told.{Told}
 use Rattle.ak_print.specs.declared.told.Told.TheVariants as told
 use Rattle.ak_print.specs.Told.{told_line}
 use Rattle.ak_run.specs.AtEnd.{IsClosing}
 use Rattle.ak_script.specs.declared.statement.Statement.{Statement}
-use Rattle.ak_play.specs.declared.outcome.Outcome.{Outcome}
-use Rattle.ak_play.specs.declared.outcome.Outcome.TheVariants as came
+use Rattle.ak_lines.specs.declared.outcome.Outcome.{Outcome}
+use Rattle.ak_lines.specs.declared.outcome.Outcome.TheVariants as came
 use Rattle.ak_play.specs.declared.run_end.RunEnd.{RunEnd}
 use Rattle.ak_play.specs.declared.run_end.Short.{Short}
-use Rattle.ak_play.specs.Blocks.{AreBlocks, IsLaunch}
+use Rattle.ak_play.specs.Blocks.{IsLaunch}
+use Rattle.ak_play.specs.Parts.{AreParts, IsCut, Part, all_outcomes, all_sessions, all_short, all_steps, all_tolds, sessions_in}
+use Rattle.ak_play.specs.Sessions.{HasCarried}
 
-abbrev pub all_steps : List (List Step) → List Step
-all_steps blocks = flat_map (λ (block : List Step). block) blocks
+-- ---- what was done
+-- a block that was cut, if there is one, gives no more than its own
+abbrev pub cut_outcomes : Option Part → List Outcome
+cut_outcomes None = []
+cut_outcomes (Some part) = part.outcomes
 
--- Main's diary is the blocks of the first statements, in order, then what it did for the statement at which it stopped, which is nothing where each
--- was carried out, and then the end of the run. The diary has all that main made at the roster, at the reply book, at each port and at each desk,
--- and its entries have the stamps that are due, from 0 on
-pub record HasPlayed (apps : List AppText) (statements : List Statement) (outcomes : List Outcome) (tolds : List Told) (h : Histories) : Type 0 where
-  pub blocks : List (List Step)
-  pub are : AreBlocks apps statements outcomes tolds blocks
+abbrev pub cut_tolds : Option Part → List Told
+cut_tolds None = []
+cut_tolds (Some part) = part.tolds
+
+abbrev pub cut_sessions : Option Part → ℕ
+cut_sessions None = 0
+cut_sessions (Some part) = part.sessions
+
+abbrev pub cut_short : Option Part → List ℕ
+cut_short None = []
+cut_short (Some part) = part.short
+
+-- Each of the first statements has its part. Main's diary is the steps of these, in order, then what it did for the statement at which it
+-- stopped, which is nothing where each was carried out, and then the end of the run. The diary has all that main made at the roster, at the reply
+-- book, at each port and at each desk, and its entries have the stamps that are due, from 0 on. The statement at which it stopped may be a block
+-- of which some sessions were carried out
+pub record HasPlayed (apps : List AppText) (statements : List Statement) (outcomes : List Outcome) (tolds : List Told) (short : List ℕ) (h : Histories) : Type 0 where
+  pub parts : List Part
+  pub are : AreParts (HasCarried (heads_of apps) h) apps 1 statements parts
+  pub cut : Option Part
+  pub cut_is : IfSome cut (λ (part : Part). IsSomeAnd (slice_get statements (length parts)) (λ (s : Statement). IsCut (HasCarried (heads_of apps) h) (all_sessions parts + 1) s part))
+  pub outcomes_are : outcomes ≡ all_outcomes parts ++ cut_outcomes cut
+  pub tolds_are : tolds ≡ all_tolds parts ++ cut_tolds cut
+  pub short_are : short ≡ all_short parts ++ cut_short cut
   pub stopped : List Step
-  pub none_stopped : length outcomes ≡ length statements → stopped ≡ []
+  pub none_stopped : length parts ≡ length statements → stopped ≡ []
+  pub none_inside : IfSome cut (λ (part : Part). stopped ≡ [])
   pub closing : List Step
-  pub closes : IsClosing (heads_of apps) (all_steps blocks ++ stopped) h closing
-  pub diary : IsMainDiary (all_steps blocks ++ (stopped ++ closing))
-  pub stamped : AreStamped 0 (all_steps blocks ++ (stopped ++ closing))
-  pub done : HasDone h main_thread (all_steps blocks ++ (stopped ++ closing))
-  pub edits : (looper : ℕ) → All (StandsIn (desk_list h looper)) (desk_entries looper (all_steps blocks))
+  pub closes : IsClosing (heads_of apps) (all_steps parts ++ stopped) h closing
+  pub diary : IsMainDiary (all_steps parts ++ (stopped ++ closing))
+  pub stamped : AreStamped 0 (all_steps parts ++ (stopped ++ closing))
+  pub done : HasDone h main_thread (all_steps parts ++ (stopped ++ closing))
+  pub edits : (looper : ℕ) → All (StandsIn (desk_list h looper)) (desk_entries looper (all_steps parts))
 
 -- each reply that is told is the one that the slot got, which the rules make
 abbrev pub IsReplyOf : List ℕ → Histories → Outcome → Told → Type 0
@@ -56,53 +81,83 @@ AreReplies short h _ _ = Unit {0}
 abbrev pub text_of : List Told → List ℕ
 text_of tolds = flat_map told_line tolds
 
--- the last line was written in part
-pub record IsCut (tolds : List Told) (old new : Option (List ℕ)) : Type 0 where
+-- one of the last lines was written in part, and none behind it
+pub record IsCutText (before last : List Told) (old new : Option (List ℕ)) : Type 0 where
   pub front : List Told
-  pub last : Told
-  pub tolds_are : tolds ≡ front ++ last ∷ []
+  pub line : Told
+  pub behind : List Told
+  pub last_is : last ≡ front ++ line ∷ behind
   pub part : ℕ
-  pub short : part < length (told_line last)
-  pub written : Appends old new (text_of front ++ take part (told_line last))
+  pub short : part < length (told_line line)
+  pub written : Appends old new (text_of before ++ (text_of front ++ take part (told_line line)))
 
--- the last line may be missing
-pub record IsStopped (tolds : List Told) (old new : Option (List ℕ)) : Type 0 where
+-- of the last lines, which are those of one statement, the first ones were written
+pub record IsFrontText (before last : List Told) (old new : Option (List ℕ)) : Type 0 where
   pub lines : ℕ
-  pub most : length tolds ≤ lines + 1
-  pub written : Appends old new (text_of (take lines tolds))
+  pub most : lines ≤ length last
+  pub written : Appends old new (text_of before ++ text_of (take lines last))
 
-abbrev pub IsWritten : Ending → List Told → Option (List ℕ) → Option (List ℕ) → Type 0
-IsWritten ending.Done tolds old new = Appends old new (text_of tolds)
-IsWritten ending.ThreadFault tolds old new = Appends old new (text_of tolds)
-IsWritten ending.NoMemory tolds old new = IsStopped tolds old new
-IsWritten ending.WriteFault tolds old new = IsCut tolds old new
-IsWritten _ tolds old new = ⊥
+-- Where it did not end at a write: all; or the first ones, where main found no memory; or, of a block that was cut, as far as a write that failed
+abbrev pub IsLeft : Bool → Type 0 → List Told → List Told → Option (List ℕ) → Option (List ℕ) → Type 0
+IsLeft lacks Failed before last old new =
+    Appends old new (text_of before ++ text_of last) ⊎ (((lacks ≡ true) × IsFrontText before last old new) ⊎ (Failed × IsCutText before last old new))
+
+-- all lines before those of the last statement are written, and of the last ones
+abbrev pub IsWritten : Ending → Bool → Type 0 → List Told → List Told → Option (List ℕ) → Option (List ℕ) → Type 0
+IsWritten ending.Done lacks Failed before last old new = Appends old new (text_of before ++ text_of last)
+IsWritten ending.ThreadFault lacks Failed before last old new = IsLeft lacks Failed before last old new
+IsWritten ending.NoMemory lacks Failed before last old new = IsLeft lacks Failed before last old new
+IsWritten ending.WriteFault lacks Failed before last old new = IsCutText before last old new
+IsWritten _ lacks Failed before last old new = ⊥
+
+-- the last lines are those of the last part: that of the block that was cut, or of the last statement that was carried out
+abbrev pub last_tolds : List Part → Option Part → List Told
+last_tolds parts (Some part) = part.tolds
+last_tolds [] None = []
+last_tolds (part ∷ []) None = part.tolds
+last_tolds (part ∷ parts) None = last_tolds parts None
+
+abbrev pub first_tolds : List Part → Option Part → List Told
+first_tolds parts (Some part) = all_tolds parts
+first_tolds [] None = []
+first_tolds (part ∷ []) None = []
+first_tolds (part ∷ parts) None = part.tolds ++ first_tolds parts None
 
 -- ---- the end of a run
--- who found no memory: main, and which loopers
+-- who found no memory: main, which sessions, and which loopers
 abbrev pub IsShort : Short → Type 0
-IsShort s = (s.main ≡ true) ⊎ (s.loopers ≢ [])
+IsShort s = (s.main ≡ true) ⊎ ((s.sessions ≢ []) ⊎ (s.loopers ≢ []))
 
--- The run of these statements: what main did for them, what was written, and whose replies were told
-pub record IsPlay (apps : List AppText) (statements : List Statement) (end : Ending) (run : RunEnd) (old new : Option (List ℕ)) : Type 0 where
+-- it is a run of some sessions
+pub record IsRunOf (heads : List AppHead) (run : RunEnd) : Type 0 where
+  pub sessions : ℕ
+  pub is : IsRunWith sessions heads run.short.loopers run.histories
+
+-- The run of these statements: what main and the sessions did for them, what was written, and whose replies were told. Failed says that a write
+-- failed, Kept that none did
+pub record IsPlay (apps : List AppText) (statements : List Statement) (end : Ending) (run : RunEnd) (old new : Option (List ℕ)) (Failed Kept : Type 0) : Type 0 where
   pub tolds : List Told
-  pub played : HasPlayed apps statements run.outcomes tolds run.histories
-  pub written : IsWritten end tolds old new
-  -- where main found memory no line is missing
-  pub all_lines : run.short.main ≡ false → end ≡ ending.NoMemory → Appends old new (text_of tolds)
+  pub played : HasPlayed apps statements run.outcomes tolds run.short.sessions run.histories
+  -- it is a run of these sessions, and of no others
+  pub run_of : IsRunWith (all_sessions played.parts + cut_sessions played.cut) (heads_of apps) run.short.loopers run.histories
+  -- a write that failed is its end, or one of the lines of a block that was cut
+  pub written : IsWritten end run.short.main (IsSomeAnd played.cut (λ (part : Part). Failed)) (first_tolds played.parts played.cut) (last_tolds played.parts played.cut) old new
+  pub sink : end ≢ ending.WriteFault → played.cut ≡ None → Kept
   pub replies : AreReplies run.short.loopers run.histories run.outcomes tolds
-  -- it is done only where each statement has its outcome
-  pub whole : end ≡ ending.Done → length run.outcomes ≡ length statements
+  -- it is done only where each statement has its part
+  pub whole : end ≡ ending.Done → length played.parts ≡ length statements
   -- so it is where main found memory, no write failed and each thread was started
-  pub whole_by_main : run.short.main ≡ false → end ≢ ending.WriteFault → end ≢ ending.ThreadFault → length run.outcomes ≡ length statements
-  -- a thread that was not started is one of the launch that comes next
-  pub at_a_launch : end ≡ ending.ThreadFault → IsSomeAnd (slice_get statements (length run.outcomes)) IsLaunch
-  -- where main found memory, and each thread was started, main did nothing for a statement without an outcome
-  pub stopped_nowhere : run.short.main ≡ false → end ≢ ending.ThreadFault → played.stopped ≡ []
+  pub whole_by_main : run.short.main ≡ false → end ≢ ending.WriteFault → end ≢ ending.ThreadFault → length played.parts ≡ length statements
+  -- a thread that was not started is one of the launch that comes next, or that of the last session that was carried out of a block
+  pub at_a_start : end ≡ ending.ThreadFault → IsSomeAnd (slice_get statements (length played.parts)) IsLaunch ⊎ IsSomeAnd played.cut (λ (part : Part). 1 ≤ part.sessions)
+  -- where memory ran out in a block, a session of it was not carried out
+  pub before_last : end ≡ ending.NoMemory → IfSome played.cut (λ (part : Part). IsSomeAnd (slice_get statements (length played.parts)) (λ (s : Statement). part.sessions < sessions_in s))
+  -- where main found memory, and each thread was started, main did nothing for a statement without a part, and no block was cut
+  pub stopped_nowhere : run.short.main ≡ false → end ≢ ending.ThreadFault → (played.stopped ≡ []) × (played.cut ≡ None)
   -- and nobody found no memory; where memory ran out, somebody did
   pub short : IsShort run.short → end ≢ ending.Done
   pub ran_short : end ≡ ending.NoMemory → IsShort run.short
-  pub main_short : run.short.main ≡ true → end ≡ ending.NoMemory
+  pub main_short : run.short.main ≡ true → (end ≡ ending.NoMemory) ⊎ ((end ≡ ending.ThreadFault) × IsSomeAnd played.cut (λ (part : Part). Unit {0}))
 
 -- the endings of a script that is carried out
 abbrev pub IsPlayEnding : Ending → Type 0

@@ -8,10 +8,9 @@ ghost use Rattle.ak_run.specs.Doing.{DoesSo};
 ghost use Rattle.ak_play.specs.Blocks.{IsHeyBlock};
 ghost use Rattle.ak_play.specs.Came.{IsAsked, MayCome};
 
-use crate::came::Came;
-use crate::outcome::Outcome;
 use crate::refusing::{envelope, refusal};
 use ak_base::NoMemory;
+use ak_lines::{Came, Outcome};
 use ak_message::Target;
 use ak_print::Told;
 use ak_run::{Found, Run};

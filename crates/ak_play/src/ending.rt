@@ -1,37 +1,29 @@
 //! The end of a run of statements.
-ghost use Rattle.std.specs.Prelude.{◌≡◌, ◌≤◌, List, [], length};
+ghost use Rattle.std.specs.Prelude.{◌≡◌, ◌≤◌, List, true};
 ghost use Rattle.ak_describe.specs.Whole.{AreWholeApps, heads_of};
 ghost use Rattle.ak_diary.specs.Step.{Step};
 ghost use Rattle.ak_headline.specs.Headline.{EachGotOneReply, EachLooper, IsAccounted, IsByRule};
-ghost use Rattle.ak_headline.specs.Run.{IsRun};
+ghost use Rattle.ak_headline.specs.Run.{IsRunWith};
 ghost use Rattle.ak_run.specs.Running.{IsRunning};
-ghost use Rattle.ak_run.specs.Sessions.{sessions_of};
+ghost use Rattle.ak_run.specs.Sessions.{all_closed, session_count};
 ghost use Rattle.ak_script.specs.Limits.{statement_limit};
-ghost use Rattle.ak_run.specs.AtEnd.{DoneAtEnd};
+ghost use Rattle.ak_script.specs.Statement.{lines_in};
+ghost use Rattle.ak_script.specs.StatementSeen.{statements_seen};
+ghost use Rattle.ak_run.specs.AtEnd.{DoneAtEnd, SessionsDone};
 ghost use Rattle.ak_run.specs.Doing.{HasDoneSoFar};
 ghost use Rattle.ak_run.specs.Opened.{WereOpened};
-ghost use Rattle.ak_play.specs.Steps.{ended_as, is_any, is_lack};
+ghost use Rattle.ak_play.specs.Steps.{any_short, ended_as, is_lack};
 
-use crate::outcome::Outcome;
 use crate::run_end::{RunEnd, Short};
-use crate::stop::Stop;
+use crate::stop::{Stop, is_lack};
 use ak_base::{Ending, Items};
+use ak_lines::Outcome;
 use ak_run::{Ended, Run};
 use ak_script::{Script, Statement};
 use std::sync::Wait;
 use std::thread::Threads;
 
-// Whether main found no memory.
-fn is_lack(played: &Result<(), Stop>) -> bool
-    ensures { result ≡ is_lack played.now }
-{
-    match played {
-        Ok(()) | Err(Stop::WriteFault | Stop::ThreadFault) => false,
-        Err(Stop::NoMemory) => true,
-    }
-}
-
-// How it ended: done, unless a looper found no memory.
+// How it ended: done, unless a session or a looper found no memory.
 fn ending_of(played: Result<(), Stop>, lacked: bool) -> Ending
     ensures { result ≡ ended_as played lacked }
 {
@@ -39,7 +31,7 @@ fn ending_of(played: Result<(), Stop>, lacked: bool) -> Ending
         Ok(()) if lacked => Ending::NoMemory,
         Ok(()) => Ending::Done,
         Err(Stop::WriteFault) => Ending::WriteFault,
-        Err(Stop::ThreadFault) => Ending::ThreadFault,
+        Err(Stop::ThreadFault { .. }) => Ending::ThreadFault,
         Err(Stop::NoMemory) => Ending::NoMemory,
     }
 }
@@ -50,14 +42,16 @@ pub(crate) fn finish<R: Threads + Wait>(
     run: Run,
     statements: Vec<Statement>,
     outcomes: Vec<Outcome>,
+    short: Vec<u32>,
     played: Result<(), Stop>,
 ) -> (RunEnd, Ending)
     requires running { IsRunning run }
-    requires sessions { sessions_of run ≡ [] }
+    requires closed { all_closed run ≡ true }
     requires whole { ∥ AreWholeApps run.apps.items ∥₁ }
-    requires few { length statements.items ≤ statement_limit }
-    ensures ending { result.1 ≡ ended_as played (is_any result.0.short.loopers) }
-    ensures run { IsRun (heads_of run.apps.items) result.0.short.loopers result.0.histories }
+    requires few { lines_in (statements_seen statements.items) ≤ statement_limit }
+    ensures ending { result.1 ≡ ended_as played (any_short result.0.short) }
+    ensures run { IsRunWith (session_count run) (heads_of run.apps.items) result.0.short.loopers result.0.histories }
+    ensures sessions { SessionsDone run result.0.histories }
     ensures accepted { EachLooper result.0.histories IsAccounted }
     ensures dispatched { EachLooper result.0.histories IsByRule }
     ensures answered { EachGotOneReply result.0.short.loopers result.0.histories }
@@ -66,21 +60,23 @@ pub(crate) fn finish<R: Threads + Wait>(
     ensures statements { result.0.script.statements.items ≡ statements.items }
     ensures outcomes { result.0.outcomes ≡ outcomes.items }
     ensures short { result.0.short.main ≡ is_lack played }
+    ensures short_sessions { result.0.short.sessions ≡ short.items }
     ensures did { (steps : List Step) → HasDoneSoFar steps run → DoneAtEnd (heads_of run.apps.items) steps result.0.histories }
 {
     let Ended {
         apps,
         histories,
-        short,
+        short: loopers,
     } = run.end(rt);
-    let lacked = !short.as_slice().is_empty();
+    let lacked = !short.is_empty() || !loopers.as_slice().is_empty();
     let end = RunEnd {
         script: Script { apps, statements },
         outcomes: Items::from_vec(outcomes),
         histories,
         short: Short {
             main: is_lack(&played),
-            loopers: short,
+            sessions: Items::from_vec(short),
+            loopers,
         },
     };
     (end, ending_of(played, lacked))

@@ -1,15 +1,15 @@
 //! Launches.
-ghost use Rattle.std.specs.Prelude.{◌≡◌, ◌≤◌, IsErrOf};
+ghost use Rattle.std.specs.Prelude.{◌≡◌, ◌≤◌, true, IsErrOf};
 ghost use Rattle.ak_outside.specs.Faults.{Rose};
 ghost use Rattle.ak_run.specs.Running.{IsRunning};
 ghost use Rattle.ak_run.specs.Sessions.{sessions_of};
 ghost use Rattle.ak_run.specs.Doing.{DoesSo};
 ghost use Rattle.ak_play.specs.Blocks.{IsLaunchBlock};
 ghost use Rattle.ak_play.specs.Came.{MayCome};
+ghost use Rattle.ak_play.specs.Steps.{IsThreadFault};
 
-use crate::came::Came;
-use crate::outcome::Outcome;
 use crate::stop::Stop;
+use ak_lines::{Came, Outcome};
 use ak_outside::{Gate, Spawner};
 use ak_print::Told;
 use ak_run::{LaunchAnswer, Run};
@@ -39,8 +39,9 @@ pub(crate) fn launch<W: Spawner, G: Gate + 'static, R: Threads + Wait + Copy + S
     requires running { IsRunning run.old }
     ensures did { DoesSo (MayCome (IsLaunchBlock run.old.apps.items launch.now) result) run.old run.new }
     ensures not_written { IsErrOf result Stop.WriteFault → ⊥ }
-    ensures cause { IsErrOf result Stop.ThreadFault → Rose (W.faults spawner.old) (W.faults spawner.new) }
-    ensures kept { ¬ (IsErrOf result Stop.ThreadFault) → W.faults spawner.new ≡ W.faults spawner.old }
+    ensures by_main { IsErrOf result (Stop.ThreadFault true) → ⊥ }
+    ensures cause { IsThreadFault result → Rose (W.faults spawner.old) (W.faults spawner.new) }
+    ensures kept { ¬ (IsThreadFault result) → W.faults spawner.new ≡ W.faults spawner.old }
     ensures never_falls { W.faults spawner.old ≤ W.faults spawner.new }
     ensures running { IsRunning run.new }
     ensures apps { run.new.apps ≡ run.old.apps }
@@ -51,7 +52,7 @@ pub(crate) fn launch<W: Spawner, G: Gate + 'static, R: Threads + Wait + Copy + S
         LaunchAnswer::Running { team, place } => Ok(launched(place, Told::Running(team))),
         LaunchAnswer::NotFound { place } => Ok(launched(place, Told::NotFound)),
         LaunchAnswer::Limit { place } => Ok(launched(place, Told::Limit)),
-        LaunchAnswer::ThreadFault => Err(Stop::ThreadFault),
+        LaunchAnswer::ThreadFault => Err(Stop::ThreadFault { lacked: false }),
         LaunchAnswer::NoMemory => Err(Stop::NoMemory),
     }
 }

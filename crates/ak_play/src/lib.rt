@@ -2,11 +2,9 @@
 #![tactic(auto)]
 
 mod asking;
-mod came;
 mod ending;
 mod launching;
 mod locking;
-mod outcome;
 mod play;
 mod posting;
 mod refusing;
@@ -15,6 +13,6 @@ mod stepping;
 mod stop;
 mod telling;
 
-pub use outcome::Outcome;
+pub use ak_lines::Outcome;
 pub use play::run_script;
 pub use run_end::{RunEnd, Short};

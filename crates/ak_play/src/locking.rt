@@ -8,9 +8,8 @@ ghost use Rattle.ak_run.specs.Doing.{DoesSo};
 ghost use Rattle.ak_play.specs.Blocks.{IsLockBlock};
 ghost use Rattle.ak_play.specs.Came.{IsLocked, MayCome};
 
-use crate::came::Came;
-use crate::outcome::Outcome;
 use ak_base::NoMemory;
+use ak_lines::{Came, Outcome};
 use ak_print::Told;
 use ak_run::{Edited, Found, Run};
 use ak_script::Lock;

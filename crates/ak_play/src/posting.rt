@@ -6,12 +6,12 @@ ghost use Rattle.ak_run.specs.Sessions.{sessions_of};
 ghost use Rattle.ak_run.specs.Sending.{looper_count};
 ghost use Rattle.ak_run.specs.Doing.{DoesSo, PostedSo};
 ghost use Rattle.ak_play.specs.Blocks.{IsPostBlock};
-ghost use Rattle.ak_play.specs.Came.{IsSent, MayCome, post_envelope};
+ghost use Rattle.ak_play.specs.Came.{IsSent, MayCome};
+ghost use Rattle.ak_lines.specs.Came.{post_envelope};
 
-use crate::came::Came;
-use crate::outcome::Outcome;
 use crate::refusing::{envelope, refusal};
 use ak_base::NoMemory;
+use ak_lines::{Came, Outcome};
 use ak_messenger::SendFault;
 use ak_print::Told;
 use ak_run::{Found, Run};

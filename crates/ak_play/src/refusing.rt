@@ -3,11 +3,10 @@ ghost use Rattle.std.specs.Prelude.{◌≡◌, ◌<◌, ◌-◌, length};
 ghost use Rattle.ak_run.specs.Recording.{fronts_of, list_at};
 ghost use Rattle.ak_run.specs.Running.{IsRunning};
 ghost use Rattle.ak_run.specs.Sending.{looper_count};
-ghost use Rattle.ak_play.specs.Came.{IsEnveloped, IsRefusal, MayRefuse};
+ghost use Rattle.ak_lines.specs.Came.{IsEnveloped, IsRefusal, MayRefuse};
 
-use crate::came::Came;
-use crate::outcome::Outcome;
 use ak_base::{KitError, NoMemory};
+use ak_lines::{Came, Outcome};
 use ak_message::Target;
 use ak_messenger::{Envelope, SendFault};
 use ak_print::Told;

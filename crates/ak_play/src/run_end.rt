@@ -1,6 +1,6 @@
-use crate::outcome::Outcome;
 use ak_base::Items;
 use ak_diary::Histories;
+use ak_lines::Outcome;
 use ak_script::Script;
 
 /// Who found no memory in a run.
@@ -8,7 +8,9 @@ use ak_script::Script;
 pub struct Short {
     /// Whether main did.
     pub main: bool,
-    /// The numbers of the loopers that did.
+    /// The numbers of the sessions that did.
+    pub sessions: Items<u32>,
+    /// Those of the loopers.
     pub loopers: Items<u32>,
 }
 
@@ -16,7 +18,7 @@ pub struct Short {
 #[derive(Drop)]
 pub struct RunEnd {
     pub script: Script,
-    /// Of the statements that were carried out, in order.
+    /// Of the statements that were carried out, in order; those of a block session by session.
     pub outcomes: Items<Outcome>,
     /// The history of each object.
     pub histories: Histories,

@@ -1,3 +1,6 @@
+ghost use Rattle.std.specs.Prelude.{◌≡◌};
+ghost use Rattle.ak_play.specs.Steps.{is_lack};
+
 use ak_base::NoMemory;
 use ak_outside::WriteFailed;
 
@@ -6,8 +9,8 @@ use ak_outside::WriteFailed;
 pub(crate) enum Stop {
     /// The line of the last statement was not written whole.
     WriteFault,
-    /// The thread of a looper could not be started.
-    ThreadFault,
+    /// A thread could not be started. Whether memory ran out then, too.
+    ThreadFault { lacked: bool },
     /// Memory ran out.
     NoMemory,
 }
@@ -31,5 +34,16 @@ impl From<WriteFailed> for Stop {
 
     fn from(_error: WriteFailed) -> Stop {
         Stop::WriteFault
+    }
+}
+
+/// Whether main found no memory.
+pub(crate) fn is_lack(played: &Result<(), Stop>) -> bool
+    ensures { result ≡ is_lack played.now }
+{
+    match played {
+        Ok(()) | Err(Stop::WriteFault) => false,
+        Err(Stop::ThreadFault { lacked }) => *lacked,
+        Err(Stop::NoMemory) => true,
     }
 }

@@ -39,11 +39,13 @@ use Rattle.ak_messenger.specs.declared.fault.SendFault.{SendFault}
 use Rattle.ak_messenger.specs.declared.fault.SendFault.TheVariants as fault
 use Rattle.ak_diary.specs.Step.{Step, at_book, at_port, at_roster, desk_entries, port_sights, saw_book, saw_port}
 use Rattle.ak_diary.specs.Turns.{FindsShut, Shuts}
-use Rattle.ak_diary.specs.Wants.{Cancels, Converses, IsRefusedBy, Withdraws}
+use Rattle.ak_diary.specs.Wants.{AsksInVain, Cancels, Converses, IsRefusedBy, Withdraws}
+use Rattle.ak_diary.specs.Wants as wants
 use Rattle.ak_headline.specs.Main.{IsMainDiary, MayEnterPort, MayEnterRoster, MayRefuse, asks, asks_in_vain, begun, enters_port, enters_roster, finds_shut, owes_no_slot}
 use Rattle.ak_looper.specs.Rosters.{Object, by_number, maker_of}
 use Rattle.ak_run.specs.declared.run.Run.{Run}
-use Rattle.ak_run.specs.Doing.{Answered, AskedSo, EnteredSo, EntersLast, RefusedBy, address_of}
+use Rattle.ak_run.specs.Doing.{AskedSo, EnteredSo, EntersLast, RefusedBy}
+use Rattle.ak_session.specs.Doing.{Answered, address_of}
 use Rattle.ak_run.specs.Entering.{AreAtPorts}
 use Rattle.ak_run.specs.Launching.{turn_step}
 use Rattle.ak_run.specs.Recording.{AddsAtPort, AreInTime, AreNotesInTime, GoesBy, fronts, fronts_of, list_at}
@@ -353,16 +355,16 @@ module _ (looper : ℕ) where
         let all = withdraws (Some e) P (λ steps is. is.enters) may n k between b1 opened refused closing in
         record { steps = all.steps; so = record { withdraws = all.so.does; refused = all.so.refused_so }; acts = all.acts; goes = all.goes }
 
-    -- whatever holds of them
-    anyhow : (P : List Step → Type 0) → ActsAtBoth looper c.time c'.time P b.front b'.front s.front s'.front → ActsAtBoth looper c.time c'.time (λ steps. Unit {0}) b.front b'.front s.front s'.front
-    anyhow P does = record { steps = does.steps; so = tt; acts = does.acts; goes = does.goes }
+    -- so it was asked in vain
+    so_in_vain : (P : List Step → Type 0) → ((steps : List Step) → P steps → AsksInVain to item steps) → ActsAtBoth looper c.time c'.time P b.front b'.front s.front s'.front → ActsAtBoth looper c.time c'.time (AsksInVain to item) b.front b'.front s.front s'.front
+    so_in_vain P turned does = record { steps = does.steps; so = turned does.steps does.so; acts = does.acts; goes = does.goes }
 
     -- memory was wanting
-    in_vain_later : (h : HasAsked item c c' b b' s s' (Err fault.NoMemory)) → (HasGivenUp item h.clock c' h.seat b' s s' h.slot fault.NoMemory ⊎ ((flat : List ℕ) × HasConversed item h.clock c' h.seat b' s s' h.slot flat)) → ActsAtBoth looper c.time c'.time (λ steps. Unit {0}) b.front b'.front s.front s'.front
+    in_vain_later : (h : HasAsked item c c' b b' s s' (Err fault.NoMemory)) → (HasGivenUp item h.clock c' h.seat b' s s' h.slot fault.NoMemory ⊎ ((flat : List ℕ) × HasConversed item h.clock c' h.seat b' s s' h.slot flat)) → ActsAtBoth looper c.time c'.time (AsksInVain to item) b.front b'.front s.front s'.front
     in_vain_later h (inl up) =
         let P : List Step → Type 0 = λ steps. steps ≡ [] in
-        anyhow (Withdrew None P) (withdraws None P (λ steps is. is) tt h.slot h.clock up.between h.seat h.opened (record { steps = []; does = refl; goes = looks_at_port h.clock up.between s s' h.seat.front port_main up.refused.looked }) up.closed)
-    in_vain_later h (inr both) = anyhow (Conversed h.slot both.0) (converses h.slot h.clock h.seat both.0 h.opened both.1)
+        so_in_vain (Withdrew None P) (λ steps w. wants.for_the_item w.does) (withdraws None P (λ steps is. is) tt h.slot h.clock up.between h.seat h.opened (record { steps = []; does = refl; goes = looks_at_port h.clock up.between s s' h.seat.front port_main up.refused.looked }) up.closed)
+    in_vain_later h (inr both) = so_in_vain (Conversed h.slot both.0) (λ steps done. wants.for_the_reply both.0 done.does) (converses h.slot h.clock h.seat both.0 h.opened both.1)
 
     nothing : (k : Clock) (a : ReplySeat) (p : PortSeat) → k ≡ c → a ≡ b → p ≡ s → ActsAtBoth looper c.time k.time (λ steps. steps ≡ []) b.front a.front s.front p.front
     nothing k a p same_clock same_book same_seat =
@@ -370,10 +372,10 @@ module _ (looper : ℕ) where
         (subst (λ (x : PortSeat). ActsAtBoth looper c.time k.time (λ steps. steps ≡ []) b.front b.front s.front x.front) (sym same_seat)
         (record { steps = []; so = refl; acts = begun; goes = adds_there looper c.time k.time [] b.front s.front s.front (sym (time_stays c k same_clock)) (starts_itself s.front) (same_port s.front) }))
 
-    in_vain : HasLackedMemory item c c' b b' s s' → ActsAtBoth looper c.time c'.time (λ steps. Unit {0}) b.front b'.front s.front s'.front
-    in_vain (asking.before_all none) = anyhow (λ steps. steps ≡ []) (nothing c' b' s' none.clock none.book none.port)
+    in_vain : HasLackedMemory item c c' b b' s s' → ActsAtBoth looper c.time c'.time (AsksInVain to item) b.front b'.front s.front s'.front
+    in_vain (asking.before_all none) = so_in_vain (λ steps. steps ≡ []) (λ steps is. wants.before_all is) (nothing c' b' s' none.clock none.book none.port)
     in_vain (asking.for_the_slot none) =
-        subst (λ (x : PortSeat). ActsAtBoth looper c.time c'.time (λ steps. Unit {0}) b.front b'.front s.front x.front) (sym none.port) (record { steps = []; so = tt; acts = begun; goes = looks_at_book c c' b b' s.front book_main none.looked.looked })
+        subst (λ (x : PortSeat). ActsAtBoth looper c.time c'.time (AsksInVain to item) b.front b'.front s.front x.front) (sym none.port) (record { steps = []; so = wants.before_all refl; acts = begun; goes = looks_at_book c c' b b' s.front book_main none.looked.looked })
     in_vain (asking.later h) = in_vain_later h h.became
 
     -- it was answered, from the slot that it opened

@@ -24,13 +24,14 @@ use Rattle.ak_diary.specs.Step.{at_desk, desk_entries}
 use Rattle.ak_headline.specs.Main.{begun, edits}
 use Rattle.ak_looper.specs.declared.door.Door.{Door}
 use Rattle.ak_looper.specs.Rosters.{RosterSeat, plain_of}
-use Rattle.ak_run.specs.declared.answers.Edited.{Edited}
-use Rattle.ak_run.specs.declared.answers.Edited.TheVariants as edited
+use Rattle.ak_session.specs.declared.answers.Edited.{Edited}
+use Rattle.ak_session.specs.declared.answers.Edited.TheVariants as edited
 use Rattle.ak_run.specs.declared.member.Member.{Member}
 use Rattle.ak_run.specs.declared.run.Run.{Run}
-use Rattle.ak_run.specs.Doing.{DoesSo, EditedSo, desk_front}
+use Rattle.ak_run.specs.Doing.{DoesSo, desk_front}
+use Rattle.ak_session.specs.Doing.{EditedSo}
 use Rattle.ak_run.specs.Recording.{AreInTime, Fronts, GoesBy, fronts, fronts_of, list_at, member_desk_front, member_front}
-use Rattle.ak_run.specs.Sending.{IsAtPlace, edited_event}
+use Rattle.ak_session.specs.Calls.{IsAtPlace, edited_event}
 use Rattle.ak_run.proofs.Acting.{called_one, seen_none}
 use Rattle.ak_run.proofs.Acts.{GoesAtBoth, adds_there, both_goes, one_act}
 use Rattle.ak_run.proofs.Calls.{desk_keeps, roster_front, there_after, there_before}

@@ -30,7 +30,7 @@ use Rattle.ak_headline.specs.Run.{roster_maker}
 use Rattle.ak_describe.specs.declared.described.AppText.{AppText}
 use Rattle.ak_port.specs.declared.port_entry.PortEntry.{PortEntry}
 use Rattle.ak_looper.specs.Rosters.{Object, RosterSeat, by_number, plain_of}
-use Rattle.ak_run.specs.declared.answers.Found.{Found}
+use Rattle.ak_session.specs.declared.answers.Found.{Found}
 use Rattle.ak_run.specs.declared.launching.Launch.{Launch}
 use Rattle.ak_run.specs.declared.launching.Launch.TheVariants as launch
 use Rattle.ak_run.specs.declared.launching.StartedTeam.{StartedTeam}
@@ -38,9 +38,11 @@ use Rattle.ak_run.specs.declared.new_looper.Shared.{Shared}
 use Rattle.ak_run.specs.declared.run.Run.{Run}
 use Rattle.ak_run.specs.Closing.{ClosesSo, EntersGone, FindsGone, IsRecordedAtRoster, LeavesBook, LeavesSo}
 use Rattle.ak_run.specs.Counting.{started_by_main}
-use Rattle.ak_run.specs.Doing.{DoesSo, FindsAt, FoundSo, LaunchesAt, desk_front}
+use Rattle.ak_run.specs.Doing.{DoesSo, LaunchesAt, desk_front}
+use Rattle.ak_session.specs.Doing.{FindsAt, FoundSo}
 use Rattle.ak_run.specs.Entering.{DoesWith, EntersLaunch, EntersRunning, LaunchesLast}
-use Rattle.ak_run.specs.Finding.{IsFoundAt, LooksUp}
+use Rattle.ak_run.specs.Finding.{LooksUp}
+use Rattle.ak_session.specs.Calls.{IsFoundAt}
 use Rattle.ak_run.specs.Greeting.{at_looper, capacities_in, made_from, start_entries, told_first, written_from}
 use Rattle.ak_run.specs.Jobs.{StartsAt, facts_in}
 use Rattle.ak_run.specs.Launching.{Book, ByMain, ComesTo, HasEntered, HasStarted, IsTurnInTime, LaunchInTime, TellsTeam, turn_step}

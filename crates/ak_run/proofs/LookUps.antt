@@ -14,9 +14,10 @@ use Rattle.ak_roster.specs.Heads.{IsHeads, team_fits, team_for}
 use Rattle.ak_roster.specs.Machine.{IsHistory, find_of, outcome_found}
 use Rattle.ak_roster.specs.Roster.{Enters, Stays, plain_entries, state}
 use Rattle.ak_looper.specs.Rosters.{Object}
-use Rattle.ak_run.specs.declared.answers.Found.{Found}
+use Rattle.ak_session.specs.declared.answers.Found.{Found}
 use Rattle.ak_run.specs.Doing.{IsStartedTeam}
-use Rattle.ak_run.specs.Finding.{IsEntered, IsFoundAt, LooksUp}
+use Rattle.ak_run.specs.Finding.{LooksUp}
+use Rattle.ak_session.specs.Calls.{IsEntered, IsFoundAt}
 use Rattle.ak_run.specs.Launching.{Book, HasEntered, IsTurnInTime}
 use Rattle.ak_run.proofs.Entering.{all_started, none_entered, none_in_time, one_entered, one_in_time, some_started}
 use Rattle.ak_run.proofs.Recorded.{one_event}

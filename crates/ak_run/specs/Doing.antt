@@ -31,15 +31,16 @@ use Rattle.ak_desk.specs.declared.entry.DeskEvent.TheVariants as desk_event
 use Rattle.ak_desk.specs.Entry.{EntryData}
 use Rattle.ak_desk.specs.Shared as at_desks
 use Rattle.ak_diary.specs.Step.{Step, at_desk, at_roster, desk_entries}
-use Rattle.ak_diary.specs.Wants.{Converses, EntersPort, Withdraws}
+use Rattle.ak_diary.specs.Wants.{AsksInVain, EntersPort, Withdraws}
 use Rattle.ak_looper.specs.Rosters.{plain_of}
 use Rattle.ak_run.specs.declared.run.Run.{Run}
 use Rattle.ak_run.specs.Greeting.{EntersEach, SendsEach, arguments_told, capacities_in, start_entries}
 use Rattle.ak_run.specs.Recording.{GoesBy, IsRecorded, fronts_of, list_at, member_desk_front}
-use Rattle.ak_run.specs.declared.answers.Found.{Found}
-use Rattle.ak_run.specs.declared.answers.Found.TheVariants as found
-use Rattle.ak_run.specs.declared.answers.Edited.{Edited}
-use Rattle.ak_run.specs.declared.answers.Edited.TheVariants as edited
+use Rattle.ak_session.specs.Doing.{Answered, address_of}
+use Rattle.ak_session.specs.declared.answers.Found.{Found}
+use Rattle.ak_session.specs.declared.answers.Found.TheVariants as found
+use Rattle.ak_session.specs.declared.answers.Edited.{Edited}
+use Rattle.ak_session.specs.declared.answers.Edited.TheVariants as edited
 use Rattle.ak_run.specs.declared.answers.LaunchAnswer.{LaunchAnswer}
 use Rattle.ak_run.specs.declared.answers.LaunchAnswer.TheVariants as answer
 
@@ -80,21 +81,7 @@ pub record DoesSo (P : List Step → Type 0) (r r' : Run) : Type 0 where
   pub does : Does steps r r'
 
 -- ---- look-ups
--- one entry, at that place, with what was found: what the roster tells there
-pub record FindsAt (heads : List AppHead) (word : AppWord) (running : Option Running) (place : ℕ) (steps : List Step) : Type 0 where
-  pub noted : Noted RosterEntry
-  pub event_is : noted.entry.event ≡ roster_event.Find word (outcome_found running)
-  pub running_is : running ≡ team_for heads (state_of heads noted.before).running word
-  pub place_is : place ≡ length noted.before
-  pub is : steps ≡ at_roster noted ∷ []
-
-abbrev pub FoundSo : List AppHead → AppWord → Found → List Step → Type 0
-FoundSo heads word (found.Team team first loopers place) steps =
-    (description : ℕ) × FindsAt heads word (Some (record { team = team; description = description; first = first; loopers = loopers })) place steps
-FoundSo heads word (found.NoTeam place) steps = FindsAt heads word None place steps
-FoundSo heads word found.NoMemory steps = steps ≡ []
-
--- it has a looper, and its loopers were started
+-- a team that was found has a looper, and its loopers were started
 abbrev pub IsStartedTeam : ℕ → Found → Type 0
 IsStartedTeam loopers_started (found.Team team first loopers place) = (1 ≤ loopers) × (first + loopers ≤ loopers_started)
 IsStartedTeam loopers_started (found.NoTeam place) = Unit {0}
@@ -154,15 +141,7 @@ EnteredSo looper r' steps (Some e) = EntersLast looper e r' steps
 abbrev pub PostedSo : ℕ → Envelope → MessageData → Result ℕ SendFault → Run → List Step → Type 0
 PostedSo looper envelope message sent r' steps = EnteredSo looper r' steps (post_event envelope message sent)
 
-abbrev pub address_of : ℕ → ItemData → Address
-address_of looper item = record { looper = looper; target = item.target }
-
--- it was answered: the slot, the item and the reply's text
-pub record Answered (looper : ℕ) (item : ItemData) (reply : Reply) (steps : List Step) : Type 0 where
-  pub converses : Converses (address_of looper item) item reply.flat steps
-  pub slot_is : converses.slot ≡ reply.slot
-
--- it was refused, by the last entry that main has seen at that port
+-- an ask was refused, by the last entry that main has seen at that port
 pub record RefusedBy (looper : ℕ) (item : ItemData) (e : PortEvent) (r' : Run) (steps : List Step) : Type 0 where
   pub withdraws : Withdraws (address_of looper item) (Some e) steps
   pub refused : EntersLast looper e r' withdraws.refused
@@ -173,17 +152,5 @@ AskedSo looper item (Ok reply) r' steps = Answered looper item reply steps
 AskedSo looper item (Err fault.BadPort) r' steps = RefusedBy looper item event.Refused r' steps
 AskedSo looper item (Err fault.Spent) r' steps = RefusedBy looper item event.Spent r' steps
 AskedSo looper item (Err fault.TooLong) r' steps = steps ≡ []
-AskedSo looper item (Err fault.NoMemory) r' steps = Unit {0}
+AskedSo looper item (Err fault.NoMemory) r' steps = AsksInVain (address_of looper item) item steps
 AskedSo looper item (Err fault.WouldBlock) r' steps = ⊥
-
--- ---- edits
--- one entry at that desk, at that place
-pub record EditsAt (looper : ℕ) (edit : Edit) (came : EditAnswer) (place : ℕ) (steps : List Step) : Type 0 where
-  pub noted : Noted EntryData
-  pub event_is : noted.entry.plain.event ≡ desk_event.Edited edit came
-  pub place_is : place ≡ length noted.before
-  pub is : steps ≡ at_desk looper noted ∷ []
-
-abbrev pub EditedSo : ℕ → Edit → Edited → List Step → Type 0
-EditedSo looper edit (edited.Entered came place) steps = EditsAt looper edit came place steps
-EditedSo looper edit edited.NoMemory steps = steps ≡ []

@@ -8,15 +8,9 @@ use Rattle.ak_roster.specs.declared.team.Running.{Running}
 use Rattle.ak_roster.specs.Heads.{team_for}
 use Rattle.ak_roster.specs.Machine.{outcome_found}
 use Rattle.ak_roster.specs.Roster.{state}
-use Rattle.ak_run.specs.declared.answers.Found.{Found}
-use Rattle.ak_run.specs.declared.answers.Found.TheVariants as found
+use Rattle.ak_session.specs.declared.answers.Found.{Found}
+use Rattle.ak_session.specs.declared.answers.Found.TheVariants as found
 use Rattle.ak_run.specs.Launching.{Book, HasEntered}
-
--- it is an entry: all but want of memory is
-abbrev pub IsEntered : FindAnswer → Type 0
-IsEntered (answer.Team team first loopers) = Unit {0}
-IsEntered answer.NoTeam = Unit {0}
-IsEntered answer.NoMemory = ⊥
 
 -- by one entry that team was found, whose loopers were started, or none
 abbrev pub LooksUp : AppWord → FindAnswer → Book → Book → Type 0
@@ -27,9 +21,3 @@ LooksUp word (answer.Team team first loopers) book book' =
     × (1 ≤ loopers) × (first + loopers ≤ length (state book).loopers)
 LooksUp word answer.NoTeam book book' = (team_for book.heads (state book).running word ≡ None) × HasEntered (Some (event.Find word (outcome_found None))) 0 book book'
 LooksUp word answer.NoMemory book book' = HasEntered None 0 book book'
-
--- the same answer, with the place of the last of so many entries
-abbrev pub IsFoundAt : FindAnswer → ℕ → Found → Type 0
-IsFoundAt (answer.Team team first loopers) seen result = (place : ℕ) × (result ≡ found.Team team first loopers place) × (seen ≡ place + 1)
-IsFoundAt answer.NoTeam seen result = (place : ℕ) × (result ≡ found.NoTeam place) × (seen ≡ place + 1)
-IsFoundAt answer.NoMemory seen result = result ≡ found.NoMemory

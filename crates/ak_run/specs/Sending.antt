@@ -12,24 +12,14 @@ use Rattle.ak_desk.specs.declared.entry.DeskEvent.TheVariants as event
 use Rattle.ak_desk.specs.declared.entry.Edit.{Edit}
 use Rattle.ak_desk.specs.Shared as desks
 use Rattle.ak_desk.specs.Shared.{DeskSeat}
-use Rattle.ak_run.specs.declared.answers.Edited.{Edited}
-use Rattle.ak_run.specs.declared.answers.Edited.TheVariants as edited
+use Rattle.ak_session.specs.declared.answers.Edited.{Edited}
+use Rattle.ak_session.specs.declared.answers.Edited.TheVariants as edited
 use Rattle.ak_run.specs.declared.member.Member.{Member}
 use Rattle.ak_run.specs.declared.run.Run.{Run}
 
 -- how many loopers were started
 abbrev pub looper_count : Run → ℕ
 looper_count r = length r.members.items
-
--- the event of an edit, where it is an entry
-abbrev pub edited_event : Edit → Edited → Option DeskEvent
-edited_event edit (edited.Entered came place) = Some (event.Edited edit came)
-edited_event edit edited.NoMemory = None
-
--- that entry is the last of so many
-abbrev pub IsAtPlace : Edited → ℕ → Type 0
-IsAtPlace (edited.Entered came place) seen = seen ≡ place + 1
-IsAtPlace edited.NoMemory seen = Unit {0}
 
 -- main's seats at the port and at the desk of the looper with that number
 abbrev pub port_seat_of : Run → ℕ → Option PortSeat

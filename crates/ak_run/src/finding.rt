@@ -3,19 +3,21 @@ ghost use Rattle.std.specs.Prelude.{◌≡◌, ◌<◌, ◌≤◌, ◌+◌, ◌^
 ghost use Rattle.ak_base.specs.Thread.{main_thread};
 ghost use Rattle.ak_roster.specs.Roster.{IsAtRest, last_stamp};
 ghost use Rattle.ak_describe.specs.Whole.{heads_of};
-ghost use Rattle.ak_run.specs.Doing.{DoesSo, FoundSo, IsStartedTeam};
-ghost use Rattle.ak_run.specs.Finding.{IsEntered, IsFoundAt, LooksUp};
+ghost use Rattle.ak_run.specs.Doing.{DoesSo, IsStartedTeam};
+ghost use Rattle.ak_session.specs.Doing.{FoundSo};
+ghost use Rattle.ak_run.specs.Finding.{LooksUp};
+ghost use Rattle.ak_session.specs.Calls.{IsEntered, IsFoundAt};
 ghost use Rattle.ak_run.specs.Launching.{ByMain, IsTurnInTime};
 ghost use Rattle.ak_run.specs.Running.{IsRunning};
 ghost use Rattle.ak_run.specs.Sending.{looper_count};
 ghost use Rattle.ak_run.specs.Sessions.{sessions_of};
 
-use crate::answers::Found;
 use crate::launching::count_by_main;
 use crate::run::Run;
 use ak_base::AppWord;
 use ak_looper::KeptDoor;
 use ak_roster::{FindAnswer, RosterBook};
+use ak_session::Found;
 use ak_turn::{Clock, Seat};
 use std::sync::Wait;
 

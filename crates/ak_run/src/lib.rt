@@ -23,5 +23,6 @@ mod slots;
 mod starting;
 mod team;
 
-pub use answers::{Edited, Ended, Found, LaunchAnswer};
+pub use ak_session::{Edited, Found};
+pub use answers::{Ended, LaunchAnswer};
 pub use run::Run;

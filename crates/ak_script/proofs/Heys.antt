@@ -11,22 +11,21 @@ use Rattle.ak_hey.specs.Grammar.{IsHey}
 use Rattle.ak_hey.specs.Hey as lines
 use Rattle.ak_hey.specs.Laws.{SaidIsRead, RefusedAtFirstBad, IsFirstBad, EndsEarly}
 use Rattle.ak_script.specs.Forms.{hey_from, hey_of}
-use Rattle.ak_script.specs.Says.{SaysStatement}
-use Rattle.ak_script.specs.Statement.{HeyData, StatementData, hey_statement}
+use Rattle.ak_script.specs.Statement.{HeyData}
 
-read_is : (law : SaidIsRead) (words : List Word) (x : StatementData) (read : Result (AppWord × Limited MessageData) ℕ)
-    → lines.hey_of (lines.end_of words) words ≡ read → hey_from read ≡ Ok x → SaysStatement (texts words) x
+read_is : (law : SaidIsRead) (words : List Word) (x : HeyData) (read : Result (AppWord × Limited MessageData) ℕ)
+    → lines.hey_of (lines.end_of words) words ≡ read → hey_from read ≡ Ok x → IsHey (texts words) x.app (Within x.message)
 read_is law words x (Err column) is e = absurd cc
 read_is law words x (Ok (app, Over)) is e = absurd cc
 read_is law words x (Ok (app, Within m)) is e =
     let said : HeyData = record { app = app; message = m } in
-    let same : hey_statement said ≡ x = cc in
-    subst (SaysStatement (texts words)) same ((law (lines.end_of words) words app (Within m)).0 is)
+    let same : said ≡ x = cc in
+    subst (λ (s : HeyData). IsHey (texts words) s.app (Within s.message)) same ((law (lines.end_of words) words app (Within m)).0 is)
 
-pub hey_takes : SaidIsRead → (words : List Word) (x : StatementData) → hey_of words ≡ Ok x → SaysStatement (texts words) x
+pub hey_takes : SaidIsRead → (words : List Word) (x : HeyData) → hey_of words ≡ Ok x → IsHey (texts words) x.app (Within x.message)
 hey_takes law words x e = read_is law words x (lines.hey_of (lines.end_of words) words) refl e
 
-pub hey_again : SaidIsRead → (words : List Word) (s : HeyData) → IsHey (texts words) s.app (Within s.message) → hey_of words ≡ Ok (hey_statement s)
+pub hey_again : SaidIsRead → (words : List Word) (s : HeyData) → IsHey (texts words) s.app (Within s.message) → hey_of words ≡ Ok s
 hey_again law words s p = ap hey_from ((law (lines.end_of words) words s.app (Within s.message)).1 p)
 
 -- ---- what is no hey line

@@ -20,8 +20,8 @@ use Rattle.ak_describe.specs.Pass.{or_bad, or_limit}
 use Rattle.ak_describe.specs.Words.{behind, ends, first_of}
 use Rattle.ak_script.specs.Forms.{launch_word, with_text, texts_behind, some_texts, arguments_at, is_short, launch_kept, launched, launch_of}
 use Rattle.ak_script.specs.Messages.{arguments_of}
-use Rattle.ak_script.specs.Says.{SaysLaunched, SayTexts, SayArguments, SayWhatIsTold, SaysLaunch, SaysStatement}
-use Rattle.ak_script.specs.Statement.{LaunchData, StatementData, launch_statement}
+use Rattle.ak_script.specs.Says.{SaysLaunched, SayTexts, SayArguments, SayWhatIsTold, SaysLaunch}
+use Rattle.ak_script.specs.Statement.{LaunchData}
 use Rattle.ak_script.proofs.Outcomes.{short_is, is_short_again}
 use Rattle.ak_script.proofs.InOrder.{behind_is, ends_is, first_is}
 use Rattle.ak_script.proofs.Outcomes.{bind_is, kept_is, read_is, within_is}
@@ -126,21 +126,21 @@ named_is word w e = by_path (is_path word) refl e where
   by_path false t f = by_signature (is_signature word) refl f
 
 -- ---- the line
-record Launched (word : AppWord) (rest : List (List ℕ)) (x : StatementData) : Type 0 where
+record Launched (word : AppWord) (rest : List (List ℕ)) (x : LaunchData) : Type 0 where
   arguments : Option MessageData
   told : SayWhatIsTold rest arguments
-  same : launch_statement (record { word = word; arguments = arguments }) ≡ x
+  same : record { word = word; arguments = arguments } ≡ x
 
-launched_is : (word : AppWord) (rest : List (List ℕ)) (x : StatementData) → launched word rest ≡ Ok x → Launched word rest x
+launched_is : (word : AppWord) (rest : List (List ℕ)) (x : LaunchData) → launched word rest ≡ Ok x → Launched word rest x
 launched_is word rest x e = by_end (ends rest) refl e where
   by_end : (b : Bool) → ends rest ≡ b
-      → (if b then Ok (launch_statement (record { word = word; arguments = None })) else or_bad (arguments_at rest) (λ (texts : Limited (List (List ℕ))). or_limit texts (launch_kept word))) ≡ Ok x
+      → (if b then Ok (record { word = word; arguments = None }) else or_bad (arguments_at rest) (λ (texts : Limited (List (List ℕ))). or_limit texts (launch_kept word))) ≡ Ok x
       → Launched word rest x
   by_end true is f = record { arguments = None; told = ends_is rest is; same = cc }
   by_end false is f =
       let r = read_is (arguments_at rest) (λ (texts : Limited (List (List ℕ))). or_limit texts (launch_kept word)) x f in
       let w = within_is r.value (launch_kept word) x r.then_is in
-      let k = kept_is (is_short (arguments_of w.value)) (launch_statement (record { word = word; arguments = Some (arguments_of w.value) })) x refusal.Limit w.then_is in
+      let k = kept_is (is_short (arguments_of w.value)) (record { word = word; arguments = Some (arguments_of w.value) }) x refusal.Limit w.then_is in
       let a = arguments_are rest w.value (r.is ∙ ap (λ (l : Limited (List (List ℕ))). some_limited l) w.is) in
       let told : SayArguments rest (arguments_of w.value) = record {
         quoted = a.quoted;
@@ -157,7 +157,7 @@ launched_is word rest x e = by_end (ends rest) refl e where
       some_limited : Limited (List (List ℕ)) → Option (Limited (List (List ℕ)))
       some_limited l = Some l
 
-pub launch_takes : (words : List (List ℕ)) (x : StatementData) → launch_of words ≡ Ok x → SaysStatement (codes "launch" ∷ words) x
+pub launch_takes : (words : List (List ℕ)) (x : LaunchData) → launch_of words ≡ Ok x → SaysLaunch words x
 launch_takes words x e =
     let first = read_is (first_of words) (λ (y : List ℕ × List (List ℕ)). or_bad (launch_word y.0) (λ (word : AppWord). launched word y.1)) x e in
     let word = read_is (launch_word first.value.0) (λ (word : AppWord). launched word first.value.1) x first.then_is in
@@ -169,7 +169,7 @@ launch_takes words x e =
       word_is = named_is first.value.0 word.value word.is;
       told = l.told;
     } in
-    subst (SaysStatement (codes "launch" ∷ words)) l.same (words, refl, says)
+    subst (SaysLaunch words) l.same says
 
 -- ---- and back
 -- a signature begins with another letter than a path
@@ -202,22 +202,22 @@ named_again word (app.Signature signature) p =
 named_again word (app.Name name) p = absurd p
 named_again word (app.Team team) p = absurd p
 
-kept_again : (word : AppWord) (texts : List (List ℕ)) (m : MessageData) → m ≡ arguments_of texts → is_short m ≡ true → launch_kept word texts ≡ Ok (launch_statement (record { word = word; arguments = Some m }))
+kept_again : (word : AppWord) (texts : List (List ℕ)) (m : MessageData) → m ≡ arguments_of texts → is_short m ≡ true → launch_kept word texts ≡ Ok (record { word = word; arguments = Some m })
 kept_again word texts m is short =
     let same_short : is_short (arguments_of texts) ≡ true = subst (λ (n : MessageData). is_short n ≡ true) is short in
     rw same_short (ap (λ (n : MessageData). launched_with n) (sym is))
   where
-    launched_with : MessageData → Result StatementData RefusalKind
-    launched_with n = Ok (launch_statement (record { word = word; arguments = Some n }))
+    launched_with : MessageData → Result LaunchData RefusalKind
+    launched_with n = Ok (record { word = word; arguments = Some n })
 
-launched_again : (word : AppWord) (rest : List (List ℕ)) (o : Option MessageData) → SayWhatIsTold rest o → launched word rest ≡ Ok (launch_statement (record { word = word; arguments = o }))
+launched_again : (word : AppWord) (rest : List (List ℕ)) (o : Option MessageData) → SayWhatIsTold rest o → launched word rest ≡ Ok (record { word = word; arguments = o })
 launched_again word rest None told = ap (launched word) told
 launched_again word rest (Some m) told =
     ap (launched word) told.parts
     ∙ ap (λ (o : Option (Limited (List (List ℕ)))). or_bad o (λ (texts : Limited (List (List ℕ))). or_limit texts (launch_kept word))) (arguments_again told.quoted told.arguments told.some told.texts_are told.few)
     ∙ kept_again word told.arguments m told.message_is (is_short_again m told.short)
 
-pub launch_again : (words : List (List ℕ)) (s : LaunchData) → SaysLaunch words s → launch_of words ≡ Ok (launch_statement s)
+pub launch_again : (words : List (List ℕ)) (s : LaunchData) → SaysLaunch words s → launch_of words ≡ Ok s
 launch_again words s p =
     ap launch_of p.parts
     ∙ ap (λ (o : Option AppWord). or_bad o (λ (word : AppWord). launched word p.rest)) (named_again p.named s.word p.word_is)

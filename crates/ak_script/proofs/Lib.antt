@@ -1,3 +1,6 @@
+pub mod AllLines
+pub mod Begun
+pub mod Counting
 pub mod Heys
 pub mod InOrder
 pub mod Launches
@@ -5,5 +8,8 @@ pub mod Locks
 pub mod Numbers
 pub mod Outcomes
 pub mod Posts
+pub mod ReadingAgain
 pub mod Saying
+pub mod Stages
+pub mod Taking
 pub mod Whole

@@ -13,8 +13,8 @@ use Rattle.ak_describe.specs.Pass.{or_bad}
 use Rattle.ak_describe.specs.Words.{behind, first_of}
 use Rattle.ak_describe.proofs.Surface.{app_word_takes, app_word_again}
 use Rattle.ak_script.specs.Forms.{only, looper_at, most_token, token_of, token_or_none, next_form, name_of, add_form, remove_form, prefer_form, token_edit, edit_by, edit_of, locked, lock_of}
-use Rattle.ak_script.specs.Says.{SaysTokenOrNone, SaysEdit, SaysLock, SaysStatement}
-use Rattle.ak_script.specs.Statement.{LockData, StatementData, lock_statement}
+use Rattle.ak_script.specs.Says.{SaysTokenOrNone, SaysEdit, SaysLock}
+use Rattle.ak_script.specs.Statement.{LockData}
 use Rattle.ak_script.proofs.InOrder.{first_is, only_is}
 use Rattle.ak_script.proofs.Numbers.{place_is, place_again, within_takes, within_again}
 use Rattle.ak_script.proofs.Outcomes.{bind_is, mapped_is, read_is, where_is}
@@ -113,7 +113,7 @@ no_place words (edit.Next token next) p = ap (λ (ws : List (List ℕ)). behind 
 no_place words (edit.Prefer token) p = ap (λ (ws : List (List ℕ)). behind ws (codes "looper")) p.1
 
 -- ---- the line
-pub lock_takes : (words : List (List ℕ)) (x : StatementData) → lock_of words ≡ Ok x → SaysStatement (codes "lock" ∷ words) x
+pub lock_takes : (words : List (List ℕ)) (x : LockData) → lock_of words ≡ Ok x → SaysLock words x
 lock_takes words x e =
     let named = read_is (first_of words) (λ (y : List ℕ × List (List ℕ)). or_bad (app_word_of y.0) (λ (word : AppWord). or_bad (looper_at y.1) (λ (z : ℕ × List (List ℕ)). or_bad (edit_of z.1) (λ (c : Edit). Ok (locked word z.0 c))))) x e in
     let a = read_is (app_word_of named.value.0) (λ (word : AppWord). or_bad (looper_at named.value.1) (λ (z : ℕ × List (List ℕ)). or_bad (edit_of z.1) (λ (c : Edit). Ok (locked word z.0 c)))) x named.then_is in
@@ -130,9 +130,9 @@ lock_takes words x e =
       place_is = place.says;
       edit_is = edit_takes l.value.1 c.value c.is;
     } in
-    subst (SaysStatement (codes "lock" ∷ words)) same (words, refl, says)
+    subst (SaysLock words) same says
 
-pub lock_again : (words : List (List ℕ)) (s : LockData) → SaysLock words s → lock_of words ≡ Ok (lock_statement s)
+pub lock_again : (words : List (List ℕ)) (s : LockData) → SaysLock words s → lock_of words ≡ Ok s
 lock_again words s p =
     ap lock_of p.parts
     ∙ rw (app_word_again p.named s.app p.app_is, place_again p.place s.looper p.change p.place_is (no_place p.change s.edit p.edit_is), edit_again p.change s.edit p.edit_is) refl

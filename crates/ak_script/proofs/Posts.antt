@@ -16,8 +16,8 @@ use Rattle.ak_describe.specs.Pass.{or_bad, or_limit}
 use Rattle.ak_describe.specs.Words.{behind, first_of}
 use Rattle.ak_describe.proofs.Surface.{app_word_takes, app_word_again}
 use Rattle.ak_script.specs.Forms.{Way, flag_behind, flag_from, flagged, is_short, looper_at, most_token, number_behind, post_kept, post_of, target_of, way_at}
-use Rattle.ak_script.specs.Says.{SayFlag, SayNumber, SayPlace, SayTarget, SaysPost, SaysStatement}
-use Rattle.ak_script.specs.Statement.{PostData, StatementData, post_statement}
+use Rattle.ak_script.specs.Says.{SayFlag, SayNumber, SayPlace, SayTarget, SaysPost}
+use Rattle.ak_script.specs.Statement.{PostData}
 use Rattle.ak_script.proofs.Outcomes.{short_is, is_short_again}
 use Rattle.ak_script.proofs.InOrder.{behind_is, equal_is, first_is}
 use Rattle.ak_script.proofs.Numbers.{number_is, keyed_again, place_is, place_again}
@@ -120,7 +120,7 @@ ways_are words x e =
     })
 
 -- ---- the line
-pub post_takes : (words : List (List ℕ)) (x : StatementData) → post_of words ≡ Ok x → SaysStatement (codes "post" ∷ words) x
+pub post_takes : (words : List (List ℕ)) (x : PostData) → post_of words ≡ Ok x → SaysPost words x
 post_takes words x e =
     let named = read_is (first_of words) (λ (y : List ℕ × List (List ℕ)). or_bad (app_word_of y.0) (λ (word : AppWord). or_bad (way_at y.1) (λ (way : Way × List (List ℕ)). or_bad (read_message way.1) (λ (m : Limited MessageData). or_limit m (post_kept word way.0))))) x e in
     let a = read_is (app_word_of named.value.0) (λ (word : AppWord). or_bad (way_at named.value.1) (λ (way : Way × List (List ℕ)). or_bad (read_message way.1) (λ (m : Limited MessageData). or_limit m (post_kept word way.0)))) x named.then_is in
@@ -128,7 +128,7 @@ post_takes words x e =
     let r = read_is (read_message y.value.1) (λ (m : Limited MessageData). or_limit m (post_kept a.value y.value.0)) x y.then_is in
     let m = within_is r.value (post_kept a.value y.value.0) x r.then_is in
     let said : PostData = record { app = a.value; looper = y.value.0.looper; target = y.value.0.target; dropped = y.value.0.dropped; waits = y.value.0.waits; message = m.value } in
-    let k = kept_is (is_short m.value) (post_statement said) x refusal.Limit m.then_is in
+    let k = kept_is (is_short m.value) said x refusal.Limit m.then_is in
     let w = ways_are named.value.1 y.value y.is in
     let says : SaysPost words said = record {
       named = named.value.0;
@@ -146,7 +146,7 @@ post_takes words x e =
       message_is = r.is ∙ ap some_message m.is;
       short = short_is m.value k.0;
     } in
-    subst (SaysStatement (codes "post" ∷ words)) k.1 (words, refl, says)
+    subst (SaysPost words) k.1 says
   where
     some_message : Limited MessageData → Option (Limited MessageData)
     some_message l = Some l
@@ -181,7 +181,7 @@ way_again place for_whom drops waits message way place_says target_says dropped_
     by_target target.Preferred is says absent = rw (keyed_again (codes "token") most_token (omega arith) for_whom None (drops ++ (waits ++ message)) says absent, is) refl
     by_target (target.Token token) is says absent = rw (keyed_again (codes "token") most_token (omega arith) for_whom (Some token) (drops ++ (waits ++ message)) says absent, is) refl
 
-pub post_again : (words : List (List ℕ)) (s : PostData) → SaysPost words s → post_of words ≡ Ok (post_statement s)
+pub post_again : (words : List (List ℕ)) (s : PostData) → SaysPost words s → post_of words ≡ Ok s
 post_again words s p =
     let way : Way = record { looper = s.looper; target = s.target; dropped = s.dropped; waits = s.waits } in
     let read = way_again p.place p.for_whom p.drops p.waits p.message way p.place_is p.target_is p.dropped_is p.waits_is

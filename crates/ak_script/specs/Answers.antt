@@ -26,7 +26,6 @@ IsRefused faults.UnknownLine read = read ≡ Err refusal.UnknownLine
 IsRefused (faults.BadHey column) read = read ≡ Err (refusal.BadHey column)
 IsRefused faults.BadValue read = read ≡ Err refusal.BadValue
 IsRefused faults.Limit read = read ≡ Err refusal.Limit
-IsRefused faults.NotYet read = read ≡ Err refusal.NotYet
 IsRefused faults.NoMemory read = Unit {0}
 
 -- the answer, seen by the view, is what reading gives

@@ -7,6 +7,7 @@ use Rattle.ak_message.specs.declared.parse_fault.ParseFault.{ParseFault}
 use Rattle.ak_message.specs.declared.parse_fault.ParseFault.TheVariants as parse
 use Rattle.ak_message.specs.declared.lines.LinesFault.{LinesFault}
 use Rattle.ak_message.specs.declared.lines.LinesFault.TheVariants as lines
+use Rattle.ak_describe.specs.Pass.{Refusal}
 use Rattle.ak_describe.specs.declared.fault.DescribeFault.{DescribeFault}
 use Rattle.ak_describe.specs.declared.fault.DescribeFault.TheVariants as descriptions
 use Rattle.ak_hey.specs.declared.fault.HeyFault.{HeyFault}
@@ -26,13 +27,16 @@ abbrev pub describe_fault : DescribeFault → ScriptFault
 describe_fault (descriptions.Refused line kind) = script.Refused line kind
 describe_fault descriptions.NoMemory = script.NoMemory
 
+-- the first fault
+abbrev pub told : Refusal → ScriptFault
+told r = script.Refused r.line r.kind
+
 -- of the line with that number
 abbrev pub fault_at : StatementFault → ℕ → ScriptFault
 fault_at faults.UnknownLine line = script.Refused line refusal.UnknownLine
 fault_at (faults.BadHey column) line = script.Refused line (refusal.BadHey column)
 fault_at faults.BadValue line = script.Refused line refusal.BadValue
 fault_at faults.Limit line = script.Refused line refusal.Limit
-fault_at faults.NotYet line = script.Refused line refusal.NotYet
 fault_at faults.NoMemory line = script.NoMemory
 
 abbrev pub form_fault : FormFault → StatementFault

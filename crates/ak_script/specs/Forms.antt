@@ -22,13 +22,13 @@ use Rattle.ak_message.specs.Message.{MessageData}
 use Rattle.ak_message.specs.Written.{quoted_text, app_word_of}
 use Rattle.ak_flatten.specs.Limits.{flat_limit}
 use Rattle.ak_flatten.specs.Spelling.{spelling}
-use Rattle.ak_describe.specs.Pass.{or_bad, or_limit}
+use Rattle.ak_describe.specs.Pass.{or_bad, or_limit, then_read}
 use Rattle.ak_describe.specs.Words.{behind, ends, first_of, texts}
 use Rattle.ak_hey.specs.Hey as lines
 use Rattle.ak_script.specs.declared.verb.Verb.{Verb}
 use Rattle.ak_script.specs.declared.verb.Verb.TheVariants as verb
 use Rattle.ak_script.specs.Messages.{arguments_of}
-use Rattle.ak_script.specs.Statement.{StatementData, launch_statement, hey_statement, post_statement, lock_statement}
+use Rattle.ak_script.specs.Statement.{LaunchData, HeyData, PostData, LockData, SessionLineData, hey_line, post_line, lock_line, StatementData, launch_statement, hey_statement, post_statement, lock_statement}
 
 -- a message has at most 4,096 bytes of flat text
 abbrev pub is_short : MessageData → Bool
@@ -101,31 +101,31 @@ some_texts words = if ends words then None else texts_behind (Within []) words
 unfoldable pub arguments_at : List (List ℕ) → Option (Limited (List (List ℕ)))
 arguments_at words = behind words (codes "args") >>= some_texts
 
-abbrev pub launch_kept : AppWord → List (List ℕ) → Result StatementData RefusalKind
+abbrev pub launch_kept : AppWord → List (List ℕ) → Result LaunchData RefusalKind
 launch_kept word texts =
-    if is_short (arguments_of texts) then Ok (launch_statement (record { word = word; arguments = Some (arguments_of texts) }))
+    if is_short (arguments_of texts) then Ok (record { word = word; arguments = Some (arguments_of texts) })
     else Err refusal.Limit
 
-abbrev pub launched : AppWord → List (List ℕ) → Result StatementData RefusalKind
+abbrev pub launched : AppWord → List (List ℕ) → Result LaunchData RefusalKind
 launched word words =
-    if ends words then Ok (launch_statement (record { word = word; arguments = None }))
+    if ends words then Ok (record { word = word; arguments = None })
     else or_bad (arguments_at words) (λ texts. or_limit texts (launch_kept word))
 
 -- `WORD`, or `WORD args TEXT ..`
-abbrev pub launch_of : List (List ℕ) → Result StatementData RefusalKind
+abbrev pub launch_of : List (List ℕ) → Result LaunchData RefusalKind
 launch_of words = or_bad (first_of words) (λ first. or_bad (launch_word first.0) (λ word. launched word first.1))
 
 -- ---- `hey`
-abbrev pub asked : AppWord → MessageData → Result StatementData RefusalKind
-asked word m = Ok (hey_statement (record { app = word; message = m }))
+abbrev pub asked : AppWord → MessageData → Result HeyData RefusalKind
+asked word m = Ok (record { app = word; message = m })
 
 -- what is no hey line is told by its column, and a message that passes a limit by that
-abbrev pub hey_from : Result (AppWord × Limited MessageData) ℕ → Result StatementData RefusalKind
+abbrev pub hey_from : Result (AppWord × Limited MessageData) ℕ → Result HeyData RefusalKind
 hey_from (Ok line) = or_limit line.1 (asked line.0)
 hey_from (Err column) = Err (refusal.BadHey column)
 
 -- a hey line, with its first word
-abbrev pub hey_of : List Word → Result StatementData RefusalKind
+abbrev pub hey_of : List Word → Result HeyData RefusalKind
 hey_of words = hey_from (lines.hey_of (lines.end_of words) words)
 
 -- ---- `post`
@@ -154,13 +154,13 @@ way_at words = do
   token ← number_behind (codes "token") most_token looper.1
   Some (flagged looper.0 token.0 (flag_behind (codes "dropped") token.1))
 
-abbrev pub post_kept : AppWord → Way → MessageData → Result StatementData RefusalKind
+abbrev pub post_kept : AppWord → Way → MessageData → Result PostData RefusalKind
 post_kept word way m =
-    if is_short m then Ok (post_statement (record { app = word; looper = way.looper; target = way.target; dropped = way.dropped; waits = way.waits; message = m }))
+    if is_short m then Ok (record { app = word; looper = way.looper; target = way.target; dropped = way.dropped; waits = way.waits; message = m })
     else Err refusal.Limit
 
 -- `APP [looper N] [token N] [dropped] [wait] MESSAGE`
-abbrev pub post_of : List (List ℕ) → Result StatementData RefusalKind
+abbrev pub post_of : List (List ℕ) → Result PostData RefusalKind
 post_of words =
     or_bad (first_of words) (λ named. or_bad (app_word_of named.0) (λ word. or_bad (way_at named.1) (λ way. or_bad (read_message way.1) (λ m. or_limit m (post_kept word way.0)))))
 
@@ -209,11 +209,11 @@ edit_by word words = if bytes_eq word (codes "add") then add_form words else tok
 abbrev pub edit_of : List (List ℕ) → Option Edit
 edit_of words = first_of words >>= λ first. edit_by first.0 first.1
 
-abbrev pub locked : AppWord → ℕ → Edit → StatementData
-locked word looper e = lock_statement (record { app = word; looper = looper; edit = e })
+abbrev pub locked : AppWord → ℕ → Edit → LockData
+locked word looper e = record { app = word; looper = looper; edit = e }
 
 -- `APP [looper N] EDIT`
-abbrev pub lock_of : List (List ℕ) → Result StatementData RefusalKind
+abbrev pub lock_of : List (List ℕ) → Result LockData RefusalKind
 lock_of words =
     or_bad (first_of words) (λ named. or_bad (app_word_of named.0) (λ word. or_bad (looper_at named.1) (λ looper. or_bad (edit_of looper.1) (λ e. Ok (locked word looper.0 e)))))
 
@@ -224,19 +224,29 @@ verb_of word =
     else if bytes_eq word (codes "hey") then Some verb.Hey
     else if bytes_eq word (codes "post") then Some verb.Post
     else if bytes_eq word (codes "lock") then Some verb.Lock
-    else if bytes_eq word (codes "together") then Some verb.Together
     else None
 
 -- by what the first word says, by all words, and by the bytes of those behind it
 abbrev pub said_by : Option Verb → List Word → List (List ℕ) → Result StatementData RefusalKind
 said_by None all words = Err refusal.UnknownLine
-said_by (Some verb.Launch) all words = launch_of words
-said_by (Some verb.Hey) all words = hey_of all
-said_by (Some verb.Post) all words = post_of words
-said_by (Some verb.Lock) all words = lock_of words
-said_by (Some verb.Together) all words = Err refusal.NotYet
+said_by (Some verb.Launch) all words = then_read (launch_of words) (λ s. Ok (launch_statement s))
+said_by (Some verb.Hey) all words = then_read (hey_of all) (λ s. Ok (hey_statement s))
+said_by (Some verb.Post) all words = then_read (post_of words) (λ s. Ok (post_statement s))
+said_by (Some verb.Lock) all words = then_read (lock_of words) (λ s. Ok (lock_statement s))
 
 -- by the words of its line, of which the first one says what it is
 unfoldable pub statement_of : List Word → Result StatementData RefusalKind
 statement_of [] = Err refusal.UnknownLine
 statement_of (word ∷ words) = said_by (verb_of word.bytes) (word ∷ words) (texts words)
+
+-- ---- lines of sessions: no launch stands in one
+abbrev pub said_in_session : Option Verb → List Word → List (List ℕ) → Result SessionLineData RefusalKind
+said_in_session None all words = Err refusal.UnknownLine
+said_in_session (Some verb.Launch) all words = Err refusal.UnknownLine
+said_in_session (Some verb.Hey) all words = then_read (hey_of all) (λ s. Ok (hey_line s))
+said_in_session (Some verb.Post) all words = then_read (post_of words) (λ s. Ok (post_line s))
+said_in_session (Some verb.Lock) all words = then_read (lock_of words) (λ s. Ok (lock_line s))
+
+unfoldable pub session_line_of : List Word → Result SessionLineData RefusalKind
+session_line_of [] = Err refusal.UnknownLine
+session_line_of (word ∷ words) = said_in_session (verb_of word.bytes) (word ∷ words) (texts words)

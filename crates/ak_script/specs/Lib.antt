@@ -1,4 +1,5 @@
 pub mod Answers
+pub mod Blocks
 pub mod Facts
 pub mod Faults
 pub mod Forms
@@ -7,6 +8,8 @@ pub mod Limits
 pub mod Messages
 pub mod Pass
 pub mod Says
+pub mod SaysLines
 pub mod Script
 pub mod Seen
 pub mod Statement
+pub mod StatementSeen

@@ -22,9 +22,9 @@ use Rattle.ak_desk.specs.declared.entry.Edit.{Edit}
 use Rattle.ak_desk.specs.declared.entry.Edit.TheVariants as edit
 use Rattle.ak_base.specs.Word.{is_word}
 use Rattle.ak_message.specs.Written.{quoted_text, WritesNumber}
-use Rattle.ak_script.specs.Forms.{most_looper, most_token, or_zero, statement_of}
+use Rattle.ak_script.specs.Forms.{most_looper, most_token, or_zero, session_line_of, statement_of}
 use Rattle.ak_script.specs.Messages.{arguments_of}
-use Rattle.ak_script.specs.Statement.{LaunchData, PostData, LockData, StatementData, launch_statement, hey_statement, post_statement, lock_statement}
+use Rattle.ak_script.specs.Statement.{LaunchData, PostData, LockData, SessionLineData, hey_line, post_line, lock_line, StatementData, launch_statement, hey_statement, post_statement, lock_statement, together_statement}
 
 -- what is launched is named by a path or a signature
 abbrev pub SaysLaunched : List ℕ → AppWord → Type 0
@@ -133,20 +133,35 @@ pub record SaysLock (words : List (List ℕ)) (s : LockData) : Type 0 where
 abbrev pub Behind : List ℕ → List (List ℕ) → (List (List ℕ) → Type 0) → Type 0
 Behind key words says = (rest : List (List ℕ)) × (words ≡ key ∷ rest) × says rest
 
--- these words, of which the first one says what it is, are the statement
+-- these words, of which the first one says what it is, are the statement; no one line says a block
 abbrev pub SaysStatement : List (List ℕ) → StatementData → Type 0
 SaysStatement words (launch_statement s) = Behind (codes "launch") words (λ (rest : List (List ℕ)). SaysLaunch rest s)
 SaysStatement words (hey_statement s) = IsHey words s.app (Within s.message)
 SaysStatement words (post_statement s) = Behind (codes "post") words (λ (rest : List (List ℕ)). SaysPost rest s)
 SaysStatement words (lock_statement s) = Behind (codes "lock") words (λ (rest : List (List ℕ)). SaysLock rest s)
+SaysStatement words (together_statement s) = ⊥
 
--- exactly the words that say a statement are read as it
+-- these words are the line of a session
+abbrev pub SaysSessionLine : List (List ℕ) → SessionLineData → Type 0
+SaysSessionLine words (hey_line s) = IsHey words s.app (Within s.message)
+SaysSessionLine words (post_line s) = Behind (codes "post") words (λ (rest : List (List ℕ)). SaysPost rest s)
+SaysSessionLine words (lock_line s) = Behind (codes "lock") words (λ (rest : List (List ℕ)). SaysLock rest s)
+
+-- exactly the words that say a statement are read as it, and so it is in sessions
 abbrev pub StatementsAreRead : Type 0
 StatementsAreRead = (words : List Word) (s : StatementData) → (statement_of words ≡ Ok s) ↔ SaysStatement (texts words) s
 
+abbrev pub SessionLinesAreRead : Type 0
+SessionLinesAreRead = (words : List Word) (s : SessionLineData) → (session_line_of words ≡ Ok s) ↔ SaysSessionLine (texts words) s
+
 -- a line that begins with `hey` and is no hey line is told at the first word with which none goes on, or behind the last one where it
--- ends too early
+-- ends too early, and so it is in sessions
 abbrev pub BadHeysAreTold : Type 0
 BadHeysAreTold =
     (words : List Word) (rest : List (List ℕ)) (column : ℕ) → texts words ≡ codes "hey" ∷ rest → statement_of words ≡ Err (refusal.BadHey column)
+    → IsFirstBad words column ⊎ EndsEarly (end_of words) words column
+
+abbrev pub BadHeysInSessionsAreTold : Type 0
+BadHeysInSessionsAreTold =
+    (words : List Word) (rest : List (List ℕ)) (column : ℕ) → texts words ≡ codes "hey" ∷ rest → session_line_of words ≡ Err (refusal.BadHey column)
     → IsFirstBad words column ⊎ EndsEarly (end_of words) words column

@@ -1,47 +1,31 @@
--- What contracts see of scripts and statements.
-use Rattle.std.specs.Prelude.{ℕ, List, Vec, map}
+-- What contracts see of scripts, and of what is read of them.
+use Rattle.std.specs.Prelude.{ℕ, List, Option, Some, None, Vec}
 use Rattle.std.specs.Borrow.{Bor}
 use Rattle.std.specs.declared.alloc.Global.{Global}
 use Rattle.ak_message.specs.declared.line.Word.{Word}
 use Rattle.ak_describe.specs.Words.{texts}
+use Rattle.ak_script.specs.declared.block.BlockSoFar.{BlockSoFar}
 use Rattle.ak_script.specs.declared.form.post.Posting.{Posting}
 use Rattle.ak_script.specs.declared.script.Script.{Script}
 use Rattle.ak_script.specs.declared.so_far.ScriptSoFar.{ScriptSoFar}
-use Rattle.ak_script.specs.declared.statement.Hey.{Hey}
-use Rattle.ak_script.specs.declared.statement.Launch.{Launch}
-use Rattle.ak_script.specs.declared.statement.Lock.{Lock}
-use Rattle.ak_script.specs.declared.statement.Post.{Post}
-use Rattle.ak_script.specs.declared.statement.Statement.{Statement}
-use Rattle.ak_script.specs.declared.statement.Statement.TheVariants as says
+use Rattle.ak_script.specs.declared.statement.SessionLine.{SessionLine}
+use Rattle.ak_script.specs.Blocks.{Block}
 use Rattle.ak_script.specs.Forms.{Way}
 use Rattle.ak_script.specs.Pass.{SoFar}
 use Rattle.ak_script.specs.Script.{ScriptData}
-use Rattle.ak_script.specs.Statement.{LaunchData, HeyData, PostData, LockData, StatementData, launch_statement, hey_statement, post_statement, lock_statement}
+use Rattle.ak_script.specs.Statement.{SessionLineData}
+use Rattle.ak_script.specs.StatementSeen.{lines_seen, sessions_seen, statements_seen}
 
-abbrev pub launch_seen : Launch → LaunchData
-launch_seen s = record { word = s.word; arguments = s.arguments }
+abbrev pub begun_seen : Option (Vec SessionLine Global) → Option (List SessionLineData)
+begun_seen None = None
+begun_seen (Some lines) = Some (lines_seen lines.items)
 
-abbrev pub hey_seen : Hey → HeyData
-hey_seen s = record { app = s.app; message = s.message }
-
-abbrev pub post_seen : Post → PostData
-post_seen s =
-    record { app = s.app; looper = s.looper; target = s.target; dropped = s.dropped; waits = s.waits; message = s.message }
-
-abbrev pub lock_seen : Lock → LockData
-lock_seen s = record { app = s.app; looper = s.looper; edit = s.edit }
-
-abbrev pub statement_seen : Statement → StatementData
-statement_seen (says.Launch s) = launch_statement (launch_seen s)
-statement_seen (says.Hey s) = hey_statement (hey_seen s)
-statement_seen (says.Post s) = post_statement (post_seen s)
-statement_seen (says.Lock s) = lock_statement (lock_seen s)
-
-abbrev pub statements_seen : List Statement → List StatementData
-statements_seen statements = map statement_seen statements
+abbrev pub block_seen : BlockSoFar → Block
+block_seen b = record { sessions = sessions_seen b.sessions.items; begun = begun_seen b.begun }
 
 abbrev pub so_far_of : ScriptSoFar → SoFar
-so_far_of s = record { part = s.part; descriptions = s.descriptions; statements = statements_seen s.statements.items }
+so_far_of s =
+    record { part = s.part; descriptions = s.descriptions; statements = statements_seen s.statements.items; block = block_seen s.block; lines = s.lines }
 
 abbrev pub script_seen : Script → ScriptData
 script_seen s = record { apps = s.apps.items; statements = statements_seen s.statements.items }

@@ -123,8 +123,6 @@ pub(crate) enum StatementFault {
     BadValue,
     /// A limit is passed.
     Limit,
-    /// It is of a form that is not run yet.
-    NotYet,
     NoMemory,
 }
 
@@ -138,7 +136,6 @@ impl StatementFault {
             StatementFault::BadHey(column) => refused(line, RefusalKind::BadHey(column)),
             StatementFault::BadValue => refused(line, RefusalKind::BadValue),
             StatementFault::Limit => refused(line, RefusalKind::Limit),
-            StatementFault::NotYet => refused(line, RefusalKind::NotYet),
             StatementFault::NoMemory => ScriptFault::NoMemory,
         }
     }

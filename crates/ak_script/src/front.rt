@@ -25,8 +25,8 @@ fn version_fault(words: &[Word]) -> Option<RefusalKind>
     }
 }
 
-// Nothing stands behind the version.
-fn more_fault(words: &[Word]) -> Option<RefusalKind>
+/// Nothing stands behind the words before these.
+pub(crate) fn more_fault(words: &[Word]) -> Option<RefusalKind>
     ensures { result ≡ reads.more_fault (texts words.now) }
 {
     if ends(words) {

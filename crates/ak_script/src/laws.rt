@@ -1,7 +1,8 @@
 //! What holds of all inputs.
 
 ghost use Rattle.ak_script.specs.Laws.{NotBoth, ScriptOrRefusal, ScriptsAreWhole};
-ghost use Rattle.ak_script.specs.Says.{BadHeysAreTold, StatementsAreRead};
+ghost use Rattle.ak_script.specs.Says.{BadHeysAreTold, BadHeysInSessionsAreTold, SessionLinesAreRead, StatementsAreRead};
+ghost use Rattle.ak_script.specs.SaysLines.{LinesAreRead};
 
 use ak_describe::{descriptions_are_read, descriptions_are_whole};
 use ak_hey::hey_lines_are_read;
@@ -19,15 +20,33 @@ pub fn statements_are_read()
     hey_lines_are_read();
 }
 
-/// A line that begins with `hey` and is no hey line is told at the first word with which none goes on, or behind
-/// its last word where it ends too early.
-pub fn bad_heys_are_told()
-    ensures { BadHeysAreTold }
+/// Exactly the words that say a line of a session are read as it.
+pub fn session_lines_are_read()
+    ensures { SessionLinesAreRead }
 {
     hey_lines_are_read();
 }
 
-/// The script that an input is the text of is whole: its applications are, and it has at most 8,000 statements.
+/// Behind the line `script` exactly the lines that say statements are read as those: single lines, and blocks of 1
+/// to 8 sessions, each of one line or more; at most 8,000 lines that say statements, those of sessions too.
+pub fn lines_are_read()
+    ensures { LinesAreRead }
+{
+    statements_are_read();
+    session_lines_are_read();
+}
+
+/// A line that begins with `hey` and is no hey line is told at the first word with which none goes on, or behind
+/// its last word where it ends too early.
+pub fn bad_heys_are_told()
+    ensures alone { BadHeysAreTold }
+    ensures in_sessions { BadHeysInSessionsAreTold }
+{
+    hey_lines_are_read();
+}
+
+/// The script that an input is the text of is whole: its applications are, its blocks have 1 to 8 sessions, each of
+/// one line or more, and at most 8,000 lines say statements, those of sessions too.
 pub fn scripts_are_whole()
     ensures { ScriptsAreWhole }
 {

@@ -4,6 +4,9 @@
 //! waits, and nothing is shared.
 #![tactic(auto)]
 
+mod amount;
+mod block;
+mod copies;
 mod fault;
 mod form;
 mod front;
@@ -18,8 +21,14 @@ mod statement;
 mod verb;
 mod words;
 
+pub use amount::count_lines;
 pub use fault::ScriptFault;
-pub use laws::{bad_heys_are_told, scripts_are_whole, scripts_or_refusals, statements_are_read};
+pub use laws::{
+    bad_heys_are_told, lines_are_read, scripts_are_whole, scripts_or_refusals,
+    session_lines_are_read, statements_are_read,
+};
 pub use reading::read_script;
 pub use script::{STATEMENT_LIMIT, Script};
-pub use statement::{Hey, Launch, Lock, Post, Statement};
+pub use statement::{
+    Hey, Launch, Lock, Post, SESSION_LIMIT, SessionLine, SessionLines, Statement, Together,
+};

@@ -5,6 +5,8 @@ pub(crate) enum Part {
     Front,
     /// A line that describes applications, or the one that begins the statements.
     Descriptions,
-    /// A statement.
+    /// A statement, or the line that begins a block.
     Statements,
+    /// A line of a block: one that begins a session, one of a session, or the one that ends the block.
+    Block,
 }

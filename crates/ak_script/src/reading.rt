@@ -1,12 +1,15 @@
 //! Reads a script in two passes.
 
-ghost use Rattle.std.specs.Prelude.{◌≡◌, None, IfOk};
+ghost use Rattle.std.specs.Prelude.{◌≡◌, ◌≤◌, None, IfOk};
 ghost use Rattle.ak_describe.specs.Read.{end_fault};
 ghost use Rattle.ak_describe.specs.Whole.{AreWholeApps};
 ghost use Rattle.ak_script.specs.Answers.{Answers};
+ghost use Rattle.ak_script.specs.Limits.{statement_limit};
 ghost use Rattle.ak_script.specs.Pass as pass;
 ghost use Rattle.ak_script.specs.Script as reads;
 ghost use Rattle.ak_script.specs.Seen.{script_seen, so_far_of};
+ghost use Rattle.ak_script.specs.Statement.{lines_in};
+ghost use Rattle.ak_script.specs.StatementSeen.{statements_seen};
 
 use crate::fault::{ScriptFault, refused};
 use crate::script::Script;
@@ -17,14 +20,15 @@ use std::alloc::Global;
 
 /// The script that the input is the text of. Refused with the first fault. An input of over 1,048,576 bytes is
 /// `InputTooLong`, before all else. Then the first pass goes line by line: the first line is `kit 1`, and behind
-/// it stand lines that describe applications, then the line `script`, and statements, at most 8,000. A line that
-/// begins otherwise, or may not stand there, is an `UnknownLine`; one that begins with `hey` and is no hey line is
-/// `BadHey`, at its column; any other one with other further words is a `BadValue`, one that gives a name again, or
-/// passes a limit, is told by that, and a block of sessions, which is not run yet, is `NotYet`. A line without
-/// words is told behind all lines before it, and an application without a looper, where the lines end with it, is
-/// `Unfinished`. Where the first pass finds nothing, the second one goes over the names in the descriptions:
-/// `UnknownName`, `ChainLoop` or `AskOrder`. An input in which no line says anything is the empty script. Answers
-/// `NoMemory` where memory ran out.
+/// it stand lines that describe applications, then the line `script`, and statements, in at most 8,000 lines. A
+/// statement is a line, or a block: the line `together`, 1 to 8 sessions, each of the line `session` and one or more
+/// lines that launch nothing, and the line `end`. A line that begins otherwise, or may not stand there, is an
+/// `UnknownLine`; one that begins with `hey` and is no hey line is `BadHey`, at its column; any other one with other
+/// further words is a `BadValue`; one that gives a name again, or passes a limit, is told by that. A line without
+/// words is told behind all lines before it. Where the lines end with an application without a looper, or in a
+/// block, that is `Unfinished`. Where the first pass finds nothing, the second one goes over the names in the
+/// descriptions: `UnknownName`, `ChainLoop` or `AskOrder`. An input in which no line says anything is the empty
+/// script. Answers `NoMemory` where memory ran out.
 #[tactic(auto, unfolding(crate::specs::Script::script_of))]
 pub fn read_script(alloc: Global, input: &[u8]) -> Result<Script, ScriptFault>
     ensures answer { Answers script_seen result (reads.script_of input.now) }
@@ -56,6 +60,9 @@ fn first_pass(alloc: Global, read: &InputLines) -> Result<ScriptSoFar, ScriptFau
     if let Some(fault) = said.descriptions.end_fault() {
         return Err(ScriptFault::from(fault));
     }
+    if let Some(fault) = said.block_fault(read.lines.as_slice()) {
+        return Err(fault);
+    }
     Ok(said)
 }
 
@@ -72,7 +79,8 @@ fn lines_said(alloc: Global, lines: &[Line]) -> Result<ScriptSoFar, ScriptFault>
 
 // The second pass, over the names.
 fn second_pass(alloc: Global, said: ScriptSoFar) -> Result<Script, ScriptFault>
-    requires { end_fault said.descriptions ≡ None }
+    requires ended { end_fault said.descriptions ≡ None }
+    requires few { lines_in (statements_seen said.statements.items) ≤ statement_limit }
     ensures answer { Answers script_seen result (reads.second_pass (so_far_of said)) }
     ensures whole { IfOk result (λ script. AreWholeApps script.apps.items) }
 {

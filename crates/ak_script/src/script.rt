@@ -1,12 +1,14 @@
 //! What a script is.
-ghost use Rattle.std.specs.Prelude.{◌≤◌, length};
+ghost use Rattle.std.specs.Prelude.{◌≤◌};
 ghost use Rattle.ak_describe.specs.Whole.{AreWholeApps};
 ghost use Rattle.ak_script.specs.Limits.{statement_limit};
+ghost use Rattle.ak_script.specs.Statement.{lines_in};
+ghost use Rattle.ak_script.specs.StatementSeen.{statements_seen};
 
 use crate::statement::Statement;
 use ak_describe::AppText;
 
-/// The most statements of a script.
+/// The most lines of a script that say statements, those of sessions too.
 pub const STATEMENT_LIMIT: usize = 8_000;
 
 /// Applications, and what is to be done with them, in order.
@@ -14,8 +16,8 @@ pub const STATEMENT_LIMIT: usize = 8_000;
 pub struct Script {
     /// The applications, as `read_description` gives them.
     pub apps: Vec<AppText>,
-    /// At most 8,000.
+    /// In at most 8,000 lines, those of sessions too.
     pub statements: Vec<Statement>,
     ghost whole: { ∥ AreWholeApps apps.items ∥₁ },
-    ghost few: { length statements.items ≤ statement_limit },
+    ghost few: { lines_in (statements_seen statements.items) ≤ statement_limit },
 }

@@ -5,6 +5,7 @@ ghost use Rattle.ak_flatten.specs.Limits.{flat_limit};
 ghost use Rattle.ak_flatten.specs.Spelling.{spelling};
 ghost use Rattle.ak_roster.specs.Answers.{IsWord};
 ghost use Rattle.ak_script.specs.Facts.{word-prop};
+ghost use Rattle.ak_script.specs.Limits.{session_limit};
 
 use ak_base::AppWord;
 use ak_desk::Edit;
@@ -54,6 +55,34 @@ pub struct Lock {
     pub edit: Edit,
 }
 
+/// The most sessions of a block.
+pub const SESSION_LIMIT: usize = 8;
+
+/// One line of a session.
+#[derive(Drop)]
+pub enum SessionLine {
+    Hey(Hey),
+    Post(Post),
+    Lock(Lock),
+}
+
+/// What one session carries out, in order.
+#[derive(Drop)]
+pub struct SessionLines {
+    /// One or more.
+    pub lines: Vec<SessionLine>,
+    ghost some: { 1 ≤ length lines.items },
+}
+
+/// A block: sessions that run side by side.
+#[derive(Drop)]
+pub struct Together {
+    /// 1 to 8.
+    pub sessions: Vec<SessionLines>,
+    ghost some: { 1 ≤ length sessions.items },
+    ghost few: { length sessions.items ≤ session_limit },
+}
+
 /// One statement of a script.
 #[derive(Drop)]
 pub enum Statement {
@@ -61,4 +90,5 @@ pub enum Statement {
     Hey(Hey),
     Post(Post),
     Lock(Lock),
+    Together(Together),
 }

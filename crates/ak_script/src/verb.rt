@@ -1,14 +1,13 @@
 ghost use Rattle.std.specs.Prelude.{◌≡◌};
 ghost use Rattle.ak_script.specs.Forms as reads;
 
-/// The first word of a statement.
+/// The first word of a line that says a statement.
 #[derive(Clone, Copy, Debug, PartialEq, Eq)]
 pub(crate) enum Verb {
     Launch,
     Hey,
     Post,
     Lock,
-    Together,
 }
 
 pub(crate) fn verb_of(word: &[u8]) -> Option<Verb>
@@ -22,8 +21,6 @@ pub(crate) fn verb_of(word: &[u8]) -> Option<Verb>
         Some(Verb::Post)
     } else if word == b"lock".as_slice() {
         Some(Verb::Lock)
-    } else if word == b"together".as_slice() {
-        Some(Verb::Together)
     } else {
         None
     }

@@ -10,11 +10,12 @@ ghost use Rattle.ak_describe.specs.Words.{texts};
 ghost use Rattle.ak_script.specs.Answers.{Gives, Tells};
 ghost use Rattle.ak_script.specs.Faults as faults;
 ghost use Rattle.ak_script.specs.Forms as reads;
-ghost use Rattle.ak_script.specs.Seen.{items_of, statement_seen};
+ghost use Rattle.ak_script.specs.Seen.{items_of};
+ghost use Rattle.ak_script.specs.StatementSeen.{launch_seen};
 
 use crate::fault::{FormFault, StatementFault};
 use crate::messages::{arguments_message, is_short};
-use crate::statement::{Launch, Statement};
+use crate::statement::Launch;
 use crate::words::first_of;
 use ak_base::{AppWord, Limited, NoMemory, Text, is_path, is_signature};
 use ak_describe::{behind, ends};
@@ -22,8 +23,8 @@ use ak_message::{ParseFault, VALUE_LIMIT, Word, read_quoted};
 use std::alloc::Global;
 
 /// `WORD`, or `WORD args TEXT ..`
-pub(crate) fn launch_of(alloc: Global, words: &[Word]) -> Result<Statement, StatementFault>
-    ensures { Tells statement_seen result (reads.launch_of (texts words.now)) }
+pub(crate) fn launch_of(alloc: Global, words: &[Word]) -> Result<Launch, StatementFault>
+    ensures { Tells launch_seen result (reads.launch_of (texts words.now)) }
 {
     let Some((word, words)) = first_of(words) else {
         return Err(StatementFault::BadValue);
@@ -49,15 +50,15 @@ fn launch_word(alloc: Global, word: &[u8]) -> Result<Option<AppWord>, NoMemory>
 }
 
 // With the words behind the one that names the application.
-fn launched(alloc: Global, word: AppWord, words: &[Word]) -> Result<Statement, StatementFault>
+fn launched(alloc: Global, word: AppWord, words: &[Word]) -> Result<Launch, StatementFault>
     requires { IsWord word }
-    ensures { Tells statement_seen result (reads.launched word (texts words.now)) }
+    ensures { Tells launch_seen result (reads.launched word (texts words.now)) }
 {
     if ends(words) {
-        return Ok(Statement::Launch(Launch {
+        return Ok(Launch {
             word,
             arguments: None,
-        }));
+        });
     }
     match arguments_at(alloc, words)? {
         Limited::Within(texts) => launch_kept(alloc, word, texts),
@@ -66,19 +67,19 @@ fn launched(alloc: Global, word: AppWord, words: &[Word]) -> Result<Statement, S
 }
 
 // With these arguments, where the message that tells of them has at most 4,096 bytes of flat text.
-fn launch_kept(alloc: Global, word: AppWord, texts: Vec<Text>) -> Result<Statement, StatementFault>
+fn launch_kept(alloc: Global, word: AppWord, texts: Vec<Text>) -> Result<Launch, StatementFault>
     requires word { IsWord word }
     requires few { length texts.items ≤ value_limit }
-    ensures { Tells statement_seen result (reads.launch_kept word texts.items) }
+    ensures { Tells launch_seen result (reads.launch_kept word texts.items) }
 {
     let message = arguments_message(alloc, &texts)?;
     if !is_short(&message) {
         return Err(StatementFault::Limit);
     }
-    Ok(Statement::Launch(Launch {
+    Ok(Launch {
         word,
         arguments: Some(message),
-    }))
+    })
 }
 
 // `args TEXT ..`

@@ -4,10 +4,10 @@ ghost use Rattle.std.specs.Prelude.{◌≡◌};
 ghost use Rattle.ak_describe.specs.Words.{texts};
 ghost use Rattle.ak_script.specs.Answers.{Gives, Tells};
 ghost use Rattle.ak_script.specs.Forms as reads;
-ghost use Rattle.ak_script.specs.Seen.{statement_seen};
+ghost use Rattle.ak_script.specs.StatementSeen.{lock_seen};
 
 use crate::fault::{FormFault, StatementFault};
-use crate::statement::{Lock, Statement};
+use crate::statement::Lock;
 use crate::words::{first_of, looper_at, only, token_of};
 use ak_base::{Text, is_word};
 use ak_desk::Edit;
@@ -15,8 +15,8 @@ use ak_message::{Word, read_app_word};
 use std::alloc::Global;
 
 /// `APP [looper N] EDIT`
-pub(crate) fn lock_of(alloc: Global, words: &[Word]) -> Result<Statement, StatementFault>
-    ensures { Tells statement_seen result (reads.lock_of (texts words.now)) }
+pub(crate) fn lock_of(alloc: Global, words: &[Word]) -> Result<Lock, StatementFault>
+    ensures { Tells lock_seen result (reads.lock_of (texts words.now)) }
 {
     let Some((app, words)) = first_of(words) else {
         return Err(StatementFault::BadValue);
@@ -28,7 +28,7 @@ pub(crate) fn lock_of(alloc: Global, words: &[Word]) -> Result<Statement, Statem
         return Err(StatementFault::BadValue);
     };
     let edit = edit_of(alloc, words)?;
-    Ok(Statement::Lock(Lock { app, looper, edit }))
+    Ok(Lock { app, looper, edit })
 }
 
 // `add W`, `remove N`, `next N N|none` or `prefer N|none`

@@ -5,11 +5,12 @@ ghost use Rattle.ak_describe.specs.Words.{texts};
 ghost use Rattle.ak_script.specs.Answers.{Tells};
 ghost use Rattle.ak_script.specs.Faults as faults;
 ghost use Rattle.ak_script.specs.Forms as reads;
-ghost use Rattle.ak_script.specs.Seen.{statement_seen, way_and_rest, way_seen};
+ghost use Rattle.ak_script.specs.Seen.{way_and_rest, way_seen};
+ghost use Rattle.ak_script.specs.StatementSeen.{post_seen};
 
 use crate::fault::StatementFault;
 use crate::messages::is_short;
-use crate::statement::{Post, Statement};
+use crate::statement::Post;
 use crate::words::{first_of, flag_behind, looper_at, token_behind};
 use ak_base::AppWord;
 use ak_message::{Message, ParseFault, Target, Word, read_app_word, read_message};
@@ -25,8 +26,8 @@ struct Posting {
 }
 
 /// `APP [looper N] [token N] [dropped] [wait] MESSAGE`
-pub(crate) fn post_of(alloc: Global, words: &[Word]) -> Result<Statement, StatementFault>
-    ensures { Tells statement_seen result (reads.post_of (texts words.now)) }
+pub(crate) fn post_of(alloc: Global, words: &[Word]) -> Result<Post, StatementFault>
+    ensures { Tells post_seen result (reads.post_of (texts words.now)) }
 {
     let Some((app, words)) = first_of(words) else {
         return Err(StatementFault::BadValue);
@@ -82,8 +83,8 @@ fn target_of(token: Option<u64>) -> Target
 }
 
 // The statement, where its message has at most 4,096 bytes of flat text.
-fn post_kept(app: AppWord, posting: Posting, message: Message) -> Result<Statement, StatementFault>
-    ensures { Tells statement_seen result (reads.post_kept app (way_seen posting) message) }
+fn post_kept(app: AppWord, posting: Posting, message: Message) -> Result<Post, StatementFault>
+    ensures { Tells post_seen result (reads.post_kept app (way_seen posting) message) }
 {
     if !is_short(&message) {
         return Err(StatementFault::Limit);
@@ -94,12 +95,12 @@ fn post_kept(app: AppWord, posting: Posting, message: Message) -> Result<Stateme
         dropped,
         waits,
     } = posting;
-    Ok(Statement::Post(Post {
+    Ok(Post {
         app,
         looper,
         target,
         dropped,
         waits,
         message,
-    }))
+    })
 }

@@ -12,4 +12,4 @@ returns-in-Ok-clause-complete g c = λ command source_stayed sink_stayed spawner
 
 pub returns-in-Ok-clause-short : goal.returns-in-Ok-clause-short
 returns-in-Ok-clause-short g c =
-    ends_short c.play.result.run c.play.result.ending (g.K.Sink.written c.args.sink.now) (g.K.Sink.written c.play.new.sink) (Rose (g.K.Sink.faults c.args.sink.now) (g.K.Sink.faults c.play.new.sink)) c.play.ensures.play
+    ends_short c.play.result.run c.play.result.ending (g.K.Sink.written c.args.sink.now) (g.K.Sink.written c.play.new.sink) (g.K.Sink.faults c.args.sink.now) (g.K.Sink.faults c.play.new.sink) c.play.ensures.play

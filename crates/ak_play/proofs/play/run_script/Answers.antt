@@ -1,6 +1,7 @@
-use Rattle.std.proofs.Common.{List, ap, sym, ◌∙◌, subst}
+use Rattle.std.proofs.Common.{◌≡◌, List, ap, sym, ◌∙◌, subst}
 use Rattle.std.specs.Prelude.{Vec}
 use Rattle.std.specs.declared.alloc.Global.{Global}
+use Rattle.ak_outside.specs.Faults.{Rose}
 use Rattle.ak_describe.specs.declared.described.AppText.{AppText}
 use Rattle.ak_describe.specs.Whole.{AreWholeApps, heads_of}
 use Rattle.ak_play.proofs.Ends.{is_play_as}
@@ -19,8 +20,11 @@ pub returns-clause-play : goal.returns-clause-play
 returns-clause-play g c =
     let played = c.play_all-played in
     let end = c.finish-end in
+    let run = played.new.run in
     let same = ap (λ (apps : Vec AppText Global). apps.items) played.ensures.apps ∙ c.in-Ok-new.ensures.apps in
     let later = ap heads_of same in
-    is_play_as c.args.script.apps.items c.args.script.statements.items played.result played.new.run end.result.0 (g.K.Sink.written c.args.sink.now) (g.K.Sink.written played.new.sink)
-    c.in-Ok-new.run'.apps.items (heads_of played.new.run.apps.items) (heads_of played.new.run.apps.items) c.as_slice.result.now played.new.outcomes.items end.result.1 c.in-Ok-new.ensures.apps later later c.as_slice.ensures.value end.ensures.outcomes end.ensures.ending
-    played.ensures.played played.ensures.whole end.ensures.short end.ensures.run end.ensures.answered end.ensures.did
+    let f0 = g.K.Sink.faults c.args.sink.now in
+    let f1 = g.K.Sink.faults played.new.sink in
+    is_play_as c.args.script.apps.items c.args.script.statements.items played.result run end.result.0 (g.K.Sink.written c.args.sink.now) (g.K.Sink.written played.new.sink) (Rose f0 f1) (f1 ≡ f0)
+    c.in-Ok-new.run'.apps.items (heads_of run.apps.items) (heads_of run.apps.items) c.as_slice-2.result.now played.new.outcomes.items played.new.short.items end.result.1 c.in-Ok-new.ensures.apps later later c.as_slice-2.ensures.value end.ensures.outcomes end.ensures.short_sessions end.ensures.ending
+    played.ensures.played end.ensures.short end.ensures.run end.ensures.answered end.ensures.sessions end.ensures.did

@@ -1,53 +1,92 @@
-use Rattle.std.proofs.Common.{◌≡◌, ◌+◌, ℕ, List, length, slice_get, Some, Ok, Err, refl, sym, ap, ◌∙◌, subst}
+-- Statement after statement, as far as nothing stops it.
+use Rattle.std.proofs.Common.{◌≡◌, ◌≤◌, ◌+◌, ℕ, List, [], ◌∷◌, length, length-append, drop, vec_capacity, slice_get, is_some, Some, Ok, Err, refl, sym, ap, ◌∙◌, subst, arith}
 use Rattle.std.specs.Prelude.{Vec}
+use Rattle.std.specs.List.{list_all}
 use Rattle.std.specs.declared.alloc.Global.{Global}
-use Rattle.std.proofs.lemmas.List.{length_push}
 use Rattle.std.proofs.lemmas.Result.{err_from_is_err_and}
+use Rattle.ak_outside.specs.Faults.{Rose}
 use Rattle.ak_describe.specs.declared.described.AppText.{AppText}
-use Rattle.ak_play.specs.declared.outcome.Outcome.{Outcome}
+use Rattle.ak_run.specs.Sessions.{Told, session_count}
+use Rattle.ak_script.specs.declared.statement.Statement.{Statement}
+use Rattle.ak_script.specs.Limits.{statement_limit}
+use Rattle.ak_script.specs.Statement.{lines_in}
+use Rattle.ak_script.specs.StatementSeen.{statements_seen}
+use Rattle.ak_lines.specs.declared.outcome.Outcome.{Outcome}
+use Rattle.ak_play.specs.Parts.{all_sessions_in}
 use Rattle.ak_play.specs.Steps.{HasStepped, IsPlayedSoFar}
 use Rattle.ak_play.proofs.Lists.{at_index}
 use Rattle.ak_play.proofs.Playing.{play_begun, play_ends, play_goes_on, play_stops}
+use Rattle.ak_play.proofs.Room.{as_many_sessions, few_sessions, next_of, pushed_at_most}
 use Rattle.ak_play.proofs.stepping.play_all.Goals as goal
+
+-- what the next one may come to is part of what there is room for
+next_few : (f : List Statement → ℕ) (statements : List Statement) (i : ℕ) (s : Statement) (base most : ℕ) → slice_get statements i ≡ Some s → base + f (drop i statements) ≤ most → base + f (s ∷ drop (i + 1) statements) ≤ most
+next_few f statements i s base most at room = subst (λ (ss : List Statement). base + f ss ≤ most) (next_of statements i s at) room
 
 pub loop-statement-init : goal.loop-statement-init
 loop-statement-init g c =
     let apps = c.args.run.now.apps.items in
     let given = g.K.Sink.written c.args.sink.now in
+    let faults = g.K.Sink.faults c.args.sink.now in
     record {
-      so_far = subst (λ (os : List Outcome). IsPlayedSoFar apps c.args.statements.now os c.args.run.now given given) (sym c.requires.none) (play_begun apps c.args.statements.now c.args.run.now given c.requires.nothing);
-      count = ap length c.requires.none;
-      room = refl;
-      sink_kept = refl;
+      so_far = subst (λ (os : List Outcome). IsPlayedSoFar apps c.args.statements.now os c.args.short.now.items 0 c.args.run.now given given (faults ≡ faults)) (sym c.requires.none)
+          (subst (λ (ns : List ℕ). IsPlayedSoFar apps c.args.statements.now [] ns 0 c.args.run.now given given (faults ≡ faults)) (sym c.requires.none_short)
+          (play_begun apps c.args.statements.now c.args.run.now given (faults ≡ faults) refl c.requires.nothing c.requires.no_session));
+      room = omega (arith, ap length c.requires.none, c.requires.room);
+      few = omega (arith, ap (λ (all : List Told). length all) c.requires.no_session, few_sessions c.args.statements.now, c.requires.few);
       spawner_kept = refl;
       running = c.requires.running;
+      closed = ap (list_all (λ (told : Told). is_some told.1)) c.requires.no_session;
       apps = refl;
-      sessions = refl;
     }
+
+pub step-requires-clause-few : goal.step-requires-clause-few
+step-requires-clause-few g c =
+    let i = c.loop-statement.statement-index in
+    let s = c.statement-item.result in
+    let at = at_index c.args.statements.now i s c.loop-statement-test.true c.statement-item.is in
+    omega (arith, next_few all_sessions_in c.args.statements.now i s (session_count c.loop-statement.run) statement_limit at c.loop-statement.invariant.few)
+
+pub step-requires-clause-room : goal.step-requires-clause-room
+step-requires-clause-room g c =
+    let i = c.loop-statement.statement-index in
+    let s = c.statement-item.result in
+    let at = at_index c.args.statements.now i s c.loop-statement-test.true c.statement-item.is in
+    omega (arith, next_few (λ (ss : List Statement). lines_in (statements_seen ss)) c.args.statements.now i s (length c.loop-statement.outcomes.items) (vec_capacity c.loop-statement.outcomes) at c.loop-statement.invariant.room)
 
 pub loop-statement-preserved : goal.loop-statement-preserved
 loop-statement-preserved g c =
     let apps = c.args.run.now.apps.items in
     let statements = c.args.statements.now in
-    let statement = c.statement-item.result in
-    let inv = c.loop-statement.invariant in
-    let before = c.loop-statement.outcomes.items in
+    let was = c.loop-statement in
+    let inv = was.invariant in
+    let i = was.statement-index in
+    let s = c.statement-item.result in
     let told = c.in_ok-step.ensures in
-    let same : c.loop-statement.run.apps.items ≡ apps = ap (λ (v : Vec AppText Global). v.items) inv.apps in
-    let at : slice_get statements (length before) ≡ Some statement = ap (slice_get statements) inv.count ∙ at_index statements c.loop-statement.statement-index statement c.loop-statement-test.true c.statement-item.is in
+    let r = was.run in
+    let r' = c.step.new.run in
+    let os = was.outcomes.items in
+    let os' = c.step.new.outcomes.items in
+    let ns = was.short.items in
+    let ns' = c.step.new.short.items in
+    let same : r.apps.items ≡ apps = ap (λ (v : Vec AppText Global). v.items) inv.apps in
+    let at : slice_get statements i ≡ Some s = at_index statements i s c.loop-statement-test.true c.statement-item.is in
     let old = g.K.Sink.written c.args.sink.now in
-    let mid = g.K.Sink.written c.loop-statement.sink in
+    let mid = g.K.Sink.written was.sink in
     let new = g.K.Sink.written c.step.new.sink in
-    let on = subst (λ (xs : List AppText). HasStepped xs statement (Ok c.in_ok-step.field-0) before c.step.new.outcomes.items c.loop-statement.run c.step.new.run mid new) same told.stepped in
+    let f0 = g.K.Sink.faults c.args.sink.now in
+    let f1 = g.K.Sink.faults was.sink in
+    let f2 = g.K.Sink.faults c.step.new.sink in
+    let on = subst (λ (xs : List AppText). HasStepped xs s os os' ns ns' r r' mid new (Rose f1 f2) (f2 ≡ f1) (Ok c.in_ok-step.field-0)) same told.stepped in
+    let done = play_goes_on apps statements s os os' ns ns' i r r' old mid new (f1 ≡ f0) (f2 ≡ f0) inv.so_far at (f2 ≡ f1) (λ one two. two ∙ one) on in
     record {
-      so_far = play_goes_on apps statements statement before c.step.new.outcomes.items c.loop-statement.run c.step.new.run old mid new inv.so_far at on;
-      count = ap length on.pushed ∙ length_push before on.outcome ∙ ap (λ (n : ℕ). n + 1) inv.count;
-      room = told.room ∙ inv.room;
-      sink_kept = told.sink_kept (λ bad. absurd (cc bad)) ∙ inv.sink_kept;
-      spawner_kept = told.spawner_kept (λ bad. absurd (cc bad)) ∙ inv.spawner_kept;
+      so_far = done;
+      room = omega (arith, next_few (λ (ss : List Statement). lines_in (statements_seen ss)) statements i s (length os) (vec_capacity was.outcomes) at inv.room, pushed_at_most s on, ap length on.kept.outcomes_are, length-append os on.part.outcomes, told.room);
+      few = omega (arith, next_few all_sessions_in statements i s (session_count r) statement_limit at inv.few, on.sessions.count, as_many_sessions s on);
+      spawner_kept = told.spawner_kept (λ bad. absurd bad) ∙ inv.spawner_kept;
       running = told.running;
+      closed = told.closed;
       apps = told.apps ∙ inv.apps;
-      sessions = told.sessions ∙ inv.sessions;
     }
 
 pub returns-in_err-step-clause-played : goal.returns-in_err-step-clause-played
@@ -55,17 +94,35 @@ returns-in_err-step-clause-played g c =
     let p = err_from_is_err_and c.from_residual.result c.from_residual.ensures.1 in
     let apps = c.args.run.now.apps.items in
     let statements = c.args.statements.now in
-    let statement = c.statement-item.result in
-    let inv = c.loop-statement.invariant in
-    let before = c.loop-statement.outcomes.items in
-    let same : c.loop-statement.run.apps.items ≡ apps = ap (λ (v : Vec AppText Global). v.items) inv.apps in
-    let at : slice_get statements (length before) ≡ Some statement = ap (slice_get statements) inv.count ∙ at_index statements c.loop-statement.statement-index statement c.loop-statement-test.true c.statement-item.is in
+    let was = c.loop-statement in
+    let inv = was.invariant in
+    let i = was.statement-index in
+    let s = c.statement-item.result in
+    let r = was.run in
+    let r' = c.step.new.run in
+    let os = was.outcomes.items in
+    let os' = c.step.new.outcomes.items in
+    let ns = was.short.items in
+    let ns' = c.step.new.short.items in
+    let same : r.apps.items ≡ apps = ap (λ (v : Vec AppText Global). v.items) inv.apps in
+    let at : slice_get statements i ≡ Some s = at_index statements i s c.loop-statement-test.true c.statement-item.is in
     let old = g.K.Sink.written c.args.sink.now in
-    let mid = g.K.Sink.written c.loop-statement.sink in
+    let mid = g.K.Sink.written was.sink in
     let new = g.K.Sink.written c.step.new.sink in
-    let has = subst (λ (xs : List AppText). HasStepped {A = Unit {0}} xs statement (Err c.in_err-step.field-0.0) before c.step.new.outcomes.items c.loop-statement.run c.step.new.run mid new) same c.in_err-step.ensures.stepped in
-    rw (p.1, p.2) (play_stops apps statements statement before c.step.new.outcomes.items c.loop-statement.run c.step.new.run old mid new inv.so_far at c.in_err-step.field-0.0 has)
+    let f0 = g.K.Sink.faults c.args.sink.now in
+    let f1 = g.K.Sink.faults was.sink in
+    let f2 = g.K.Sink.faults c.step.new.sink in
+    let has = subst (λ (xs : List AppText). HasStepped xs s os os' ns ns' r r' mid new (Rose f1 f2) (f2 ≡ f1) {A = Unit {0}} (Err c.in_err-step.field-0.0)) same c.in_err-step.ensures.stepped in
+    rw (p.1, p.2) (play_stops apps statements s os os' ns ns' i r r' old mid new (f1 ≡ f0) (f2 ≡ f0) inv.so_far at (Rose f1 f2) (Rose f0 f2) (f2 ≡ f1) (λ rose. subst (λ (n : ℕ). Rose n f2) inv.so_far.sink rose) (λ one two. two ∙ one) c.in_err-step.field-0.0 has)
 
 pub returns-clause-played : goal.returns-clause-played
 returns-clause-played g c =
-    play_ends c.args.run.now.apps.items c.args.statements.now c.loop-statement.outcomes.items c.loop-statement.run (g.K.Sink.written c.args.sink.now) (g.K.Sink.written c.loop-statement.sink) c.loop-statement.invariant.so_far
+    let was = c.loop-statement in
+    let statements = c.args.statements.now in
+    let f0 = g.K.Sink.faults c.args.sink.now in
+    let f1 = g.K.Sink.faults was.sink in
+    let old = g.K.Sink.written c.args.sink.now in
+    let new = g.K.Sink.written was.sink in
+    let all : was.statement-index ≡ length statements = omega (arith, c.loop-statement-test.false, was.auto.statement-index-end) in
+    play_ends c.args.run.now.apps.items statements tt was.outcomes.items was.short.items was.run old new (Rose f0 f1) (f1 ≡ f0)
+    (subst (λ (n : ℕ). IsPlayedSoFar c.args.run.now.apps.items statements was.outcomes.items was.short.items n was.run old new (f1 ≡ f0)) all was.invariant.so_far)

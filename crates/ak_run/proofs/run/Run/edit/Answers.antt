@@ -2,8 +2,8 @@
 use Rattle.std.proofs.Common.{refl, sym, ap, ◌∙◌, subst}
 use Rattle.std.proofs.lemmas.List.{length-set}
 use Rattle.ak_turn.specs.Called.{KeepsSeat}
-use Rattle.ak_run.specs.Doing.{EditedSo}
-use Rattle.ak_run.specs.Sending.{edited_event}
+use Rattle.ak_session.specs.Doing.{EditedSo}
+use Rattle.ak_session.specs.Calls.{edited_event}
 use Rattle.ak_turn.proofs.Surface.{keeps_itself}
 use Rattle.ak_run.proofs.Calls.{desk_after, desk_before, desk_keeps, main_has, one_runs}
 use Rattle.ak_run.proofs.Edits.{edited_does}

@@ -3,16 +3,16 @@ ghost use Rattle.std.specs.Prelude.{◌≡◌};
 use crate::outcome::Outcome;
 use ak_print::Told;
 
-/// What a statement came to, and what is told of it.
+/// What a statement or a line came to, and what is told of it.
 #[derive(Drop)]
-pub(crate) struct Came {
-    pub(crate) outcome: Outcome,
-    pub(crate) told: Told,
+pub struct Came {
+    pub outcome: Outcome,
+    pub told: Told,
 }
 
 impl Came {
     /// No running team fits, as the entry at that place tells.
-    pub(crate) fn no_team(place: u64) -> Came
+    pub fn no_team(place: u64) -> Came
         ensures outcome { result.outcome ≡ Outcome.NoTeam place }
         ensures told { result.told ≡ Told.NoTeam }
     {
@@ -23,7 +23,7 @@ impl Came {
     }
 
     /// The team that the entry at that place tells has no such looper.
-    pub(crate) fn no_looper(place: u64) -> Came
+    pub fn no_looper(place: u64) -> Came
         ensures outcome { result.outcome ≡ Outcome.NoLooper place }
         ensures told { result.told ≡ Told.NoLooper }
     {
