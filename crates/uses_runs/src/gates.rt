@@ -1,4 +1,4 @@
-//! Gates: at one a looper is held, the other watches what passes.
+//! Gates: at two a looper is held, until main lets it go or another looper passes; the third watches what passes.
 
 ghost use Rattle.std.specs.Prelude.{◌<◌};
 ghost use Rattle.ak_base.specs.Thread.{keeper_thread, looper_thread};
@@ -99,6 +99,39 @@ impl Hold {
 
     pub fn let_go(&self) {
         set(&self.mark, LET_GO);
+    }
+}
+
+// ---- a looper waits for another one
+/// Holds the first looper in its first dispatch, before the message is routed, until the second one has dispatched a message.
+#[derive(Drop)]
+pub struct Until {
+    passed: Arc<AtomicU64>,
+}
+
+impl Clone for Until {
+    fn clone(&self) -> Result<Until, AllocError> {
+        Ok(Until {
+            passed: Arc::try_clone(&self.passed)?,
+        })
+    }
+}
+
+impl Gate for Until {
+    fn at<R: Wait>(&self, rt: &R, thread: ThreadId, point: Point) {
+        if thread == ThreadId::FIRST_LOOPER && point == Point::BeforeDispatch {
+            await_mark(rt, &self.passed, 1);
+        } else if thread != ThreadId::FIRST_LOOPER && point == Point::AfterDispatch {
+            set(&self.passed, 1);
+        }
+    }
+}
+
+impl Until {
+    pub fn new(alloc: Global) -> Result<Until, AllocError> {
+        Ok(Until {
+            passed: Arc::new(alloc, AtomicU64::new(0))?,
+        })
     }
 }
 

@@ -1,5 +1,5 @@
 //! Runs in threads, as a program above would have them: applications are launched, messages posted and asked, handlers
-//! edited, and then the list of each object is looked at. A whole script is read and carried out too. There is nothing
+//! edited, and then the list of each object is looked at. Whole scripts are read and carried out too, with blocks of sessions. There is nothing
 //! here but tests.
 #![tactic(auto)]
 
@@ -7,6 +7,8 @@
 mod accounts;
 #[cfg(test)]
 mod asks;
+#[cfg(test)]
+mod blocks;
 #[cfg(test)]
 mod compare;
 #[cfg(test)]

@@ -1,9 +1,9 @@
-//! A script from its text to the lists of its run.
+//! Scripts from their text to the lists of their runs.
 
 use crate::compare::same;
 use ak_base::{Bytes, Ending};
 use ak_diary::Histories;
-use ak_outside::{ListSink, OpenGate, PlannedSpawner};
+use ak_outside::{Gate, ListSink, OpenGate, PlannedSpawner};
 use ak_play::{RunEnd, run_script};
 use ak_script::read_script;
 use run_lists::{Told, count_answered, slot_accounts, tell, tell_faults};
@@ -39,16 +39,19 @@ fn tell_run(out: &mut Bytes, alloc: Global, run: &Option<RunEnd>) -> Told {
     }
 }
 
-// Reads the script and carries it out. Tells what was written, how it ended, and what holds of its lists.
-fn told_of_script<R: Threads + Wait + Copy + Send + 'static>(
+/// Reads the script and carries it out at this gate; that start of a thread is refused, counted from 1, or none where it is 0.
+/// Tells what was written, how it ended, and what holds of its lists.
+pub fn told_of_script<G: Gate + 'static, R: Threads + Wait + Copy + Send + 'static>(
     rt: &R,
     alloc: Global,
     text: &[u8],
+    start: u64,
+    gate: &G,
 ) -> Result<Bytes, Fail> {
     let script = read_script(alloc, text)?;
     let mut sink = ListSink::new(alloc, Vec::new(alloc));
-    let mut spawner = PlannedSpawner::new(Vec::new(alloc));
-    let (run, ending) = run_script(alloc, rt, script, &mut sink, &mut spawner, &OpenGate);
+    let mut spawner = PlannedSpawner::new(vec![in alloc; start]?);
+    let (run, ending) = run_script(alloc, rt, script, &mut sink, &mut spawner, gate);
     let mut told = Bytes::new(alloc);
     told.extend(sink.written())?;
     tell_ending(&mut told, ending)?;
@@ -222,7 +225,7 @@ fn a_script_of_four_applications(rt: HostRuntime) -> Result<(), Fail> {
     same(
         &rt,
         "each message is accounted for, and each ask answered",
-        &told_of_script(&rt, alloc, FOUR)?,
+        &told_of_script(&rt, alloc, FOUR, 0, &OpenGate)?,
         FOUR_DONE,
     );
     Ok(())

@@ -1,4 +1,5 @@
-//! The top call: each ending has its cause, and its run is ended.
+//! The top call: each ending has its cause, and its run is ended, with a block of sessions too.
+mod blocks;
 mod endings;
 mod fixture;
 mod inputs;

@@ -25,6 +25,26 @@ launch /boot/Demo
 hey Demo get Count
 ";
 
+/// The same with a block of two sessions of two lines each, and a statement behind it.
+pub const BLOCK: &str = "kit 1
+app /boot/Demo application/x-demo single
+looper demo
+property Count LONG
+element 3
+looper side
+script
+launch /boot/Demo
+together
+session
+hey Demo get Count
+hey Demo count Count
+session
+lock Demo add more
+post Demo wait 'note'
+end
+hey Demo count Handler
+";
+
 /// What a run is made with: the words, and which read, which byte that is written, and which start of a thread fails,
 /// counted from 1, where 0 is none.
 #[derive(Clone, Copy)]

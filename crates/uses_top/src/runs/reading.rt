@@ -1,5 +1,5 @@
 //! The word `read`: how much an input describes, and how many statements it has.
-use super::fixture::{Case, INPUT, RUN, bytes_of, tell_case};
+use super::fixture::{BLOCK, Case, INPUT, RUN, bytes_of, tell_case};
 use crate::compare::same_text;
 use ak_base::{Bytes, NoMemory};
 use ak_kit::kit_read;
@@ -89,12 +89,13 @@ lock a add w
 launch /a
 ";
 
-// What is read, and of the input of the fixture also with a read, or the write of a byte, that fails. Its line has 41
+// What is read, of a block each of its lines, and of the input of the fixture also with a read, or the write of a byte, that fails. Its line has 41
 // bytes.
-static READS: [(Case, &str); 11] = [
+static READS: [(Case, &str); 12] = [
     (READ, DEMO),
     (READ, MAIL),
     (READ, SEVERAL),
+    (READ, BLOCK),
     (READ, ""),
     (READ, "# nothing\n"),
     (READ, "kit 1\nscript\nhey demo get Count of\n"),
@@ -110,6 +111,8 @@ const TOLD: &str = "apps 1 loopers 1 handlers 0 statements 2
 apps 1 loopers 3 handlers 1 statements 21
 = 0 done, 0 left, no run
 apps 2 loopers 3 handlers 4 statements 3
+= 0 done, 0 left, no run
+apps 1 loopers 2 handlers 0 statements 6
 = 0 done, 0 left, no run
 apps 0 loopers 0 handlers 0 statements 0
 = 0 done, 0 left, no run
