@@ -26,7 +26,9 @@ syntax match kitSignature "\<application/[A-Za-z0-9_.:/-]\+" contained
 syntax cluster kitWords contains=kitText,kitCode,kitNumber,kitKind,kitTruth,kitCopied,kitPath,kitSignature
 
 " ---- lines: the first word says what a line is, and which further words have a meaning of their own
-syntax match kitFirst /^[ \t]*\%(kit\|script\|together\|session\|end\)\>/
+syntax match kitFirst /^[ \t]*\%(kit\|script\)\>/
+" a block of sessions: these three stand alone in their lines
+syntax match kitBlock /^[ \t]*\%(together\|session\|end\)[ \t\r]*$/
 syntax match kitHead /^[ \t]*\%(app\|looper\|handler\)\>/ nextgroup=kitHeadRest
 syntax match kitHeadRest /.*/ contained contains=@kitWords,kitHeadKey
 syntax keyword kitHeadKey capacity single multiple exclusive contained
@@ -65,6 +67,7 @@ highlight default link kitCopied Identifier
 highlight default link kitPath Constant
 highlight default link kitSignature Constant
 highlight default link kitFirst PreProc
+highlight default link kitBlock Repeat
 highlight default link kitHead Structure
 highlight default link kitHeadKey StorageClass
 highlight default link kitPart Keyword
