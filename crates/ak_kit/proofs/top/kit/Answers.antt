@@ -1,4 +1,3 @@
-use Rattle.ak_outside.specs.Faults.{Rose}
 use Rattle.ak_kit.proofs.Ends.{ends_short, ends_well, no_fault}
 use Rattle.ak_kit.proofs.top.kit.Goals as goal
 
