@@ -47,8 +47,6 @@ pub enum RefusalKind {
     ChainLoop,
     /// What is asked is not described later than the one that asks.
     AskOrder,
-    /// The program does not run such an input yet.
-    NotYet,
 }
 
 impl fmt::Display for RefusalKind {
@@ -71,7 +69,6 @@ impl fmt::Display for RefusalKind {
             RefusalKind::UnknownName => f.write_str("unknown name"),
             RefusalKind::ChainLoop => f.write_str("chain loop"),
             RefusalKind::AskOrder => f.write_str("ask order"),
-            RefusalKind::NotYet => f.write_str("not yet"),
         }
     }
 }

@@ -80,7 +80,6 @@ IsLineFault s line refusal.Unfinished = ⊥
 IsLineFault s line refusal.UnknownName = ⊥
 IsLineFault s line refusal.ChainLoop = ⊥
 IsLineFault s line refusal.AskOrder = ⊥
-IsLineFault s line refusal.NotYet = ⊥
 
 -- ---- lines, one after another, from a state to another one
 abbrev pub Follow : State → List Line → State → Type 0
@@ -160,7 +159,6 @@ IsNameFault apps a l n refusal.NotUtf8 = ⊥
 IsNameFault apps a l n refusal.BadWord = ⊥
 IsNameFault apps a l n (refusal.BadHey column) = ⊥
 IsNameFault apps a l n refusal.Unfinished = ⊥
-IsNameFault apps a l n refusal.NotYet = ⊥
 
 abbrev pub IsVain : List AppData → Named → RefusalKind → Type 0
 IsVain apps n kind = (a : AppData) × (l : LooperData) × IsAt apps n a l × IsNameFault apps a l n kind

@@ -46,8 +46,7 @@ fn text_of(kind: RefusalKind) -> &'static str {
         RefusalKind::InputTooLong
         | RefusalKind::NotUtf8
         | RefusalKind::BadWord
-        | RefusalKind::BadHey(_)
-        | RefusalKind::NotYet => "it is no line of a description",
+        | RefusalKind::BadHey(_) => "it is no line of a description",
     }
 }
 

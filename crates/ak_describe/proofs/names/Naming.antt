@@ -31,7 +31,6 @@ OneOf U C E refusal.NotUtf8 = ⊥
 OneOf U C E refusal.BadWord = ⊥
 OneOf U C E (refusal.BadHey column) = ⊥
 OneOf U C E refusal.Unfinished = ⊥
-OneOf U C E refusal.NotYet = ⊥
 
 -- exactly these faults are told
 abbrev pub Tells : Option RefusalKind → (RefusalKind → Type 0) → Type 0
