@@ -14,7 +14,7 @@ use Rattle.ak_turn.proofs.seat.Seat.TheSendSync as Seat'
 use Rattle.ak_turn.proofs.lock.TurnLock.TheSendSync as TurnLock'
 use Rattle.ak_desk.proofs.entry.Edit.TheSendSync as Edit'
 use Rattle.ak_desk.proofs.entry.EditAnswer.TheSendSync as EditAnswer'
-use Rattle.ak_looper.proofs.Crossing.{Door-send, Hands-send, KeptDoor-send, RosterBook-send}
+use Rattle.ak_looper.proofs.Surface.{Door-send, Hands-send, KeptDoor-send, RosterBook-send}
 use Rattle.ak_message.specs.contracts.message.Message as Message
 use Rattle.ak_script.specs.contracts.statement.Hey as Hey
 use Rattle.ak_script.specs.contracts.statement.Post as Post

@@ -33,7 +33,6 @@ pub mod Places
 pub mod PortsAtStart
 pub mod Recorded
 pub mod RosterTurn
-pub mod SessionDoors
 pub mod SlotsStand
 pub mod Splits
 pub mod Standing

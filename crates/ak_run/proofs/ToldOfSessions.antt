@@ -35,7 +35,7 @@ use Rattle.ak_looper.specs.declared.kept_door.KeptDoor.{KeptDoor}
 use Rattle.ak_looper.specs.Rosters as rosters
 use Rattle.ak_looper.specs.Rosters.{Object, RosterSeat}
 use Rattle.ak_looper.specs.Doors.{door_object}
-use Rattle.ak_looper.proofs.Surface.{leads_on, plain_starts}
+use Rattle.ak_looper.proofs.Surface.{leads_on, none_of_door, own_entries, plain_starts}
 use Rattle.ak_session.specs.declared.session.Session.{Session}
 use Rattle.ak_session.specs.Stands.{DoorStands, IsAtOneOf, IsStanding, Stands, numbers_of}
 use Rattle.ak_run.specs.declared.gathering.Joined.{Joined}
@@ -49,7 +49,6 @@ use Rattle.ak_run.proofs.Knowing.{known_told, part_known, plain_told}
 use Rattle.ak_run.proofs.Makers.{IsGathered, as_many, edited_by_holders, history, made_by_holders, port_of}
 use Rattle.ak_run.proofs.Paired.{AllAreJoined, at_from}
 use Rattle.ak_run.proofs.Placed.{books_at, way_to}
-use Rattle.ak_run.proofs.SessionDoors.{none_of_door, own_entries}
 use Rattle.ak_run.proofs.SlotsStand.{all_stood, came_of}
 use Rattle.ak_run.proofs.Taking.{all_at, some_and}
 
