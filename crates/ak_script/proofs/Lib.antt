@@ -1,6 +1,8 @@
 pub mod AllLines
 pub mod Begun
 pub mod Counting
+pub mod GeneratedApp
+pub mod GeneratedCounts
 pub mod Heys
 pub mod InOrder
 pub mod Launches

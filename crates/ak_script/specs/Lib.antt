@@ -3,6 +3,7 @@ pub mod Blocks
 pub mod Facts
 pub mod Faults
 pub mod Forms
+pub mod Generated
 pub mod Laws
 pub mod Limits
 pub mod Messages

@@ -1,7 +1,7 @@
 //! Scripts. `read_script` answers the script that an input is the text of: its applications, and the statements that
 //! are to be carried out, or the first line with a fault, and the first of its faults. The first pass goes line
-//! by line, through descriptions and statements; where it finds nothing, names are looked up. Nothing here
-//! waits, and nothing is shared.
+//! by line, through descriptions and statements; where it finds nothing, names are looked up. `generated` makes
+//! the script of a number. Nothing here waits, and nothing is shared.
 #![tactic(auto)]
 
 mod amount;
@@ -10,6 +10,7 @@ mod copies;
 mod fault;
 mod form;
 mod front;
+mod generating;
 mod laws;
 mod messages;
 mod part;
@@ -23,6 +24,7 @@ mod words;
 
 pub use amount::count_lines;
 pub use fault::ScriptFault;
+pub use generating::{GENERATED_LIMIT, generated, generated_counts};
 pub use laws::{
     bad_heys_are_told, lines_are_read, scripts_are_whole, scripts_or_refusals,
     session_lines_are_read, statements_are_read,
