@@ -13,8 +13,9 @@ use Rattle.ak_script.specs.declared.statement.SessionLines.{SessionLines}
 use Rattle.ak_script.specs.declared.statement.Statement.{Statement}
 use Rattle.ak_script.specs.declared.statement.Statement.TheVariants as statement
 use Rattle.ak_script.specs.declared.statement.Together.{Together}
+use Rattle.ak_script.specs.Statement.{lines_of}
+use Rattle.ak_script.specs.StatementSeen.{statement_seen}
 use Rattle.ak_lines.specs.declared.came.Came.{Came}
-use Rattle.ak_lines.specs.declared.outcome.Outcome.{Outcome}
 use Rattle.ak_block.specs.declared.blocks.Cut.TheVariants as cut
 use Rattle.ak_block.specs.declared.blocks.Heard.{Heard}
 use Rattle.ak_block.specs.Carried.{AreCarried, HasSessionsMore, IsCarriedIn, SessionPart}
@@ -22,6 +23,7 @@ use Rattle.ak_block.specs.Together.{HasCarriedAll, HasRunBlock, part_of}
 use Rattle.ak_play.specs.declared.stop.Stop.{Stop}
 use Rattle.ak_play.specs.declared.stop.Stop.TheVariants as stop
 use Rattle.ak_play.specs.Blocks.{IsAlone, IsBlock, IsLaunch}
+use Rattle.ak_play.specs.Gathered.{GatheredData, gathered_and, of_came, of_sessions}
 use Rattle.ak_play.specs.Parts.{IsMains, IsOfSessions, IsPart, Part, session_outcomes, session_tolds, short_in}
 use Rattle.ak_play.specs.Steps.{HasStepped, HasWritten, HasWrittenAll, IsThreadFault, StepsOn, StopsInside, StopsShort, is_lack}
 use Rattle.ak_play.proofs.Doing.{nothing_so}
@@ -36,37 +38,37 @@ mains_part apps C from (statement.Post p) part alone is = is
 mains_part apps C from (statement.Lock l) part alone is = is
 mains_part apps C from (statement.Together t) part alone is = absurd alone
 
-module _ (apps : List AppText) (s : Statement) (alone : IsAlone s) (os : List Outcome) (ns : List ℕ) (r r' : Run) (old new : Option (List ℕ)) (Failed Kept : Type 0) (same : sessions_of r' ≡ sessions_of r) where
+module _ (apps : List AppText) (s : Statement) (alone : IsAlone s) (k : GatheredData) (r r' : Run) (old new : Option (List ℕ)) (Failed Kept : Type 0) (same : sessions_of r' ≡ sessions_of r) where
   -- it came to something
-  main_on : (came : Came) (steps : List Step) → IsBlock apps s came.outcome came.told steps → Does steps r r' → {W : List Told → Type 0} → W (came.told ∷ []) → StepsOn apps s os (os ++ came.outcome ∷ []) ns ns r r' W
+  main_on : (came : Came) (steps : List Step) → IsBlock apps s came.outcome came.told steps → Does steps r r' → {W : List Told → Type 0} → W (came.told ∷ []) → StepsOn apps s k (gathered_and k (of_came came)) r r' W
   main_on came steps is does written = record {
     part = part;
     is = mains_part apps (IsCarriedIn (heads_of apps) r') (session_count r + 1) s part alone (record { outcome = came.outcome; told = came.told; is = is; outcomes_are = refl; tolds_are = refl; no_session = refl; none_short = refl });
     does = does;
     sessions = no_sessions_more r r' same;
-    kept = record { outcomes_are = refl; short_are = sym (append-nil ns) };
+    gathered = refl;
     written = written;
   }
     where
       part : Part
       part = record { steps = steps; sessions = 0; outcomes = came.outcome ∷ []; tolds = came.told ∷ []; short = [] }
 
-  pub main_stepped : (came : Came) (told : Result (Unit {0}) Stop) → DoesSo (IsBlock apps s came.outcome came.told) r r' → HasWritten told (told_line came.told) old new → (¬ (IsErrOf told stop.WriteFault) → Kept) → HasStepped apps s os (os ++ came.outcome ∷ []) ns ns r r' old new Failed Kept told
+  pub main_stepped : (came : Came) (told : Result (Unit {0}) Stop) → DoesSo (IsBlock apps s came.outcome came.told) r r' → HasWritten told (told_line came.told) old new → (¬ (IsErrOf told stop.WriteFault) → Kept) → HasStepped apps s k (gathered_and k (of_came came)) r r' old new Failed Kept told
   main_stepped came (Ok x) does written kept = main_on came does.steps does.so does.does (one_written (Ok x) came.told old new written, kept (λ bad. absurd (cc bad)))
   main_stepped came (Err stop.WriteFault) does written kept = main_on came does.steps does.so does.does (one_written (Err stop.WriteFault) came.told old new written)
   main_stepped came (Err (stop.ThreadFault lacks)) does written kept = absurd written
   main_stepped came (Err stop.NoMemory) does written kept = inr (inl (main_on came does.steps does.so does.does (one_written (Err stop.NoMemory) came.told old new written, kept (λ bad. absurd (cc bad)))))
 
 -- it came to nothing
-module _ (apps : List AppText) (s : Statement) (os os' : List Outcome) (ns ns' : List ℕ) (r r' : Run) (given : Option (List ℕ)) (Failed Kept : Type 0) (same : sessions_of r' ≡ sessions_of r) (kept : os' ≡ os) (kept_short : ns' ≡ ns) (sink : Kept) where
-  stops : (steps : List Step) → Does steps r r' → StopsShort os os' ns ns' r r' given given Kept
-  stops steps does = record { steps = steps; does = does; sessions = same; same = kept; same_short = kept_short; written = Appends-nothing given; sink = sink }
+module _ (apps : List AppText) (s : Statement) (k k' : GatheredData) (r r' : Run) (given : Option (List ℕ)) (Failed Kept : Type 0) (same : sessions_of r' ≡ sessions_of r) (kept : k' ≡ k) (sink : Kept) where
+  stops : (steps : List Step) → Does steps r r' → StopsShort k k' r r' given given Kept
+  stops steps does = record { steps = steps; does = does; sessions = same; same = kept; written = Appends-nothing given; sink = sink }
 
-  pub stopped_short : (steps : List Step) → Does steps r r' → HasStepped apps s os os' ns ns' r r' given given Failed Kept {A = Unit {0}} (Err stop.NoMemory)
+  pub stopped_short : (steps : List Step) → Does steps r r' → HasStepped apps s k k' r r' given given Failed Kept {A = Unit {0}} (Err stop.NoMemory)
   stopped_short steps does = inl (stops steps does)
 
   pub main_stopped : (why : Stop) (steps : List Step) → Does steps r r' → (why ≡ stop.WriteFault → ⊥) → (why ≡ stop.ThreadFault true → ⊥) → (IsThreadFault {A = Came} (Err why) → IsLaunch s)
-      → HasStepped apps s os os' ns ns' r r' given given Failed Kept {A = Unit {0}} (Err why)
+      → HasStepped apps s k k' r r' given given Failed Kept {A = Unit {0}} (Err why)
   main_stopped stop.WriteFault steps does not_written by_main launch = absurd (not_written refl)
   main_stopped (stop.ThreadFault true) steps does not_written by_main launch = absurd (by_main refl)
   main_stopped (stop.ThreadFault false) steps does not_written by_main launch = inl (launch tt, refl, stops steps does)
@@ -88,12 +90,12 @@ part_so_far from heard = record {
   short = short_in from (map part_of heard);
 }
 
-module _ (apps : List AppText) (t : Together) (os : List Outcome) (ns : List ℕ) (r r' : Run) (heard : List Heard) (old new : Option (List ℕ)) (Failed Kept : Type 0) where
+module _ (apps : List AppText) (t : Together) (k : GatheredData) (r r' : Run) (heard : List Heard) (old new : Option (List ℕ)) (Failed Kept : Type 0) where
   abbrev From : ℕ
   From = session_count r + 1
 
-  of_sessions : (sessions : List SessionLines) → HasCarriedAll (heads_of apps) sessions r r' heard → IsOfSessions (IsCarriedIn (heads_of apps) r') From sessions (part_so_far From heard)
-  of_sessions sessions kept = record { parts = map part_of heard; carried = kept.carried; nothing = refl; count = refl; outcomes_are = refl; tolds_are = refl; short_are = refl }
+  are_sessions : (sessions : List SessionLines) → HasCarriedAll (heads_of apps) sessions r r' heard → IsOfSessions (IsCarriedIn (heads_of apps) r') From sessions (part_so_far From heard)
+  are_sessions sessions kept = record { parts = map part_of heard; carried = kept.carried; nothing = refl; count = refl; outcomes_are = refl; tolds_are = refl; short_are = refl }
 
   so_many : (sessions : List SessionLines) → HasCarriedAll (heads_of apps) sessions r r' heard → length sessions ≡ length (map part_of heard)
   so_many sessions kept = as_many (IsCarriedIn (heads_of apps) r') From sessions (map part_of heard) kept.carried
@@ -101,53 +103,50 @@ module _ (apps : List AppText) (t : Together) (os : List Outcome) (ns : List ℕ
   more : (sessions : List SessionLines) → HasCarriedAll (heads_of apps) sessions r r' heard → HasSessionsMore (length (map part_of heard)) r r'
   more sessions kept = subst (λ (n : ℕ). HasSessionsMore n r r') (so_many sessions kept) kept.more
 
-  abbrev Os' : List Outcome
-  Os' = os ++ session_outcomes (map part_of heard)
+  abbrev K' : GatheredData
+  K' = gathered_and k (of_sessions From (map part_of heard))
 
-  abbrev Ns' : List ℕ
-  Ns' = ns ++ short_in From (map part_of heard)
-
-  block_on : {W : List Told → Type 0} → (rest : List SessionLines) → rest ≡ [] → (first : List SessionLines) → t.sessions.items ≡ first ++ rest → HasCarriedAll (heads_of apps) first r r' heard → W (session_tolds (map part_of heard)) → StepsOn apps (statement.Together t) os Os' ns Ns' r r' W
+  block_on : {W : List Told → Type 0} → (rest : List SessionLines) → rest ≡ [] → (first : List SessionLines) → t.sessions.items ≡ first ++ rest → HasCarriedAll (heads_of apps) first r r' heard → W (session_tolds (map part_of heard)) → StepsOn apps (statement.Together t) k K' r r' W
   block_on rest none first all kept written =
       let whole : first ≡ t.sessions.items = sym (all ∙ ap (λ (l : List SessionLines). first ++ l) none ∙ append-nil first) in
       record {
         part = part_so_far From heard;
-        is = subst (λ (l : List SessionLines). IsOfSessions (IsCarriedIn (heads_of apps) r') From l (part_so_far From heard)) whole (of_sessions first kept);
+        is = subst (λ (l : List SessionLines). IsOfSessions (IsCarriedIn (heads_of apps) r') From l (part_so_far From heard)) whole (are_sessions first kept);
         does = kept.does;
         sessions = more first kept;
-        kept = record { outcomes_are = refl; short_are = refl };
+        gathered = refl;
         written = written;
       }
 
-  block_inside : {Far : Part → Type 0} {W : List Told → Type 0} → (first rest : List SessionLines) → t.sessions.items ≡ first ++ rest → HasCarriedAll (heads_of apps) first r r' heard → Far (part_so_far From heard) → W (session_tolds (map part_of heard)) → StopsInside apps (statement.Together t) os Os' ns Ns' r r' Far W
+  block_inside : {Far : Part → Type 0} {W : List Told → Type 0} → (first rest : List SessionLines) → t.sessions.items ≡ first ++ rest → HasCarriedAll (heads_of apps) first r r' heard → Far (part_so_far From heard) → W (session_tolds (map part_of heard)) → StopsInside apps (statement.Together t) k K' r r' Far W
   block_inside first rest all kept far written = record {
     part = part_so_far From heard;
-    is = record { first = first; rest = rest; all = all; are = of_sessions first kept };
+    is = record { first = first; rest = rest; all = all; are = are_sessions first kept };
     far = far;
     does = kept.does;
     sessions = more first kept;
-    kept = record { outcomes_are = refl; short_are = refl };
+    gathered = refl;
     written = written;
   }
 
   module _ (told : Result (Unit {0}) Stop) (written : HasWrittenAll told (session_tolds (map part_of heard)) old new) where
     -- it was carried out whole
-    pub block_stepped : HasRunBlock (heads_of apps) t.sessions.items (Ok tt) r r' heard → (¬ (IsErrOf told stop.WriteFault) → Kept) → HasStepped apps (statement.Together t) os Os' ns Ns' r r' old new Failed Kept told
+    pub block_stepped : HasRunBlock (heads_of apps) t.sessions.items (Ok tt) r r' heard → (¬ (IsErrOf told stop.WriteFault) → Kept) → HasStepped apps (statement.Together t) k K' r r' old new Failed Kept told
     block_stepped ran kept = by_told told written kept where
-      by_told : (told : Result (Unit {0}) Stop) → HasWrittenAll told (session_tolds (map part_of heard)) old new → (¬ (IsErrOf told stop.WriteFault) → Kept) → HasStepped apps (statement.Together t) os Os' ns Ns' r r' old new Failed Kept told
+      by_told : (told : Result (Unit {0}) Stop) → HasWrittenAll told (session_tolds (map part_of heard)) old new → (¬ (IsErrOf told stop.WriteFault) → Kept) → HasStepped apps (statement.Together t) k K' r r' old new Failed Kept told
       by_told (Ok x) w k = block_on ran.rest ran.ends_with ran.first ran.all ran.kept (w, k (λ bad. absurd (cc bad)))
       by_told (Err stop.WriteFault) w k = block_on ran.rest ran.ends_with ran.first ran.all ran.kept w
       by_told (Err (stop.ThreadFault lacks)) w k = absurd w
       by_told (Err stop.NoMemory) w k = inr (inl (block_on ran.rest ran.ends_with ran.first ran.all ran.kept (w, k (λ bad. absurd (cc bad)))))
 
     -- it was cut, for want of memory
-    pub block_lacked : HasRunBlock (heads_of apps) t.sessions.items (Err cut.NoMemory) r r' heard → (IsErrOf told stop.WriteFault → Failed) → HasStepped apps (statement.Together t) os Os' ns Ns' r r' old new Failed Kept {A = Unit {0}} (Err stop.NoMemory)
+    pub block_lacked : HasRunBlock (heads_of apps) t.sessions.items (Err cut.NoMemory) r r' heard → (IsErrOf told stop.WriteFault → Failed) → HasStepped apps (statement.Together t) k K' r r' old new Failed Kept {A = Unit {0}} (Err stop.NoMemory)
     block_lacked ran failed =
         let not_all : length (map part_of heard) < length t.sessions.items = omega (arith, so_many ran.first ran.kept, ran.ends_with, ap length ran.all, length-append ran.first ran.rest) in
         inr (inr (block_inside ran.first ran.rest ran.all ran.kept not_all (left_of told true Failed (session_tolds (map part_of heard)) old new (λ lacks. refl) failed written)))
 
     -- it was cut, as a thread could not be started
-    pub block_refused : (lacks : Bool) → lacks ≡ is_lack told → HasRunBlock (heads_of apps) t.sessions.items (Err cut.ThreadFault) r r' heard → (IsErrOf told stop.WriteFault → Failed) → HasStepped apps (statement.Together t) os Os' ns Ns' r r' old new Failed Kept {A = Unit {0}} (Err (stop.ThreadFault lacks))
+    pub block_refused : (lacks : Bool) → lacks ≡ is_lack told → HasRunBlock (heads_of apps) t.sessions.items (Err cut.ThreadFault) r r' heard → (IsErrOf told stop.WriteFault → Failed) → HasStepped apps (statement.Together t) k K' r r' old new Failed Kept {A = Unit {0}} (Err (stop.ThreadFault lacks))
     block_refused lacks so ran failed =
         let some : 1 ≤ length (map part_of heard) = omega (arith, so_many ran.first ran.kept, ran.ends_with) in
         inr (block_inside ran.first ran.rest ran.all ran.kept some (left_of told lacks Failed (session_tolds (map part_of heard)) old new (λ lacking. so ∙ lacking) failed written))
@@ -159,16 +158,22 @@ nothing_done r r' same =
     subst (λ (x : Run). Does [] r x) (sym same) (subst (λ (steps : List Step). Does steps r r) none.so none.does)
 
 -- ---- a block, as the calls tell it
-pub block_kept : (apps : List AppText) (t : Together) (os os' : List Outcome) (ns ns1 ns' : List ℕ) (r r' : Run) (heard slice : List Heard) (sessions : ℕ) (old new : Option (List ℕ)) (Failed Kept : Type 0) (result : Result (Unit {0}) Stop)
-    → slice ≡ heard → sessions ≡ session_count r → os' ≡ os ++ session_outcomes (map part_of slice) → ns1 ≡ ns → ns' ≡ ns1 ++ short_in (sessions + 1) (map part_of slice)
-    → HasStepped apps (statement.Together t) os (os ++ session_outcomes (map part_of heard)) ns (ns ++ short_in (session_count r + 1) (map part_of heard)) r r' old new Failed Kept result
-    → HasStepped apps (statement.Together t) os os' ns ns' r r' old new Failed Kept result
-block_kept apps t os os' ns ns1 ns' r r' heard slice sessions old new Failed Kept result same count outcomes first short stepped =
-    let outcomes_are : os' ≡ os ++ session_outcomes (map part_of heard) = outcomes ∙ ap (λ (l : List Heard). os ++ session_outcomes (map part_of l)) same in
-    let short_are : ns' ≡ ns ++ short_in (session_count r + 1) (map part_of heard) =
-    short ∙ ap (λ (l : List ℕ). l ++ short_in (sessions + 1) (map part_of slice)) first ∙ ap (λ (n : ℕ). ns ++ short_in (n + 1) (map part_of slice)) count ∙ ap (λ (l : List Heard). ns ++ short_in (session_count r + 1) (map part_of l)) same in
-    subst (λ (l : List Outcome). HasStepped apps (statement.Together t) os l ns ns' r r' old new Failed Kept result) (sym outcomes_are)
-    (subst (λ (l : List ℕ). HasStepped apps (statement.Together t) os (os ++ session_outcomes (map part_of heard)) ns l r r' old new Failed Kept result) (sym short_are) stepped)
+pub block_kept : (apps : List AppText) (t : Together) (k k1 k' : GatheredData) (r r' : Run) (heard : List Heard) (sessions : ℕ) (old new : Option (List ℕ)) (Failed Kept : Type 0) (result : Result (Unit {0}) Stop)
+    → sessions ≡ session_count r → k1 ≡ k → k' ≡ gathered_and k1 (of_sessions (sessions + 1) (map part_of heard))
+    → HasStepped apps (statement.Together t) k (gathered_and k (of_sessions (session_count r + 1) (map part_of heard))) r r' old new Failed Kept result
+    → HasStepped apps (statement.Together t) k k' r r' old new Failed Kept result
+block_kept apps t k k1 k' r r' heard sessions old new Failed Kept result count first gathered stepped =
+    let same : k' ≡ gathered_and k (of_sessions (session_count r + 1) (map part_of heard)) =
+    gathered ∙ ap (λ (x : GatheredData). gathered_and x (of_sessions (sessions + 1) (map part_of heard))) first ∙ ap (λ (n : ℕ). gathered_and k (of_sessions (n + 1) (map part_of heard))) count in
+    subst (λ (x : GatheredData). HasStepped apps (statement.Together t) k x r r' old new Failed Kept result) (sym same) stepped
+
+-- a statement that is no block has one line
+pub one_line : (s : Statement) → IsAlone s → lines_of (statement_seen s) ≡ 1
+one_line (statement.Launch l) alone = refl
+one_line (statement.Hey h) alone = refl
+one_line (statement.Post p) alone = refl
+one_line (statement.Lock l) alone = refl
+one_line (statement.Together t) alone = absurd alone
 
 -- a statement that is no block is main's
 pub still_alone : (s : Statement) → ((t : Together) → s ≡ statement.Together t → ⊥) → IsAlone s

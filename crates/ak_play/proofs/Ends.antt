@@ -1,5 +1,5 @@
 -- The run of a script, from what was carried out of it to its end.
-use Rattle.std.proofs.Common.{◌≡◌, ◌≢◌, ◌⊎◌, ◌||◌, inl, inr, ⊎_elim, ℕ, ◌+◌, ◌<◌, List, [], ◌∷◌, ◌++◌, length, All, refl, sym, ◌∙◌, subst, append_assoc}
+use Rattle.std.proofs.Common.{◌≡◌, ◌≢◌, ◌⊎◌, ◌||◌, inl, inr, ⊎_elim, ℕ, ◌+◌, ◌<◌, List, [], ◌∷◌, ◌++◌, length, All, refl, sym, ap, ◌∙◌, subst, append_assoc}
 use Rattle.std.specs.Prelude.{Option, None, Some, Ok, Err, Result, IfSome, IsSomeAnd, Bool, true, false, slice_get}
 use Rattle.std.proofs.lemmas.List.Concat.{flat_map-append}
 use Rattle.ak_base.specs.declared.ending.Ending.{Ending}
@@ -23,14 +23,18 @@ use Rattle.ak_run.specs.Sessions.{session_count}
 use Rattle.ak_block.specs.Carried.{IsCarriedIn, SessionPart}
 use Rattle.ak_lines.specs.Carried as carried
 use Rattle.ak_lines.specs.declared.outcome.Outcome.{Outcome}
+use Rattle.ak_print.specs.declared.told.Told.{Told}
 use Rattle.ak_play.specs.declared.run_end.RunEnd.{RunEnd}
 use Rattle.ak_play.specs.declared.run_end.Short.{Short}
 use Rattle.ak_play.specs.declared.stop.Stop.{Stop}
 use Rattle.ak_play.specs.declared.stop.Stop.TheVariants as stop
-use Rattle.ak_play.specs.Parts.{IsCut, Part, all_sessions, all_steps, all_tolds, sessions_in}
-use Rattle.ak_play.specs.Play.{AreReplies, IsPlay, IsShort, cut_tolds, first_tolds, last_tolds}
+use Rattle.ak_play.specs.declared.gathered.Gathered.{Gathered}
+use Rattle.ak_play.specs.Gathered.{GatheredData, gathered_seen}
+use Rattle.ak_play.specs.Parts.{IsCut, Part, all_outcomes, all_sessions, all_steps, all_tolds, sessions_in}
+use Rattle.ak_play.specs.Play.{AreReplies, IsPlay, IsShort, cut_outcomes, cut_tolds, first_tolds, last_tolds}
 use Rattle.ak_play.specs.Sessions.{HasCarried}
 use Rattle.ak_play.specs.Steps.{IsPlayedTo, any_short, ended_as, is_any, is_lack, stopped_as}
+use Rattle.ak_play.proofs.Gathering.{gathered_is}
 use Rattle.ak_play.proofs.Lists.{all_front}
 use Rattle.ak_play.proofs.Parts.{parts_so, some_cut_so}
 use Rattle.ak_play.proofs.Playing.{written_at_end}
@@ -162,8 +166,12 @@ module _ (heads : List AppHead) (h : Histories) (steps more : List Step) (at_end
       all_front (StandsIn (desk_list h looper)) (desk_entries looper steps) (desk_entries looper more)
       (subst (All (StandsIn (desk_list h looper))) (flat_map-append (desk_entry looper) steps more) (at_end.edits looper))
 
+-- what it has gathered
+abbrev told_of : RunEnd → GatheredData
+told_of end = record { outcomes = end.outcomes; tolds = end.tolds; short = end.short.sessions }
+
 module _ {A : Type 0} (apps : List AppText) (statements : List Statement) (played : Result A Stop) (run : Run) (end : RunEnd) (old new : Option (List ℕ)) (Failed Kept : Type 0) where
-  pub is_play : IsPlayedTo apps statements end.outcomes end.short.sessions played run old new Failed Kept → end.short.main ≡ is_lack played → IsRunWith (session_count run) (heads_of apps) end.short.loopers end.histories
+  pub is_play : IsPlayedTo apps statements (told_of end) played run old new Failed Kept → end.short.main ≡ is_lack played → IsRunWith (session_count run) (heads_of apps) end.short.loopers end.histories
       → EachGotOneReply end.short.loopers end.histories → SessionsDone run end.histories → ((steps : List Step) → HasDoneSoFar steps run → DoneAtEnd (heads_of apps) steps end.histories) → IsPlay apps statements (ended_as played (any_short end.short)) end old new Failed Kept
   is_play to main of_run answered sessions did =
       let h = end.histories in
@@ -174,17 +182,18 @@ module _ {A : Type 0} (apps : List AppText) (statements : List Statement) (playe
       let done = done_at_end heads h steps to.more at_end in
       let turned = carried_at_end heads run h sessions in
       let are = parts_so (IsCarriedIn heads run) (HasCarried heads h) turned apps 1 statements to.parts to.are in
+      let outcomes_are : end.outcomes ≡ all_outcomes to.parts ++ cut_outcomes to.cut = ap (λ (x : GatheredData). x.outcomes) to.gathered in
+      let tolds_are : end.tolds ≡ all_tolds to.parts ++ cut_tolds to.cut = ap (λ (x : GatheredData). x.tolds) to.gathered in
       let cut = cut_so to.cut (slice_get statements (length to.parts)) turned (all_sessions to.parts + 1) to.cut_is in
       record {
-        tolds = all_tolds to.parts ++ cut_tolds to.cut;
         played = record {
           parts = to.parts;
           are = are;
           cut = to.cut;
           cut_is = cut;
-          outcomes_are = to.outcomes_are;
-          tolds_are = refl;
-          short_are = to.short_are;
+          outcomes_are = outcomes_are;
+          tolds_are = tolds_are;
+          short_are = ap (λ (x : GatheredData). x.short) to.gathered;
           stopped = to.more;
           none_stopped = to.none_more;
           none_inside = to.none_inside;
@@ -198,8 +207,9 @@ module _ {A : Type 0} (apps : List AppText) (statements : List Statement) (playe
         run_of = subst (λ (n : ℕ). IsRunWith n heads end.short.loopers h) to.sessions of_run;
         written = written_at_end played lacked end.short.main (IsSomeAnd to.cut (λ (part : Part). Failed)) (first_tolds to.parts to.cut) (last_tolds to.parts to.cut) old new main to.written;
         sink = λ other none. to.sink (no_write played lacked other) none;
-        replies = subst (λ (os : List Outcome). AreReplies end.short.loopers h os (all_tolds to.parts ++ cut_tolds to.cut)) (sym to.outcomes_are)
-            (replies end.short.loopers h (steps ++ (to.more ++ at_end.closing)) of_run.histories.ports done answered apps statements to.parts (to.more ++ at_end.closing) (all_sessions to.parts + 1) (slice_get statements (length to.parts)) to.cut refl are cut);
+        replies = subst (λ (os : List Outcome). AreReplies end.short.loopers h os end.tolds) (sym outcomes_are)
+            (subst (λ (ts : List Told). AreReplies end.short.loopers h (all_outcomes to.parts ++ cut_outcomes to.cut) ts) (sym tolds_are)
+            (replies end.short.loopers h (steps ++ (to.more ++ at_end.closing)) of_run.histories.ports done answered apps statements to.parts (to.more ++ at_end.closing) (all_sessions to.parts + 1) (slice_get statements (length to.parts)) to.cut refl are cut));
         whole = done_so (length to.parts ≡ length statements) played lacked (λ done_all. (to.none_when_done done_all).0);
         whole_by_main = by_main (length to.parts ≡ length statements) played lacked end.short.main main (λ done_all. (to.none_when_done done_all).0);
         at_a_start = λ refused. to.at_a_start (refused_before played lacked refused);
@@ -216,15 +226,16 @@ module _ {A : Type 0} (apps : List AppText) (statements : List Statement) (playe
       cut_so (Some part) o turned from is = some_cut_so (IsCarriedIn (heads_of apps) run) (HasCarried (heads_of apps) end.histories) turned from o part is
 
   -- the same, as the calls tell it
-  pub is_play_as : (apps1 : List AppText) (heads1 heads2 : List AppHead) (statements1 : List Statement) (outcomes : List Outcome) (short : List ℕ) (end_is : Ending) → apps1 ≡ apps → heads1 ≡ heads_of apps → heads2 ≡ heads_of apps → statements1 ≡ statements
-      → end.outcomes ≡ outcomes → end.short.sessions ≡ short → end_is ≡ ended_as played (any_short end.short) → IsPlayedTo apps1 statements1 outcomes short played run old new Failed Kept → end.short.main ≡ is_lack played
+  pub is_play_as : (apps1 : List AppText) (heads1 heads2 : List AppHead) (statements1 : List Statement) (gathered : Gathered) (end_is : Ending) → apps1 ≡ apps → heads1 ≡ heads_of apps → heads2 ≡ heads_of apps → statements1 ≡ statements
+      → end.outcomes ≡ gathered.outcomes.items → end.tolds ≡ gathered.tolds.items → end.short.sessions ≡ gathered.short.items → end_is ≡ ended_as played (any_short end.short)
+      → IsPlayedTo apps1 statements1 (gathered_seen gathered) played run old new Failed Kept → end.short.main ≡ is_lack played
       → IsRunWith (session_count run) heads1 end.short.loopers end.histories → EachGotOneReply end.short.loopers end.histories → SessionsDone run end.histories → ((steps : List Step) → HasDoneSoFar steps run → DoneAtEnd heads2 steps end.histories)
       → IsPlay apps statements end_is end old new Failed Kept
-  is_play_as apps1 heads1 heads2 statements1 outcomes short end_is one two three of_script kept kept_short ended to main of_run answered sessions did =
-      let to_kept = subst (λ (os : List Outcome). IsPlayedTo apps1 statements1 os short played run old new Failed Kept) (sym kept) to in
-      let to_short = subst (λ (ns : List ℕ). IsPlayedTo apps1 statements1 end.outcomes ns played run old new Failed Kept) (sym kept_short) to_kept in
-      let to_apps = subst (λ (xs : List AppText). IsPlayedTo xs statements1 end.outcomes end.short.sessions played run old new Failed Kept) one to_short in
-      let to_all = subst (λ (ss : List Statement). IsPlayedTo apps ss end.outcomes end.short.sessions played run old new Failed Kept) of_script to_apps in
+  is_play_as apps1 heads1 heads2 statements1 gathered end_is one two three of_script outcomes tolds short ended to main of_run answered sessions did =
+      let same = gathered_is end.outcomes gathered.outcomes.items end.tolds gathered.tolds.items end.short.sessions gathered.short.items outcomes tolds short in
+      let to_end = subst (λ (g : GatheredData). IsPlayedTo apps1 statements1 g played run old new Failed Kept) (sym same) to in
+      let to_apps = subst (λ (xs : List AppText). IsPlayedTo xs statements1 (told_of end) played run old new Failed Kept) one to_end in
+      let to_all = subst (λ (ss : List Statement). IsPlayedTo apps ss (told_of end) played run old new Failed Kept) of_script to_apps in
       subst (λ (e : Ending). IsPlay apps statements e end old new Failed Kept) (sym ended)
       (is_play to_all main (subst (λ (hs : List AppHead). IsRunWith (session_count run) hs end.short.loopers end.histories) two of_run) answered sessions
       (λ steps done. subst (λ (hs : List AppHead). DoneAtEnd hs steps end.histories) three (did steps done)))

@@ -2,7 +2,7 @@ pub mod Blocks
 pub mod Doing
 pub mod Ends
 pub mod Finding
-pub mod Keeping
+pub mod Gathering
 pub mod Lists
 pub mod Parts
 pub mod Playing

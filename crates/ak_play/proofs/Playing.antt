@@ -16,15 +16,16 @@ use Rattle.ak_run.specs.Sessions.{session_count, sessions_of}
 use Rattle.ak_script.specs.declared.statement.SessionLines.{SessionLines}
 use Rattle.ak_script.specs.declared.statement.Statement.{Statement}
 use Rattle.ak_run.specs.Doing.{HasDoneSoFar}
-use Rattle.ak_lines.specs.declared.outcome.Outcome.{Outcome}
 use Rattle.ak_block.specs.Carried.{HasSessionsMore, IsCarriedIn, SessionPart}
 use Rattle.ak_play.specs.declared.stop.Stop.{Stop}
 use Rattle.ak_play.specs.declared.stop.Stop.TheVariants as stop
 use Rattle.ak_play.specs.Blocks.{IsLaunch}
-use Rattle.ak_play.specs.Parts.{AreParts, IsCut, IsPart, Part, all_outcomes, all_sessions, all_short, all_steps, all_tolds, sessions_in}
+use Rattle.ak_play.specs.Gathered.{GatheredData, gathered_and, nothing_gathered, of_part, of_parts}
+use Rattle.ak_play.specs.Parts.{AreParts, IsCut, IsPart, Part, all_sessions, all_steps, all_tolds, sessions_in}
 use Rattle.ak_play.specs.Play.{IsCutText, IsFrontText, IsLeft, IsWritten, first_tolds, last_tolds, text_of}
 use Rattle.ak_play.specs.Steps.{HasStepped, IsPlayedSoFar, IsPlayedTo, StepsOn, StopsInside, StopsShort, ended_as, is_lack, stopped_as}
 use Rattle.ak_run.proofs.Surface.{done_then}
+use Rattle.ak_play.proofs.Gathering.{no_cut, one_part_more}
 use Rattle.ak_play.proofs.Lists.{gathered_push}
 use Rattle.ak_play.proofs.Parts.{all_told, first_push, last_push, parts_push, parts_so, sessions_push, text-append, text_push}
 
@@ -97,20 +98,19 @@ no_sessions_more r r' same = record {
 }
 
 module _ (apps : List AppText) (statements : List Statement) where
-  pub play_begun : (r : Run) (given : Option (List ℕ)) (Kept : Type 0) → Kept → HasDoneSoFar [] r → sessions_of r ≡ [] → IsPlayedSoFar apps statements [] [] 0 r given given Kept
+  pub play_begun : (r : Run) (given : Option (List ℕ)) (Kept : Type 0) → Kept → HasDoneSoFar [] r → sessions_of r ≡ [] → IsPlayedSoFar apps statements nothing_gathered 0 r given given Kept
   play_begun r given Kept kept nothing none = record {
     parts = [];
     count = refl;
     are = tt;
     sessions = ap (λ (all : List sessions.Told). length all) none;
-    outcomes_are = refl;
-    short_are = refl;
+    gathered = refl;
     done_so = nothing;
     written = Appends-nothing given;
     sink = kept;
   }
 
-  module _ (s : Statement) (os os' : List Outcome) (ns ns' : List ℕ) (count : ℕ) (r r' : Run) (old mid new : Option (List ℕ)) (Kept0 Kept : Type 0) (so_far : IsPlayedSoFar apps statements os ns count r old mid Kept0) (at : slice_get statements count ≡ Some s) where
+  module _ (s : Statement) (k k' : GatheredData) (count : ℕ) (r r' : Run) (old mid new : Option (List ℕ)) (Kept0 Kept : Type 0) (so_far : IsPlayedSoFar apps statements k count r old mid Kept0) (at : slice_get statements count ≡ Some s) where
     at_parts : slice_get statements (length so_far.parts) ≡ Some s
     at_parts = ap (slice_get statements) so_far.count ∙ at
 
@@ -118,7 +118,7 @@ module _ (apps : List AppText) (statements : List Statement) where
     next = omega (arith, so_far.sessions)
 
     -- ---- it has its part, which stands behind the others
-    module _ {W : List Told → Type 0} (on : StepsOn apps s os os' ns ns' r r' W) where
+    module _ {W : List Told → Type 0} (on : StepsOn apps s k k' r r' W) where
       are_pushed : AreParts (IsCarriedIn (heads_of apps) r') apps 1 statements (so_far.parts ++ on.part ∷ [])
       are_pushed =
           parts_push (IsCarriedIn (heads_of apps) r') apps 1 statements so_far.parts s on.part
@@ -131,11 +131,8 @@ module _ (apps : List AppText) (statements : List Statement) where
       sessions_pushed : session_count r' ≡ all_sessions (so_far.parts ++ on.part ∷ [])
       sessions_pushed = on.sessions.count ∙ ap (λ (n : ℕ). n + on.part.sessions) so_far.sessions ∙ sym (sessions_push so_far.parts on.part)
 
-      outcomes_pushed : os' ≡ all_outcomes (so_far.parts ++ on.part ∷ [])
-      outcomes_pushed = on.kept.outcomes_are ∙ ap (λ (l : List Outcome). l ++ on.part.outcomes) so_far.outcomes_are ∙ sym (gathered_push (λ (part : Part). part.outcomes) so_far.parts on.part)
-
-      short_pushed : ns' ≡ all_short (so_far.parts ++ on.part ∷ [])
-      short_pushed = on.kept.short_are ∙ ap (λ (l : List ℕ). l ++ on.part.short) so_far.short_are ∙ sym (gathered_push (λ (part : Part). part.short) so_far.parts on.part)
+      gathered_pushed : k' ≡ of_parts (so_far.parts ++ on.part ∷ [])
+      gathered_pushed = on.gathered ∙ ap (λ (x : GatheredData). gathered_and x (of_part on.part)) so_far.gathered ∙ sym (one_part_more so_far.parts on.part)
 
       count_pushed : length (so_far.parts ++ on.part ∷ []) ≡ count + 1
       count_pushed = length-append so_far.parts (on.part ∷ []) ∙ ap (λ (n : ℕ). n + 1) so_far.count
@@ -143,15 +140,14 @@ module _ (apps : List AppText) (statements : List Statement) where
       -- and it ended then
       stops_behind : (why : Stop) (Failed : Type 0) → stopped_as {A = Unit {0}} (Err why) ≢ ending.ThreadFault → stopped_as {A = Unit {0}} (Err why) ≢ ending.Done
           → IsWritten (stopped_as {A = Unit {0}} (Err why)) (is_lack {A = Unit {0}} (Err why)) ⊥ (all_tolds so_far.parts) on.part.tolds old new → (stopped_as {A = Unit {0}} (Err why) ≢ ending.WriteFault → Kept)
-          → IsPlayedTo {A = Unit {0}} apps statements os' ns' (Err why) r' old new Failed Kept
+          → IsPlayedTo {A = Unit {0}} apps statements k' (Err why) r' old new Failed Kept
       stops_behind why Failed started not_done written kept = record {
         parts = so_far.parts ++ on.part ∷ [];
         are = are_pushed;
         cut = None;
         sessions = sessions_pushed ∙ plus_nothing (all_sessions (so_far.parts ++ on.part ∷ []));
         cut_is = tt;
-        outcomes_are = outcomes_pushed ∙ sym (append-nil (all_outcomes (so_far.parts ++ on.part ∷ [])));
-        short_are = short_pushed ∙ sym (append-nil (all_short (so_far.parts ++ on.part ∷ [])));
+        gathered = gathered_pushed ∙ no_cut (so_far.parts ++ on.part ∷ []);
         more = [];
         none_more = λ all. refl;
         none_inside = tt;
@@ -166,14 +162,13 @@ module _ (apps : List AppText) (statements : List Statement) where
         sink = λ other none. kept other;
       }
 
-    pub play_goes_on : (Kept1 : Type 0) → (Kept0 → Kept1 → Kept) → StepsOn apps s os os' ns ns' r r' (λ tolds. Appends mid new (text_of tolds) × Kept1) → IsPlayedSoFar apps statements os' ns' (count + 1) r' old new Kept
+    pub play_goes_on : (Kept1 : Type 0) → (Kept0 → Kept1 → Kept) → StepsOn apps s k k' r r' (λ tolds. Appends mid new (text_of tolds) × Kept1) → IsPlayedSoFar apps statements k' (count + 1) r' old new Kept
     play_goes_on Kept1 joined on = record {
       parts = so_far.parts ++ on.part ∷ [];
       count = count_pushed on;
       are = are_pushed on;
       sessions = sessions_pushed on;
-      outcomes_are = outcomes_pushed on;
-      short_are = short_pushed on;
+      gathered = gathered_pushed on;
       done_so = done_pushed on;
       written = subst (Appends old new) (sym (text_push so_far.parts on.part)) (Appends-joined old mid new (text_of (all_tolds so_far.parts)) (text_of on.part.tolds) so_far.written on.written.0);
       sink = joined so_far.sink on.written.1;
@@ -181,8 +176,8 @@ module _ (apps : List AppText) (statements : List Statement) where
 
     -- ---- it is a block that was cut
     stops_inside : {W : List Told → Type 0} {Far : Part → Type 0} (why : Stop) (Failed : Type 0) → stopped_as {A = Unit {0}} (Err why) ≢ ending.WriteFault → stopped_as {A = Unit {0}} (Err why) ≢ ending.Done
-        → (in' : StopsInside apps s os os' ns ns' r r' Far W) → (stopped_as {A = Unit {0}} (Err why) ≡ ending.ThreadFault → 1 ≤ in'.part.sessions) → (stopped_as {A = Unit {0}} (Err why) ≡ ending.NoMemory → in'.part.sessions < sessions_in s)
-        → IsWritten (stopped_as {A = Unit {0}} (Err why)) (is_lack {A = Unit {0}} (Err why)) Failed (all_tolds so_far.parts) in'.part.tolds old new → IsPlayedTo {A = Unit {0}} apps statements os' ns' (Err why) r' old new Failed Kept
+        → (in' : StopsInside apps s k k' r r' Far W) → (stopped_as {A = Unit {0}} (Err why) ≡ ending.ThreadFault → 1 ≤ in'.part.sessions) → (stopped_as {A = Unit {0}} (Err why) ≡ ending.NoMemory → in'.part.sessions < sessions_in s)
+        → IsWritten (stopped_as {A = Unit {0}} (Err why)) (is_lack {A = Unit {0}} (Err why)) Failed (all_tolds so_far.parts) in'.part.tolds old new → IsPlayedTo {A = Unit {0}} apps statements k' (Err why) r' old new Failed Kept
     stops_inside why Failed other not_done in' some not_all written = record {
       parts = so_far.parts;
       are = parts_so (IsCarriedIn (heads_of apps) r) (IsCarriedIn (heads_of apps) r') (carried_still apps r r' in'.part.sessions in'.sessions) apps 1 statements so_far.parts so_far.are;
@@ -190,8 +185,7 @@ module _ (apps : List AppText) (statements : List Statement) where
       sessions = in'.sessions.count ∙ ap (λ (n : ℕ). n + in'.part.sessions) so_far.sessions;
       cut_is = subst (λ (o : Option Statement). IsSomeAnd o (λ (x : Statement). IsCut (IsCarriedIn (heads_of apps) r') (all_sessions so_far.parts + 1) x in'.part)) (sym at_parts)
           (subst (λ (n : ℕ). IsCut (IsCarriedIn (heads_of apps) r') n s in'.part) (ap (λ (n : ℕ). n + 1) so_far.sessions) in'.is);
-      outcomes_are = in'.kept.outcomes_are ∙ ap (λ (l : List Outcome). l ++ in'.part.outcomes) so_far.outcomes_are;
-      short_are = in'.kept.short_are ∙ ap (λ (l : List ℕ). l ++ in'.part.short) so_far.short_are;
+      gathered = in'.gathered ∙ ap (λ (x : GatheredData). gathered_and x (of_part in'.part)) so_far.gathered;
       more = [];
       none_more = λ all. refl;
       none_inside = refl;
@@ -207,8 +201,8 @@ module _ (apps : List AppText) (statements : List Statement) where
 
     -- ---- it has none
     stops_before : (why : Stop) (Failed Kept1 : Type 0) → (Kept0 → Kept1 → Kept) → stopped_as {A = Unit {0}} (Err why) ≢ ending.WriteFault → stopped_as {A = Unit {0}} (Err why) ≢ ending.Done → (stopped_as {A = Unit {0}} (Err why) ≡ ending.ThreadFault → IsLaunch s)
-        → (stopped_as {A = Unit {0}} (Err why) ≡ ending.ThreadFault → is_lack {A = Unit {0}} (Err why) ≡ true → ⊥) → (short : StopsShort os os' ns ns' r r' mid new Kept1)
-        → IsWritten (stopped_as {A = Unit {0}} (Err why)) (is_lack {A = Unit {0}} (Err why)) ⊥ (first_tolds so_far.parts None) (last_tolds so_far.parts None) old new → IsPlayedTo {A = Unit {0}} apps statements os' ns' (Err why) r' old new Failed Kept
+        → (stopped_as {A = Unit {0}} (Err why) ≡ ending.ThreadFault → is_lack {A = Unit {0}} (Err why) ≡ true → ⊥) → (short : StopsShort k k' r r' mid new Kept1)
+        → IsWritten (stopped_as {A = Unit {0}} (Err why)) (is_lack {A = Unit {0}} (Err why)) ⊥ (first_tolds so_far.parts None) (last_tolds so_far.parts None) old new → IsPlayedTo {A = Unit {0}} apps statements k' (Err why) r' old new Failed Kept
     stops_before why Failed Kept1 joined other not_done launch not_lacking short written =
         let still = no_sessions_more r r' short.sessions in
         record {
@@ -217,8 +211,7 @@ module _ (apps : List AppText) (statements : List Statement) where
           cut = None;
           sessions = still.count ∙ ap (λ (n : ℕ). n + 0) so_far.sessions;
           cut_is = tt;
-          outcomes_are = short.same ∙ so_far.outcomes_are ∙ sym (append-nil (all_outcomes so_far.parts));
-          short_are = short.same_short ∙ so_far.short_are ∙ sym (append-nil (all_short so_far.parts));
+          gathered = short.same ∙ so_far.gathered ∙ no_cut so_far.parts;
           more = short.steps;
           none_more = λ all. absurd (omega (arith, all, slice_get_within statements (length so_far.parts) s at_parts));
           none_inside = tt;
@@ -232,14 +225,14 @@ module _ (apps : List AppText) (statements : List Statement) where
           sink = λ another none. joined so_far.sink short.sink;
         }
 
-    all_written : {Kept1 : Type 0} → StopsShort os os' ns ns' r r' mid new Kept1 → Appends old new (text_of (first_tolds so_far.parts None) ++ text_of (last_tolds so_far.parts None))
+    all_written : {Kept1 : Type 0} → StopsShort k k' r r' mid new Kept1 → Appends old new (text_of (first_tolds so_far.parts None) ++ text_of (last_tolds so_far.parts None))
     all_written short = in_two so_far.parts old new (Appends-no_more old mid new (text_of (all_tolds so_far.parts)) so_far.written short.written)
 
     left : (last : List Told) (lacks : Bool) (Failed1 Failed : Type 0) → (Failed1 → Failed) → IsLeft lacks Failed1 [] last mid new → IsLeft lacks Failed (all_tolds so_far.parts) last old new
     left last lacks Failed1 Failed failed is = left_behind (all_tolds so_far.parts) last old mid new so_far.written lacks Failed1 Failed failed is
 
     module _ (Failed1 Failed Kept1 : Type 0) (failed : Failed1 → Failed) (joined : Kept0 → Kept1 → Kept) where
-      pub play_stops : (why : Stop) → HasStepped apps s os os' ns ns' r r' mid new Failed1 Kept1 {A = Unit {0}} (Err why) → IsPlayedTo {A = Unit {0}} apps statements os' ns' (Err why) r' old new Failed Kept
+      pub play_stops : (why : Stop) → HasStepped apps s k k' r r' mid new Failed1 Kept1 {A = Unit {0}} (Err why) → IsPlayedTo {A = Unit {0}} apps statements k' (Err why) r' old new Failed Kept
       play_stops stop.WriteFault on =
           stops_behind on stop.WriteFault Failed (λ refused. absurd (cc refused)) (λ done. absurd (cc done)) (cut_behind (all_tolds so_far.parts) on.part.tolds old mid new so_far.written on.written) (λ other. absurd (other refl))
       play_stops (stop.ThreadFault lacks) (inl (launch, by_main, short)) =
@@ -255,15 +248,14 @@ module _ (apps : List AppText) (statements : List Statement) where
           stops_inside stop.NoMemory Failed (λ at_a_write. absurd (cc at_a_write)) (λ done. absurd (cc done)) in' (λ refused. absurd (cc refused)) (λ no_memory. in'.far) (left in'.part.tolds true Failed1 Failed failed in'.written)
 
   -- behind the last one
-  pub play_ends : {A : Type 0} (x : A) (os : List Outcome) (ns : List ℕ) (r : Run) (old new : Option (List ℕ)) (Failed Kept : Type 0) → IsPlayedSoFar apps statements os ns (length statements) r old new Kept → IsPlayedTo {A = A} apps statements os ns (Ok x) r old new Failed Kept
-  play_ends x os ns r old new Failed Kept so_far = record {
+  pub play_ends : {A : Type 0} (x : A) (k : GatheredData) (r : Run) (old new : Option (List ℕ)) (Failed Kept : Type 0) → IsPlayedSoFar apps statements k (length statements) r old new Kept → IsPlayedTo {A = A} apps statements k (Ok x) r old new Failed Kept
+  play_ends x k r old new Failed Kept so_far = record {
     parts = so_far.parts;
     are = so_far.are;
     cut = None;
     sessions = so_far.sessions ∙ plus_nothing (all_sessions so_far.parts);
     cut_is = tt;
-    outcomes_are = so_far.outcomes_are ∙ sym (append-nil (all_outcomes so_far.parts));
-    short_are = so_far.short_are ∙ sym (append-nil (all_short so_far.parts));
+    gathered = so_far.gathered ∙ no_cut so_far.parts;
     more = [];
     none_more = λ all. refl;
     none_inside = tt;

@@ -1,5 +1,5 @@
 -- There is room for what statements may come to.
-use Rattle.std.proofs.Common.{◌≡◌, ◌≤◌, ◌+◌, ℕ, zero, suc, List, [], ◌∷◌, ◌++◌, length, length-append, drop, map, Some, slice_get, sym, ap, ◌∙◌, arith}
+use Rattle.std.proofs.Common.{◌≡◌, ◌≤◌, ◌+◌, ℕ, zero, suc, List, [], ◌∷◌, ◌++◌, length, length-append, drop, map, Some, slice_get, refl, sym, ap, ◌∙◌, arith}
 use Rattle.std.specs.Prelude.{Result}
 use Rattle.ak_print.specs.declared.told.Told.{Told}
 use Rattle.ak_lines.specs.declared.outcome.Outcome.{Outcome}
@@ -21,7 +21,8 @@ use Rattle.ak_block.specs.Together.{HasRunBlock, part_of}
 use Rattle.ak_run.specs.Sessions.{session_count}
 use Rattle.ak_describe.specs.Whole.{heads_of}
 use Rattle.ak_describe.specs.declared.described.AppText.{AppText}
-use Rattle.ak_play.specs.Parts.{IsPart, all_sessions_in, session_outcomes, sessions_in}
+use Rattle.ak_play.specs.Gathered.{GatheredData}
+use Rattle.ak_play.specs.Parts.{IsPart, all_sessions_in, session_outcomes, session_tolds, sessions_in}
 use Rattle.ak_play.specs.Steps.{StepsOn}
 use Rattle.ak_play.proofs.Blocks.{as_many}
 use Rattle.std.proofs.lemmas.List.{length-map}
@@ -48,6 +49,19 @@ few_outcomes heads r from (ls ∷ all) (part ∷ parts) are =
 few_outcomes heads r from [] (part ∷ parts) are = absurd are
 few_outcomes heads r from (ls ∷ all) [] are = absurd are
 
+-- as many are told
+as_many_told : (heads : List AppHead) (so_far : List Step) (lines : List SessionLine) (os : List Outcome) (ts : List Told) (bs : List (List Step)) → AreLines heads so_far lines os ts bs → length ts ≡ length os
+as_many_told heads so_far lines [] [] [] are = refl
+as_many_told heads so_far (l ∷ lines) (o ∷ os) (t ∷ ts) (b ∷ bs) are = ap suc (as_many_told heads (so_far ++ b) lines os ts bs are.1)
+as_many_told heads so_far _ _ _ _ are = absurd are
+
+pub tolds_as_outcomes : (heads : List AppHead) (r : Run) (from : ℕ) (all : List SessionLines) (parts : List SessionPart) → AreCarried (IsCarriedIn heads r) from all parts → length (session_tolds parts) ≡ length (session_outcomes parts)
+tolds_as_outcomes heads r from [] [] are = refl
+tolds_as_outcomes heads r from (ls ∷ all) (part ∷ parts) are =
+    omega (arith, length-append part.outcomes (session_outcomes parts), length-append part.tolds (session_tolds parts), tolds_as_outcomes heads r (from + 1) all parts are.1, as_many_told heads [] ls.lines.items part.outcomes part.tolds are.0.did.blocks are.0.did.are)
+tolds_as_outcomes heads r from [] (part ∷ parts) are = absurd are
+tolds_as_outcomes heads r from (ls ∷ all) [] are = absurd are
+
 pub lines_before : (first rest : List SessionLines) → lines_of_sessions (sessions_seen first) ≤ lines_of_sessions (sessions_seen (first ++ rest))
 lines_before [] rest = omega arith
 lines_before (ls ∷ first) rest = omega (arith, lines_before first rest)
@@ -69,9 +83,9 @@ few_sessions [] = omega arith
 few_sessions (s ∷ ss) = omega (arith, few_sessions ss, few_in_one s)
 
 -- ---- a statement that has its part
-module _ {apps : List AppText} (s : Statement) {os os' : List Outcome} {ns ns' : List ℕ} {r r' : Run} {W : List Told → Type 0} where
+module _ {apps : List AppText} (s : Statement) {k k' : GatheredData} {r r' : Run} {W : List Told → Type 0} where
   -- no more outcomes than it has lines
-  pub pushed_at_most : (on : StepsOn apps s os os' ns ns' r r' W) → length on.part.outcomes ≤ lines_of (statement_seen s)
+  pub pushed_at_most : (on : StepsOn apps s k k' r r' W) → length on.part.outcomes ≤ lines_of (statement_seen s)
   pushed_at_most on = by_kind s on.is where
     by_kind : (x : Statement) → IsPart (IsCarriedIn (heads_of apps) r') apps (session_count r + 1) x on.part → length on.part.outcomes ≤ lines_of (statement_seen x)
     by_kind (statement.Launch l) is = omega (arith, ap length is.outcomes_are)
@@ -80,8 +94,18 @@ module _ {apps : List AppText} (s : Statement) {os os' : List Outcome} {ns ns' :
     by_kind (statement.Lock l) is = omega (arith, ap length is.outcomes_are)
     by_kind (statement.Together t) is = omega (arith, ap length is.outcomes_are, few_outcomes (heads_of apps) r' (session_count r + 1) t.sessions.items is.parts is.carried)
 
+  pub told_at_most : (on : StepsOn apps s k k' r r' W) → length on.part.tolds ≤ lines_of (statement_seen s)
+  told_at_most on = by_kind s on.is where
+    by_kind : (x : Statement) → IsPart (IsCarriedIn (heads_of apps) r') apps (session_count r + 1) x on.part → length on.part.tolds ≤ lines_of (statement_seen x)
+    by_kind (statement.Launch l) is = omega (arith, ap length is.tolds_are)
+    by_kind (statement.Hey h) is = omega (arith, ap length is.tolds_are)
+    by_kind (statement.Post p) is = omega (arith, ap length is.tolds_are)
+    by_kind (statement.Lock l) is = omega (arith, ap length is.tolds_are)
+    by_kind (statement.Together t) is =
+        omega (arith, ap length is.tolds_are, tolds_as_outcomes (heads_of apps) r' (session_count r + 1) t.sessions.items is.parts is.carried, few_outcomes (heads_of apps) r' (session_count r + 1) t.sessions.items is.parts is.carried)
+
   -- as many sessions as it has
-  pub as_many_sessions : (on : StepsOn apps s os os' ns ns' r r' W) → on.part.sessions ≡ sessions_in s
+  pub as_many_sessions : (on : StepsOn apps s k k' r r' W) → on.part.sessions ≡ sessions_in s
   as_many_sessions on = by_kind s on.is where
     by_kind : (x : Statement) → IsPart (IsCarriedIn (heads_of apps) r') apps (session_count r + 1) x on.part → on.part.sessions ≡ sessions_in x
     by_kind (statement.Launch l) is = is.no_session
@@ -99,3 +123,6 @@ module _ (heads : List AppHead) (t : Together) {came : Result (Unit {0}) Cut} {r
   pub few_outcomes_heard : length (session_outcomes (map part_of heard)) ≤ lines_of (statement_seen (statement.Together t))
   few_outcomes_heard =
       omega (arith, few_outcomes heads r' (session_count r + 1) ran.first (map part_of heard) ran.kept.carried, lines_before ran.first ran.rest, ap (λ (all : List SessionLines). lines_of_sessions (sessions_seen all)) ran.all)
+
+  pub few_tolds_heard : length (session_tolds (map part_of heard)) ≤ lines_of (statement_seen (statement.Together t))
+  few_tolds_heard = omega (arith, few_outcomes_heard, tolds_as_outcomes heads r' (session_count r + 1) ran.first (map part_of heard) ran.kept.carried)

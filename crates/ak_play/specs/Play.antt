@@ -136,14 +136,13 @@ pub record IsRunOf (heads : List AppHead) (run : RunEnd) : Type 0 where
 -- The run of these statements: what main and the sessions did for them, what was written, and whose replies were told. Failed says that a write
 -- failed, Kept that none did
 pub record IsPlay (apps : List AppText) (statements : List Statement) (end : Ending) (run : RunEnd) (old new : Option (List ℕ)) (Failed Kept : Type 0) : Type 0 where
-  pub tolds : List Told
-  pub played : HasPlayed apps statements run.outcomes tolds run.short.sessions run.histories
+  pub played : HasPlayed apps statements run.outcomes run.tolds run.short.sessions run.histories
   -- it is a run of these sessions, and of no others
   pub run_of : IsRunWith (all_sessions played.parts + cut_sessions played.cut) (heads_of apps) run.short.loopers run.histories
   -- a write that failed is its end, or one of the lines of a block that was cut
   pub written : IsWritten end run.short.main (IsSomeAnd played.cut (λ (part : Part). Failed)) (first_tolds played.parts played.cut) (last_tolds played.parts played.cut) old new
   pub sink : end ≢ ending.WriteFault → played.cut ≡ None → Kept
-  pub replies : AreReplies run.short.loopers run.histories run.outcomes tolds
+  pub replies : AreReplies run.short.loopers run.histories run.outcomes run.tolds
   -- it is done only where each statement has its part
   pub whole : end ≡ ending.Done → length played.parts ≡ length statements
   -- so it is where main found memory, no write failed and each thread was started

@@ -12,13 +12,13 @@ use Rattle.ak_run.specs.declared.run.Run.{Run}
 use Rattle.ak_run.specs.Sessions.{session_count, sessions_of}
 use Rattle.ak_script.specs.declared.statement.Statement.{Statement}
 use Rattle.ak_run.specs.Doing.{Does, HasDoneSoFar}
-use Rattle.ak_lines.specs.declared.outcome.Outcome.{Outcome}
 use Rattle.ak_play.specs.declared.run_end.Short.{Short}
 use Rattle.ak_play.specs.declared.stop.Stop.{Stop}
 use Rattle.ak_play.specs.declared.stop.Stop.TheVariants as stop
 use Rattle.ak_play.specs.Blocks.{IsLaunch}
-use Rattle.ak_play.specs.Parts.{AreParts, IsCut, IsPart, Part, all_outcomes, all_sessions, all_short, all_steps, all_tolds, sessions_in}
-use Rattle.ak_play.specs.Play.{IsCutText, IsFrontText, IsLeft, IsWritten, cut_outcomes, cut_sessions, cut_short, first_tolds, last_tolds, text_of}
+use Rattle.ak_play.specs.Gathered.{GatheredData, gathered_and, of_cut, of_part, of_parts}
+use Rattle.ak_play.specs.Parts.{AreParts, IsCut, IsPart, Part, all_sessions, all_steps, all_tolds, sessions_in}
+use Rattle.ak_play.specs.Play.{IsCutText, IsFrontText, IsLeft, IsWritten, cut_sessions, first_tolds, last_tolds, text_of}
 use Rattle.ak_block.specs.Carried.{HasSessionsMore, IsCarriedIn}
 
 -- a thread could not be started
@@ -42,63 +42,56 @@ HasWrittenAll (Err (stop.ThreadFault lacked)) tolds old new = ⊥
 HasWrittenAll (Err stop.NoMemory) tolds old new = IsFrontText [] tolds old new
 
 -- ---- one statement
--- the outcomes of a part, and the numbers of its sessions that found no memory, stand behind those so far
-pub record IsKept (part : Part) (outcomes outcomes' : List Outcome) (short short' : List ℕ) : Type 0 where
-  pub outcomes_are : outcomes' ≡ outcomes ++ part.outcomes
-  pub short_are : short' ≡ short ++ part.short
-
 -- it has its part, and of its lines that was written
-pub record StepsOn (apps : List AppText) (s : Statement) (outcomes outcomes' : List Outcome) (short short' : List ℕ) (r r' : Run) (Written : List Told → Type 0) : Type 0 where
+pub record StepsOn (apps : List AppText) (s : Statement) (g g' : GatheredData) (r r' : Run) (Written : List Told → Type 0) : Type 0 where
   pub part : Part
   pub is : IsPart (IsCarriedIn (heads_of apps) r') apps (session_count r + 1) s part
   pub does : Does part.steps r r'
   pub sessions : HasSessionsMore part.sessions r r'
-  pub kept : IsKept part outcomes outcomes' short short'
+  pub gathered : g' ≡ gathered_and g (of_part part)
   pub written : Written part.tolds
 
 -- it is a block that was cut, so far
-pub record StopsInside (apps : List AppText) (s : Statement) (outcomes outcomes' : List Outcome) (short short' : List ℕ) (r r' : Run) (Far : Part → Type 0) (Written : List Told → Type 0) : Type 0 where
+pub record StopsInside (apps : List AppText) (s : Statement) (g g' : GatheredData) (r r' : Run) (Far : Part → Type 0) (Written : List Told → Type 0) : Type 0 where
   pub part : Part
   pub is : IsCut (IsCarriedIn (heads_of apps) r') (session_count r + 1) s part
   pub far : Far part
   pub does : Does [] r r'
   pub sessions : HasSessionsMore part.sessions r r'
-  pub kept : IsKept part outcomes outcomes' short short'
+  pub gathered : g' ≡ gathered_and g (of_part part)
   pub written : Written part.tolds
 
 -- it has none, and nothing was written
-pub record StopsShort (outcomes outcomes' : List Outcome) (short short' : List ℕ) (r r' : Run) (old new : Option (List ℕ)) (Kept : Type 0) : Type 0 where
+pub record StopsShort (g g' : GatheredData) (r r' : Run) (old new : Option (List ℕ)) (Kept : Type 0) : Type 0 where
   pub steps : List Step
   pub does : Does steps r r'
   pub sessions : sessions_of r' ≡ sessions_of r
-  pub same : outcomes' ≡ outcomes
-  pub same_short : short' ≡ short
+  pub same : g' ≡ g
   pub written : Appends old new []
   pub sink : Kept
 
 -- Failed says that a write failed, Kept that none did
-module _ (apps : List AppText) (s : Statement) (outcomes outcomes' : List Outcome) (short short' : List ℕ) (r r' : Run) (old new : Option (List ℕ)) (Failed Kept : Type 0) where
+module _ (apps : List AppText) (s : Statement) (g g' : GatheredData) (r r' : Run) (old new : Option (List ℕ)) (Failed Kept : Type 0) where
   -- by its answer
   abbrev pub HasStepped : {A : Type 0} → Result A Stop → Type 0
-  HasStepped (Ok _) = StepsOn apps s outcomes outcomes' short short' r r' (λ tolds. Appends old new (text_of tolds) × Kept)
-  HasStepped (Err stop.WriteFault) = StepsOn apps s outcomes outcomes' short short' r r' (λ tolds. IsCutText [] tolds old new)
+  HasStepped (Ok _) = StepsOn apps s g g' r r' (λ tolds. Appends old new (text_of tolds) × Kept)
+  HasStepped (Err stop.WriteFault) = StepsOn apps s g g' r r' (λ tolds. IsCutText [] tolds old new)
   HasStepped (Err (stop.ThreadFault lacks)) =
-      (IsLaunch s × (lacks ≡ false) × StopsShort outcomes outcomes' short short' r r' old new Kept)
-      ⊎ StopsInside apps s outcomes outcomes' short short' r r' (λ part. 1 ≤ part.sessions) (λ tolds. IsLeft lacks Failed [] tolds old new)
+      (IsLaunch s × (lacks ≡ false) × StopsShort g g' r r' old new Kept)
+      ⊎ StopsInside apps s g g' r r' (λ part. 1 ≤ part.sessions) (λ tolds. IsLeft lacks Failed [] tolds old new)
   HasStepped (Err stop.NoMemory) =
-      StopsShort outcomes outcomes' short short' r r' old new Kept
-      ⊎ (StepsOn apps s outcomes outcomes' short short' r r' (λ tolds. IsFrontText [] tolds old new × Kept)
-      ⊎ StopsInside apps s outcomes outcomes' short short' r r' (λ part. part.sessions < sessions_in s) (λ tolds. IsLeft true Failed [] tolds old new))
+      StopsShort g g' r r' old new Kept
+      ⊎ (StepsOn apps s g g' r r' (λ tolds. IsFrontText [] tolds old new × Kept)
+      ⊎ StopsInside apps s g g' r r' (λ part. part.sessions < sessions_in s) (λ tolds. IsLeft true Failed [] tolds old new))
 
 -- ---- all statements
 -- the first ones are done, and their lines are written
-pub record IsPlayedSoFar (apps : List AppText) (statements : List Statement) (outcomes : List Outcome) (short : List ℕ) (done : ℕ) (r : Run) (old new : Option (List ℕ)) (Kept : Type 0) : Type 0 where
+pub record IsPlayedSoFar (apps : List AppText) (statements : List Statement) (g : GatheredData) (done : ℕ) (r : Run) (old new : Option (List ℕ)) (Kept : Type 0) : Type 0 where
   pub parts : List Part
   pub count : length parts ≡ done
   pub are : AreParts (IsCarriedIn (heads_of apps) r) apps 1 statements parts
   pub sessions : session_count r ≡ all_sessions parts
-  pub outcomes_are : outcomes ≡ all_outcomes parts
-  pub short_are : short ≡ all_short parts
+  pub gathered : g ≡ of_parts parts
   pub done_so : HasDoneSoFar (all_steps parts) r
   pub written : Appends old new (text_of (all_tolds parts))
   pub sink : Kept
@@ -118,14 +111,13 @@ is_lack (Err (stop.ThreadFault lacks)) = lacks
 is_lack (Err stop.NoMemory) = true
 
 -- the first ones are done, and steps of one more, or some sessions of it, at which it ended so
-pub record IsPlayedTo {A : Type 0} (apps : List AppText) (statements : List Statement) (outcomes : List Outcome) (short : List ℕ) (result : Result A Stop) (r : Run) (old new : Option (List ℕ)) (Failed Kept : Type 0) : Type 0 where
+pub record IsPlayedTo {A : Type 0} (apps : List AppText) (statements : List Statement) (g : GatheredData) (result : Result A Stop) (r : Run) (old new : Option (List ℕ)) (Failed Kept : Type 0) : Type 0 where
   pub parts : List Part
   pub are : AreParts (IsCarriedIn (heads_of apps) r) apps 1 statements parts
   pub cut : Option Part
   pub sessions : session_count r ≡ all_sessions parts + cut_sessions cut
   pub cut_is : IfSome cut (λ (part : Part). IsSomeAnd (slice_get statements (length parts)) (λ (s : Statement). IsCut (IsCarriedIn (heads_of apps) r) (all_sessions parts + 1) s part))
-  pub outcomes_are : outcomes ≡ all_outcomes parts ++ cut_outcomes cut
-  pub short_are : short ≡ all_short parts ++ cut_short cut
+  pub gathered : g ≡ gathered_and (of_parts parts) (of_cut cut)
   pub more : List Step
   pub none_more : length parts ≡ length statements → more ≡ []
   pub none_inside : IfSome cut (λ (part : Part). more ≡ [])

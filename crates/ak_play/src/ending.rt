@@ -14,10 +14,10 @@ ghost use Rattle.ak_run.specs.Doing.{HasDoneSoFar};
 ghost use Rattle.ak_run.specs.Opened.{WereOpened};
 ghost use Rattle.ak_play.specs.Steps.{any_short, ended_as, is_lack};
 
+use crate::gathered::Gathered;
 use crate::run_end::{RunEnd, Short};
 use crate::stop::{Stop, is_lack};
 use ak_base::{Ending, Items};
-use ak_lines::Outcome;
 use ak_run::{Ended, Run};
 use ak_script::{Script, Statement};
 use std::sync::Wait;
@@ -41,8 +41,7 @@ pub(crate) fn finish<R: Threads + Wait>(
     rt: &R,
     run: Run,
     statements: Vec<Statement>,
-    outcomes: Vec<Outcome>,
-    short: Vec<u32>,
+    gathered: Gathered,
     played: Result<(), Stop>,
 ) -> (RunEnd, Ending)
     requires running { IsRunning run }
@@ -58,9 +57,10 @@ pub(crate) fn finish<R: Threads + Wait>(
     ensures opened { WereOpened run.apps.items result.0.histories }
     ensures apps { result.0.script.apps.items ≡ run.apps.items }
     ensures statements { result.0.script.statements.items ≡ statements.items }
-    ensures outcomes { result.0.outcomes ≡ outcomes.items }
+    ensures outcomes { result.0.outcomes ≡ gathered.outcomes.items }
+    ensures tolds { result.0.tolds ≡ gathered.tolds.items }
     ensures short { result.0.short.main ≡ is_lack played }
-    ensures short_sessions { result.0.short.sessions ≡ short.items }
+    ensures short_sessions { result.0.short.sessions ≡ gathered.short.items }
     ensures did { (steps : List Step) → HasDoneSoFar steps run → DoneAtEnd (heads_of run.apps.items) steps result.0.histories }
 {
     let Ended {
@@ -68,10 +68,16 @@ pub(crate) fn finish<R: Threads + Wait>(
         histories,
         short: loopers,
     } = run.end(rt);
+    let Gathered {
+        outcomes,
+        tolds,
+        short,
+    } = gathered;
     let lacked = !short.is_empty() || !loopers.as_slice().is_empty();
     let end = RunEnd {
         script: Script { apps, statements },
         outcomes: Items::from_vec(outcomes),
+        tolds: Items::from_vec(tolds),
         histories,
         short: Short {
             main: is_lack(&played),

@@ -3,6 +3,7 @@
 
 mod asking;
 mod ending;
+mod gathered;
 mod launching;
 mod locking;
 mod play;

@@ -8,6 +8,7 @@ ghost use Rattle.ak_run.specs.Opened.{WereOpened};
 ghost use Rattle.ak_play.specs.Play.{IsPlay, IsPlayEnding, IsRunOf};
 
 use crate::ending::finish;
+use crate::gathered::Gathered;
 use crate::run_end::RunEnd;
 use crate::stepping::play_all;
 use ak_base::Ending;
@@ -49,6 +50,7 @@ pub fn run_script<
     ensures script { IfSome result.0 (λ end. (end.script.apps.items ≡ script.apps.items) × (end.script.statements.items ≡ script.statements.items)) }
     ensures play { IfSome result.0 (λ end. IsPlay script.apps.items script.statements.items result.1 end (K.written sink.old) (K.written sink.new) (Rose (K.faults sink.old) (K.faults sink.new)) (K.faults sink.new ≡ K.faults sink.old)) }
     ensures none { IfNone result.0 ((result.1 ≡ Ending.NoMemory) × Appends (K.written sink.old) (K.written sink.new) [] × (K.faults sink.new ≡ K.faults sink.old)) }
+    ensures none_starts { IfNone result.0 (spawner.new ≡ spawner.old) }
 
     // Each fault has its cause.
     ensures write_fault { result.1 ≡ Ending.WriteFault → Rose (K.faults sink.old) (K.faults sink.new) }
@@ -59,24 +61,22 @@ pub fn run_script<
     ensures spawner_never_falls { W.faults spawner.old ≤ W.faults spawner.new }
 {
     let Script { apps, statements } = script;
-    let Ok(mut outcomes) = Vec::with_capacity(alloc, count_lines(statements.as_slice())) else {
+    let Ok(mut gathered) = Gathered::with_room(alloc, count_lines(statements.as_slice())) else {
         return (None, Ending::NoMemory);
     };
     let Ok(mut run) = Run::new(alloc, apps) else {
         return (None, Ending::NoMemory);
     };
-    let mut short = Vec::new(alloc);
     let played = play_all(
         alloc,
         rt,
         &mut run,
         statements.as_slice(),
-        &mut outcomes,
-        &mut short,
+        &mut gathered,
         sink,
         spawner,
         gate,
     );
-    let (end, ending) = finish(rt, run, statements, outcomes, short, played);
+    let (end, ending) = finish(rt, run, statements, gathered, played);
     (Some(end), ending)
 }

@@ -1,7 +1,6 @@
 //! Statements, one after the other.
-ghost use Rattle.std.specs.Prelude.{◌≡◌, ◌≤◌, ◌+◌, ◌++◌, [], length, map, true, vec_capacity, IsErrOf, OnOk};
+ghost use Rattle.std.specs.Prelude.{◌≡◌, ◌≤◌, ◌+◌, [], length, true, IsErrOf, OnOk};
 ghost use Rattle.ak_outside.specs.Faults.{Rose};
-ghost use Rattle.ak_block.specs.Together.{part_of};
 ghost use Rattle.ak_run.specs.Running.{IsRunning};
 ghost use Rattle.ak_run.specs.Sessions.{all_closed, session_count, sessions_of};
 ghost use Rattle.ak_run.specs.Doing.{DoesSo, HasDoneSoFar};
@@ -10,18 +9,19 @@ ghost use Rattle.ak_script.specs.Statement.{lines_in, lines_of};
 ghost use Rattle.ak_script.specs.StatementSeen.{statement_seen, statements_seen};
 ghost use Rattle.ak_play.specs.Blocks.{IsAlone, IsBlock, IsLaunch};
 ghost use Rattle.ak_play.specs.Came.{MayCome};
-ghost use Rattle.ak_play.specs.Parts.{all_sessions_in, session_outcomes, sessions_in, short_in};
+ghost use Rattle.ak_play.specs.Gathered.{HasRoom, KeepsRoom, gathered_seen, nothing_gathered};
+ghost use Rattle.ak_play.specs.Parts.{sessions_in};
 ghost use Rattle.ak_play.specs.Steps.{HasStepped, IsPlayedTo, IsThreadFault};
 
 use crate::asking::hey;
+use crate::gathered::Gathered;
 use crate::launching::launch;
 use crate::locking::lock;
 use crate::posting::post;
 use crate::stop::{Stop, is_lack};
 use crate::telling::{tell, tell_sessions};
-use ak_base::NoMemory;
-use ak_block::{Cut, Heard, together};
-use ak_lines::{Came, Outcome};
+use ak_block::{Cut, together};
+use ak_lines::Came;
 use ak_outside::{Gate, Sink, Spawner};
 use ak_run::Run;
 use ak_script::{Statement, Together};
@@ -59,62 +59,23 @@ fn carry_out<W: Spawner, G: Gate + 'static, R: Threads + Wait + Copy + Send + 's
     }
 }
 
-// Makes room for the numbers of so many sessions more.
-fn make_room(short: &mut Vec<u32>, count: usize) -> Result<(), NoMemory>
-    ensures items { short.new.items ≡ short.old.items }
-    ensures room { OnOk result (length short.old.items + count ≤ vec_capacity short.new) }
-{
-    Ok(short.reserve(count)?)
-}
-
-// Keeps the outcomes.
-fn keep_outcomes(more: &[Outcome], outcomes: &mut Vec<Outcome>)
-    requires room { length outcomes.old.items + length more.now ≤ vec_capacity outcomes.old }
-    ensures outcomes { outcomes.new.items ≡ outcomes.old.items ++ more.now }
-    ensures capacity { vec_capacity outcomes.old ≤ vec_capacity outcomes.new }
-{
-    if outcomes.extend_from_slice(more).is_err() {
-        unreachable!();
-    }
-}
-
-// Keeps the outcomes of a block's sessions, and the numbers, from that one on, of those that found no memory.
-fn keep(heard: &[Heard], from: u32, outcomes: &mut Vec<Outcome>, short: &mut Vec<u32>)
-    requires numbers { from + length heard.now ≤ statement_limit + 1 }
-    requires room { length outcomes.old.items + length (session_outcomes (map part_of heard.now)) ≤ vec_capacity outcomes.old }
-    requires room_for_short { length short.old.items + length heard.now ≤ vec_capacity short.old }
-    ensures outcomes { outcomes.new.items ≡ outcomes.old.items ++ session_outcomes (map part_of heard.now) }
-    ensures short { short.new.items ≡ short.old.items ++ short_in from (map part_of heard.now) }
-    ensures capacity { vec_capacity outcomes.old ≤ vec_capacity outcomes.new }
-{
-    let mut number = from;
-    for part in heard {
-        keep_outcomes(part.outcomes.as_slice(), outcomes);
-        if part.short {
-            short.push_reserved(number);
-        }
-        number += 1;
-    }
-}
-
-// Carries out a block, keeps its outcomes, and writes its lines once all its sessions are joined. Of a block that was cut they are written
-// too, as far as it goes.
+// Carries out a block, writes its lines once all its sessions are joined, and gathers what they came to. Of a block that was cut they are
+// written too, as far as it goes.
 fn play_block<K: Sink, W: Spawner, R: Threads + Wait + Copy + Send + 'static>(
     alloc: Global,
     rt: &R,
     run: &mut Run,
     block: &Together,
-    outcomes: &mut Vec<Outcome>,
-    short: &mut Vec<u32>,
+    gathered: &mut Gathered,
     sink: &mut K,
     spawner: &mut W,
 ) -> Result<(), Stop>
     requires running { IsRunning run.old }
     requires closed { all_closed run.old ≡ true }
     requires few { session_count run.old + length block.now.sessions.items ≤ statement_limit }
-    requires room { length outcomes.old.items + lines_of (statement_seen (Statement.Together block.now)) ≤ vec_capacity outcomes.old }
-    ensures stepped { HasStepped run.old.apps.items (Statement.Together block.now) outcomes.old.items outcomes.new.items short.old.items short.new.items run.old run.new (K.written sink.old) (K.written sink.new) (Rose (K.faults sink.old) (K.faults sink.new)) (K.faults sink.new ≡ K.faults sink.old) result }
-    ensures room { vec_capacity outcomes.old ≤ vec_capacity outcomes.new }
+    requires room { HasRoom (lines_of (statement_seen (Statement.Together block.now))) gathered.old }
+    ensures stepped { HasStepped run.old.apps.items (Statement.Together block.now) (gathered_seen gathered.old) (gathered_seen gathered.new) run.old run.new (K.written sink.old) (K.written sink.new) (Rose (K.faults sink.old) (K.faults sink.new)) (K.faults sink.new ≡ K.faults sink.old) result }
+    ensures kept { KeepsRoom gathered.old gathered.new }
     ensures write_fault { IsErrOf result Stop.WriteFault → Rose (K.faults sink.old) (K.faults sink.new) }
     ensures sink_kept { OnOk result (K.faults sink.new ≡ K.faults sink.old) }
     ensures sink_never_falls { K.faults sink.old ≤ K.faults sink.new }
@@ -126,10 +87,10 @@ fn play_block<K: Sink, W: Spawner, R: Threads + Wait + Copy + Send + 'static>(
     ensures apps { run.new.apps ≡ run.old.apps }
 {
     let from = run.sessions() + 1;
-    make_room(short, block.sessions.len())?;
+    gathered.make_room(block.sessions.len())?;
     let (heard, came) = together(alloc, rt, run, block, spawner)?;
-    keep(heard.as_slice(), from, outcomes, short);
     let told = tell_sessions(alloc, heard.as_slice(), sink);
+    gathered.push_sessions(heard, from);
     match came {
         Ok(()) => told,
         Err(Cut::NoMemory) => Err(Stop::NoMemory),
@@ -139,14 +100,13 @@ fn play_block<K: Sink, W: Spawner, R: Threads + Wait + Copy + Send + 'static>(
     }
 }
 
-// Carries out one statement, keeps its outcomes and writes its lines.
+// Carries out one statement, writes its lines, and gathers what it came to.
 fn step<K: Sink, W: Spawner, G: Gate + 'static, R: Threads + Wait + Copy + Send + 'static>(
     alloc: Global,
     rt: &R,
     run: &mut Run,
     statement: &Statement,
-    outcomes: &mut Vec<Outcome>,
-    short: &mut Vec<u32>,
+    gathered: &mut Gathered,
     sink: &mut K,
     spawner: &mut W,
     gate: &G,
@@ -154,9 +114,9 @@ fn step<K: Sink, W: Spawner, G: Gate + 'static, R: Threads + Wait + Copy + Send 
     requires running { IsRunning run.old }
     requires closed { all_closed run.old ≡ true }
     requires few { session_count run.old + sessions_in statement.now ≤ statement_limit }
-    requires room { length outcomes.old.items + lines_of (statement_seen statement.now) ≤ vec_capacity outcomes.old }
-    ensures stepped { HasStepped run.old.apps.items statement.now outcomes.old.items outcomes.new.items short.old.items short.new.items run.old run.new (K.written sink.old) (K.written sink.new) (Rose (K.faults sink.old) (K.faults sink.new)) (K.faults sink.new ≡ K.faults sink.old) result }
-    ensures room { vec_capacity outcomes.old ≤ vec_capacity outcomes.new }
+    requires room { HasRoom (lines_of (statement_seen statement.now)) gathered.old }
+    ensures stepped { HasStepped run.old.apps.items statement.now (gathered_seen gathered.old) (gathered_seen gathered.new) run.old run.new (K.written sink.old) (K.written sink.new) (Rose (K.faults sink.old) (K.faults sink.new)) (K.faults sink.new ≡ K.faults sink.old) result }
+    ensures kept { KeepsRoom gathered.old gathered.new }
     ensures write_fault { IsErrOf result Stop.WriteFault → Rose (K.faults sink.old) (K.faults sink.new) }
     ensures sink_kept { OnOk result (K.faults sink.new ≡ K.faults sink.old) }
     ensures sink_never_falls { K.faults sink.old ≤ K.faults sink.new }
@@ -168,11 +128,12 @@ fn step<K: Sink, W: Spawner, G: Gate + 'static, R: Threads + Wait + Copy + Send 
     ensures apps { run.new.apps ≡ run.old.apps }
 {
     if let Statement::Together(block) = statement {
-        return play_block(alloc, rt, run, block, outcomes, short, sink, spawner);
+        return play_block(alloc, rt, run, block, gathered, sink, spawner);
     }
     let came = carry_out(rt, run, statement, spawner, gate)?;
-    outcomes.push_reserved(came.outcome);
-    tell(alloc, &came.told, sink)
+    let told = tell(alloc, &came.told, sink);
+    gathered.push(came);
+    told
 }
 
 /// Carries them out one after the other, as far as nothing stops it.
@@ -186,8 +147,7 @@ pub(crate) fn play_all<
     rt: &R,
     run: &mut Run,
     statements: &[Statement],
-    outcomes: &mut Vec<Outcome>,
-    short: &mut Vec<u32>,
+    gathered: &mut Gathered,
     sink: &mut K,
     spawner: &mut W,
     gate: &G,
@@ -195,11 +155,10 @@ pub(crate) fn play_all<
     requires running { IsRunning run.old }
     requires nothing { HasDoneSoFar [] run.old }
     requires no_session { sessions_of run.old ≡ [] }
-    requires none { outcomes.old.items ≡ [] }
-    requires none_short { short.old.items ≡ [] }
+    requires none { gathered_seen gathered.old ≡ nothing_gathered }
     requires few { lines_in (statements_seen statements.now) ≤ statement_limit }
-    requires room { lines_in (statements_seen statements.now) ≤ vec_capacity outcomes.old }
-    ensures played { IsPlayedTo run.old.apps.items statements.now outcomes.new.items short.new.items result run.new (K.written sink.old) (K.written sink.new) (Rose (K.faults sink.old) (K.faults sink.new)) (K.faults sink.new ≡ K.faults sink.old) }
+    requires room { HasRoom (lines_in (statements_seen statements.now)) gathered.old }
+    ensures played { IsPlayedTo run.old.apps.items statements.now (gathered_seen gathered.new) result run.new (K.written sink.old) (K.written sink.new) (Rose (K.faults sink.old) (K.faults sink.new)) (K.faults sink.new ≡ K.faults sink.old) }
     ensures write_fault { IsErrOf result Stop.WriteFault → Rose (K.faults sink.old) (K.faults sink.new) }
     ensures sink_kept { OnOk result (K.faults sink.new ≡ K.faults sink.old) }
     ensures sink_never_falls { K.faults sink.old ≤ K.faults sink.new }
@@ -211,9 +170,7 @@ pub(crate) fn play_all<
     ensures apps { run.new.apps ≡ run.old.apps }
 {
     for statement in statements {
-        step(
-            alloc, rt, run, statement, outcomes, short, sink, spawner, gate,
-        )?;
+        step(alloc, rt, run, statement, gathered, sink, spawner, gate)?;
     }
     Ok(())
 }
