@@ -1,5 +1,5 @@
 -- The top call: its endings, the input that it read, and what it wrote.
-use Rattle.std.specs.Prelude.{◌≡◌, ◌⊎◌, ℕ, ◌<◌, ◌≤◌, List, [], ◌∷◌, ◌++◌, length, take, codes, Option, Ok, Err}
+use Rattle.std.specs.Prelude.{◌≡◌, ◌≢◌, ◌⊎◌, ℕ, ◌<◌, ◌≤◌, Bool, true, List, [], ◌∷◌, ◌++◌, length, take, codes, Option, None, Ok, Err}
 use Rattle.std.specs.Fmt.{decimal}
 use Rattle.std.specs.Io.KnownBytes.{Appends, Consumes, IsAtEnd}
 use Rattle.ak_base.specs.declared.ending.Ending.{Ending}
@@ -10,10 +10,14 @@ use Rattle.ak_message.specs.Limits.{input_limit}
 use Rattle.ak_outside.specs.Faults.{Rose}
 use Rattle.ak_outside.specs.Sink.{AppendsPart}
 use Rattle.ak_script.specs.declared.script.Script.{Script}
+use Rattle.ak_script.specs.Generated.{generated_limit}
 use Rattle.ak_script.specs.Script.{ScriptData, script_of}
 use Rattle.ak_script.specs.Seen.{script_seen}
 use Rattle.ak_play.specs.declared.run_end.RunEnd.{RunEnd}
 use Rattle.ak_play.specs.Play.{IsPlay}
+use Rattle.ak_kit.specs.declared.words.Command.{Command}
+use Rattle.ak_kit.specs.declared.words.Command.TheVariants as command
+use Rattle.ak_kit.specs.Gen.{gen_line}
 use Rattle.ak_kit.specs.Summary.{summary}
 
 -- ---- the commands
@@ -23,8 +27,31 @@ run_words = codes "run" ∷ []
 abbrev pub read_words : List (List ℕ)
 read_words = codes "read" ∷ []
 
+-- `gen` and that number
+abbrev pub gen_words : ℕ → List (List ℕ)
+gen_words n = codes "gen" ∷ decimal n ∷ []
+
+-- `gen` and a number that a script is made of
+abbrev pub IsGen : List (List ℕ) → Type 0
+IsGen words = (n : ℕ) × (1 ≤ n) × (n ≤ generated_limit) × (words ≡ gen_words n)
+
+-- a command that reads an input
+abbrev pub ReadsInput : List (List ℕ) → Type 0
+ReadsInput words = (words ≡ run_words) ⊎ (words ≡ read_words)
+
 abbrev pub IsCommand : List (List ℕ) → Type 0
-IsCommand words = (words ≡ run_words) ⊎ (words ≡ read_words)
+IsCommand words = ReadsInput words ⊎ IsGen words
+
+-- the words say that command
+abbrev pub SaysCommand : List (List ℕ) → Command → Type 0
+SaysCommand words command.Run = words ≡ run_words
+SaysCommand words command.Read = words ≡ read_words
+SaysCommand words (command.Gen n) = (1 ≤ n) × (n ≤ generated_limit) × (words ≡ gen_words n)
+
+-- that number alone is told by them, and by those of the other commands none
+abbrev pub TellsNumber : List (List ℕ) → Command → Type 0
+TellsNumber words (command.Gen n) = (m : ℕ) → words ≡ gen_words m → m ≡ n
+TellsNumber words _ = (m : ℕ) → words ≢ gen_words m
 
 -- the exit status
 abbrev pub status_of : Ending → ℕ
@@ -39,7 +66,7 @@ status_of ending.NoMemory = 6
 -- the line that is written at the end
 abbrev pub closing_line : Ending → List ℕ
 closing_line ending.Done = []
-closing_line ending.Usage = codes "usage: kit run | read" ++ 10 ∷ []
+closing_line ending.Usage = codes "usage: kit run | read | gen N" ++ 10 ∷ []
 closing_line (ending.Refused line why) = codes "refused line " ++ decimal line ++ codes ": " ++ text_of why ++ 10 ∷ []
 closing_line ending.ReadFault = codes "read fault" ++ 10 ∷ []
 closing_line ending.WriteFault = []
@@ -152,3 +179,29 @@ pub record PlaysAndCloses (run : RunEnd) (end : Ending) (old new : Option (List 
   pub second : faults_between ≤ faults'
   pub play : IsPlay run.script.apps.items run.script.statements.items end run old between (Rose faults faults_between) (faults_between ≡ faults)
   pub closes : Closes end between new (Rose faults_between faults')
+
+-- ---- the script of a number
+
+-- the run, with that said of main: whether it found no memory
+abbrev pub with_main : Bool → RunEnd → RunEnd
+with_main main run = record run { short = record run.short { main = main } }
+
+-- it is a run of its script that ended so, of which no line was written anywhere, and so no write failed
+abbrev pub IsPlayNowhere : Ending → RunEnd → Type 0
+IsPlayNowhere ended run = IsPlay run.script.apps.items run.script.statements.items ended run None None ⊥ (Unit {0})
+
+-- What was written of a run that ended so (`ended`). Of one that was done it is the line, and main is told as it was (`main`); or, without memory
+-- for the line, the closing line, and main is told to have found none. Of any other it is the closing line, and main is told as it was
+abbrev pub TellsRun : Ending → ℕ → RunEnd → Bool → Ending → Option (List ℕ) → Option (List ℕ) → Type 0 → Type 0
+TellsRun ending.Done n run main end old new Failed =
+    TellsLine (gen_line n run.tolds) end old new Failed × (end ≢ ending.NoMemory → run.short.main ≡ main) × (end ≡ ending.NoMemory → run.short.main ≡ true)
+TellsRun ended n run main end old new Failed = (end ≡ ended) × (run.short.main ≡ main) × Closes end old new Failed
+
+-- The script was carried out, with its lines written nowhere, and then it was told of by one line. Before the line the run ended so, and main was
+-- so; the sink failed so often before and after it
+pub record GeneratesAndCloses (n : ℕ) (run : RunEnd) (end : Ending) (old new : Option (List ℕ)) (faults faults' : ℕ) : Type 0 where
+  pub ended : Ending
+  pub main : Bool
+  pub play : IsPlayNowhere ended (with_main main run)
+  pub no_write : ended ≢ ending.WriteFault
+  pub tells : TellsRun ended n run main end old new (Rose faults faults')

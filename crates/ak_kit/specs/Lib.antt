@@ -1,2 +1,3 @@
+pub mod Gen
 pub mod Kit
 pub mod Summary

@@ -16,7 +16,7 @@ fn closing_line(ending: Ending) -> &'static [u8]
 {
     match ending {
         Ending::Done | Ending::WriteFault => b"",
-        Ending::Usage => b"usage: kit run | read\n",
+        Ending::Usage => b"usage: kit run | read | gen N\n",
         Ending::ReadFault => b"read fault\n",
         Ending::ThreadFault => b"thread fault\n",
         Ending::NoMemory => b"no memory\n",
@@ -66,6 +66,23 @@ pub(crate) fn close<K: Sink>(sink: &mut K, ending: Ending, run: Option<RunEnd>) 
     ensures kept { kit.closing_line ending ≡ [] → K.faults sink.new ≡ K.faults sink.old }
 {
     end_with(sink, ending, closing_line(ending), run)
+}
+
+/// Writes the line, and ends the program.
+pub(crate) fn end_with_line<K: Sink>(sink: &mut K, line: &[u8], run: Option<RunEnd>) -> KitEnd
+    ensures status { result.status ≡ kit.status_of result.ending }
+    ensures ending { (result.ending ≡ Ending.Done) ⊎ (result.ending ≡ Ending.WriteFault) }
+    ensures run { result.run ≡ run }
+    ensures told { kit.TellsLine line.now result.ending (K.written sink.old) (K.written sink.new) (Rose (K.faults sink.old) (K.faults sink.new)) }
+    ensures write_fault { result.ending ≡ Ending.WriteFault → Rose (K.faults sink.old) (K.faults sink.new) }
+    ensures done { result.ending ≡ Ending.Done → K.faults sink.new ≡ K.faults sink.old }
+    ensures sink_never_falls { K.faults sink.old ≤ K.faults sink.new }
+{
+    let ending = match write_all(sink, line) {
+        Ok(()) => Ending::Done,
+        Err(_) => Ending::WriteFault,
+    };
+    close(sink, ending, run)
 }
 
 // Refuses the input: NoMemory where there is no memory for the line.

@@ -1,4 +1,4 @@
-//! What is done with a script: it is carried out, or told of.
+//! What is done with a script: it is carried out, or told of by one line.
 ghost use Rattle.std.specs.Prelude.{◌≡◌, ◌≢◌, ◌≤◌, None, IfSome, IfNone};
 ghost use Rattle.ak_outside.specs.Faults.{Rose};
 ghost use Rattle.ak_describe.specs.Whole.{AreWholeApps, heads_of};
@@ -9,11 +9,11 @@ ghost use Rattle.ak_script.specs.Seen.{script_seen};
 ghost use Rattle.ak_kit.specs.Kit as kit;
 ghost use Rattle.ak_kit.specs.Summary.{summary};
 
-use crate::closing::close;
+use crate::closing::{close, end_with_line};
 use crate::kit_end::KitEnd;
 use crate::summary::summary;
 use ak_base::{Ending, NoMemory};
-use ak_outside::{Gate, Sink, Spawner, write_all};
+use ak_outside::{Gate, Sink, Spawner};
 use ak_play::run_script;
 use ak_script::Script;
 use std::alloc::Global;
@@ -30,6 +30,7 @@ pub(crate) fn play<
     ensures status { result.status ≡ kit.status_of result.ending }
     ensures ending { IsPlayEnding result.ending }
     ensures no_run { IfNone result.run (result.ending ≡ Ending.NoMemory) }
+    ensures starts_nothing { IfNone result.run (spawner.new ≡ spawner.old) }
 
     ensures script { IfSome result.run (λ run. script_seen run.script ≡ script_seen script) }
     ensures run { IfSome result.run (λ run. IsRunOf (heads_of run.script.apps.items) run) }
@@ -62,12 +63,8 @@ pub(crate) fn tell<K: Sink>(alloc: Global, script: &Script, sink: &mut K) -> Kit
     ensures done { result.ending ≡ Ending.Done → K.faults sink.new ≡ K.faults sink.old }
     ensures sink_never_falls { K.faults sink.old ≤ K.faults sink.new }
 {
-    let Ok(line) = summary(alloc, script) else {
-        return close(sink, Ending::NoMemory, None);
-    };
-    let ending = match write_all(sink, line.as_slice()) {
-        Ok(()) => Ending::Done,
-        Err(_) => Ending::WriteFault,
-    };
-    close(sink, ending, None)
+    match summary(alloc, script) {
+        Ok(line) => end_with_line(sink, line.as_slice(), None),
+        Err(NoMemory) => close(sink, Ending::NoMemory, None),
+    }
 }

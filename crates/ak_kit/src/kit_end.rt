@@ -12,8 +12,8 @@ pub struct KitEnd {
     pub status: u8,
     /// Why it ended.
     pub ending: Ending,
-    /// The run, of the command `run` alone. It is there at Done, WriteFault and ThreadFault, maybe at NoMemory, and at no
-    /// other ending.
+    /// The run, of the commands `run` and `gen` alone. Theirs is there at Done, WriteFault and ThreadFault, maybe at NoMemory,
+    /// and at no other ending.
     pub run: Option<RunEnd>,
 }
 

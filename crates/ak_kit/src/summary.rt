@@ -27,8 +27,8 @@ pub(crate) fn summary(alloc: Global, script: &Script) -> Result<Bytes, NoMemory>
     Ok(line)
 }
 
-// What is counted, and how many there are.
-fn put_count(out: &mut Bytes, what: &[u8], count: usize) -> Result<(), NoMemory>
+/// Adds what is counted, and how many there are.
+pub(crate) fn put_count(out: &mut Bytes, what: &[u8], count: usize) -> Result<(), NoMemory>
     ensures { OnOk result (out.new ≡ out.old ++ what.now ++ decimal count) }
 {
     out.extend(what)?;

@@ -2,5 +2,6 @@
 mod blocks;
 mod endings;
 mod fixture;
+mod generated;
 mod inputs;
 mod reading;

@@ -5,7 +5,7 @@ use std::test::Fail;
 
 // ---- the words
 // The last one's closing line is refused in its middle.
-static OTHER_WORDS: [Case; 6] = [
+static OTHER_WORDS: [Case; 15] = [
     Case { words: "", ..RUN },
     Case {
         words: "Run",
@@ -24,6 +24,42 @@ static OTHER_WORDS: [Case; 6] = [
         ..RUN
     },
     Case {
+        words: "gen",
+        ..RUN
+    },
+    Case {
+        words: "gen 0",
+        ..RUN
+    },
+    Case {
+        words: "gen 501",
+        ..RUN
+    },
+    Case {
+        words: "gen 1 2",
+        ..RUN
+    },
+    Case {
+        words: "gen +1",
+        ..RUN
+    },
+    Case {
+        words: "gen 01",
+        ..RUN
+    },
+    Case {
+        words: "gen x",
+        ..RUN
+    },
+    Case {
+        words: "gen -1",
+        ..RUN
+    },
+    Case {
+        words: "Gen 1",
+        ..RUN
+    },
+    Case {
         words: "run run",
         byte: 7,
         ..RUN
@@ -31,15 +67,33 @@ static OTHER_WORDS: [Case; 6] = [
 ];
 
 // The input has 145 bytes.
-const USAGE: &str = "usage: kit run | read
+const USAGE: &str = "usage: kit run | read | gen N
 = 1 usage, 145 left, no run
-usage: kit run | read
+usage: kit run | read | gen N
 = 1 usage, 145 left, no run
-usage: kit run | read
+usage: kit run | read | gen N
 = 1 usage, 145 left, no run
-usage: kit run | read
+usage: kit run | read | gen N
 = 1 usage, 145 left, no run
-usage: kit run | read
+usage: kit run | read | gen N
+= 1 usage, 145 left, no run
+usage: kit run | read | gen N
+= 1 usage, 145 left, no run
+usage: kit run | read | gen N
+= 1 usage, 145 left, no run
+usage: kit run | read | gen N
+= 1 usage, 145 left, no run
+usage: kit run | read | gen N
+= 1 usage, 145 left, no run
+usage: kit run | read | gen N
+= 1 usage, 145 left, no run
+usage: kit run | read | gen N
+= 1 usage, 145 left, no run
+usage: kit run | read | gen N
+= 1 usage, 145 left, no run
+usage: kit run | read | gen N
+= 1 usage, 145 left, no run
+usage: kit run | read | gen N
 = 1 usage, 145 left, no run
 usage:= 1 usage, 145 left, no run
 ";

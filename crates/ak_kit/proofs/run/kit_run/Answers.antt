@@ -1,11 +1,11 @@
 use Rattle.ak_kit.proofs.Ends.{ends_short, ends_well, no_fault}
-use Rattle.ak_kit.proofs.top.kit.Goals as goal
+use Rattle.ak_kit.proofs.run.kit_run.Goals as goal
 
 pub returns-in-Ok-clause-refuses : goal.returns-in-Ok-clause-refuses
-returns-in-Ok-clause-refuses g c = λ command stayed input line why told refusal. absurd (no_fault c.script_from.result c.in-Ok.script _ _ c.in-Ok.is (c.script_from.ensures.refuses stayed input line why told refusal))
+returns-in-Ok-clause-refuses g c = λ stayed input line why told refusal. absurd (no_fault c.script_from.result c.in-Ok.script _ _ c.in-Ok.is (c.script_from.ensures.refuses stayed input line why told refusal))
 
 pub returns-in-Ok-clause-complete : goal.returns-in-Ok-clause-complete
-returns-in-Ok-clause-complete g c = λ command source_stayed sink_stayed spawner_stayed input script told text.
+returns-in-Ok-clause-complete g c = λ source_stayed sink_stayed spawner_stayed input script told text.
     let run = c.play.ensures in
     ends_well c.play.result.ending (g.K.Sink.faults c.args.sink.now) (g.K.Sink.faults c.play.new.sink) (g.W.Spawner.faults c.args.spawner.now) (g.W.Spawner.faults c.play.new.spawner) run.ending run.write_fault run.thread_fault sink_stayed spawner_stayed
 

@@ -1,0 +1,88 @@
+-- The script of a number, carried out, and told of by one line.
+use Rattle.std.proofs.Common.{◌≡◌, inl, inr, ℕ, List, Option, Some, None, refl, sym, ◌∙◌, subst, arith}
+use Rattle.std.specs.Prelude.{Bool, IfSome, IsSomeAnd}
+use Rattle.ak_base.specs.declared.ending.Ending.{Ending}
+use Rattle.ak_base.specs.declared.ending.Ending.TheVariants as ending
+use Rattle.ak_outside.specs.Faults.{Rose}
+use Rattle.ak_outside.proofs.Surface.{Stayed-not_Rose}
+use Rattle.ak_describe.specs.declared.described.AppText.{AppText}
+use Rattle.ak_headline.specs.Headline.{EachGotOneReply}
+use Rattle.ak_print.specs.declared.told.Told.{Told}
+use Rattle.ak_script.specs.declared.script.Script.{Script}
+use Rattle.ak_script.specs.declared.statement.Statement.{Statement}
+use Rattle.ak_play.specs.declared.run_end.RunEnd.{RunEnd}
+use Rattle.ak_play.specs.Parts.{Part}
+use Rattle.ak_play.specs.Play.{IsLeft, IsPlay, IsShort, IsWritten}
+use Rattle.ak_kit.specs.Kit.{IsPlayNowhere, TellsRun, with_main}
+use Rattle.ak_kit.proofs.Playing.{OfScript}
+
+-- ---- nothing is written, and no write fails
+module _ (Failed : Type 0) (never : Failed → ⊥) where
+  none_failed : (cut : Option Part) → IsSomeAnd cut (λ (part : Part). Failed) → IsSomeAnd cut (λ (part : Part). ⊥)
+  none_failed None failed = failed
+  none_failed (Some part) failed = never failed
+
+  left_so : (lacks : Bool) (cut : Option Part) (before last : List Told) (old new : Option (List ℕ)) → IsLeft lacks (IsSomeAnd cut (λ (part : Part). Failed)) before last old new → IsLeft lacks (IsSomeAnd cut (λ (part : Part). ⊥)) before last old new
+  left_so lacks cut before last old new (inl all) = inl all
+  left_so lacks cut before last old new (inr (inl first)) = inr (inl first)
+  left_so lacks cut before last old new (inr (inr (failed, text))) = inr (inr (none_failed cut failed, text))
+
+  written_so : (end : Ending) (lacks : Bool) (cut : Option Part) (before last : List Told) (old new : Option (List ℕ)) → IsWritten end lacks (IsSomeAnd cut (λ (part : Part). Failed)) before last old new → IsWritten end lacks (IsSomeAnd cut (λ (part : Part). ⊥)) before last old new
+  written_so ending.Done lacks cut before last old new is = is
+  written_so ending.ThreadFault lacks cut before last old new is = left_so lacks cut before last old new is
+  written_so ending.NoMemory lacks cut before last old new is = left_so lacks cut before last old new is
+  written_so ending.WriteFault lacks cut before last old new is = is
+  written_so ending.Usage lacks cut before last old new is = is
+  written_so (ending.Refused line why) lacks cut before last old new is = is
+  written_so ending.ReadFault lacks cut before last old new is = is
+
+  plays_so : {Kept : Type 0} (apps : List AppText) (statements : List Statement) (end : Ending) (run : RunEnd) (old new : Option (List ℕ)) → IsPlay apps statements end run old new Failed Kept → IsPlay apps statements end run old new ⊥ (Unit {0})
+  plays_so apps statements end run old new play = record {
+    played = play.played;
+    run_of = play.run_of;
+    written = written_so end run.short.main play.played.cut _ _ old new play.written;
+    sink = λ other none. tt;
+    replies = play.replies;
+    whole = play.whole;
+    whole_by_main = play.whole_by_main;
+    at_a_start = play.at_a_start;
+    before_last = play.before_last;
+    stopped_nowhere = play.stopped_nowhere;
+    short = play.short;
+    ran_short = play.ran_short;
+    main_short = play.main_short;
+  }
+
+  pub plays_nowhere : {Kept : Type 0} (script : Script) (end : Ending) (run : RunEnd) → OfScript script run → IsPlay script.apps.items script.statements.items end run None None Failed Kept → IsPlayNowhere end run
+  plays_nowhere script end run of_script play =
+      let so = plays_so script.apps.items script.statements.items end run None None play in
+      let of_apps = subst (λ (apps : List AppText). IsPlay apps script.statements.items end run None None ⊥ (Unit {0})) (sym of_script.0) so in
+      subst (λ (statements : List Statement). IsPlay run.script.apps.items statements end run None None ⊥ (Unit {0})) (sym of_script.1) of_apps
+
+pub some_plays_nowhere : (script : Script) (end : Ending) (found : Option RunEnd) → IfSome found (OfScript script)
+    → IfSome found (λ (run : RunEnd). IsPlay script.apps.items script.statements.items end run None None (Rose 0 0) (◌≡◌ {A = ℕ} 0 0)) → IfSome found (IsPlayNowhere end)
+some_plays_nowhere script end None of_script play = tt
+some_plays_nowhere script end (Some run) of_script play = plays_nowhere (Rose 0 0) (λ rose. Stayed-not_Rose 0 0 (omega arith, refl) rose) script end run of_script play
+
+-- ---- the run, behind its line
+-- a run without memory is short, and so is one without memory for its line
+pub short_so : (ended : Ending) (n : ℕ) (run : RunEnd) (main : Bool) (end : Ending) (old new : Option (List ℕ)) (Failed : Type 0) → (ended ≡ ending.NoMemory → IsShort (with_main main run).short) → TellsRun ended n run main end old new Failed
+    → end ≡ ending.NoMemory → IsShort run.short
+short_so ending.Done n run main end old new Failed short tells lacks = inl (tells.2 lacks)
+short_so ending.NoMemory n run main end old new Failed short tells lacks = subst (λ (b : Bool). IsShort (with_main b run).short) (sym tells.1) (short refl)
+short_so ending.WriteFault n run main end old new Failed short tells lacks = let bad : ending.WriteFault ≡ ending.NoMemory = sym tells.0 ∙ lacks in absurd (cc bad)
+short_so ending.ThreadFault n run main end old new Failed short tells lacks = let bad : ending.ThreadFault ≡ ending.NoMemory = sym tells.0 ∙ lacks in absurd (cc bad)
+short_so ending.Usage n run main end old new Failed short tells lacks = let bad : ending.Usage ≡ ending.NoMemory = sym tells.0 ∙ lacks in absurd (cc bad)
+short_so (ending.Refused line why) n run main end old new Failed short tells lacks = let bad : ending.Refused line why ≡ ending.NoMemory = sym tells.0 ∙ lacks in absurd (cc bad)
+short_so ending.ReadFault n run main end old new Failed short tells lacks = let bad : ending.ReadFault ≡ ending.NoMemory = sym tells.0 ∙ lacks in absurd (cc bad)
+
+module _ (run : RunEnd) where
+  pub answered_on : (found : Option RunEnd) → EachGotOneReply run.short.loopers run.histories → IsSomeAnd found (λ (end : RunEnd). run ≡ with_main run.short.main end)
+      → IfSome found (λ (end : RunEnd). EachGotOneReply end.short.loopers end.histories)
+  answered_on None answered same = tt
+  answered_on (Some end) answered same = subst (λ (r : RunEnd). EachGotOneReply r.short.loopers r.histories) same answered
+
+  pub short_on : (ended finally : Ending) (found : Option RunEnd) (n : ℕ) (old new : Option (List ℕ)) (Failed : Type 0) → IsPlayNowhere ended run → IsSomeAnd found (λ (end : RunEnd). run ≡ with_main run.short.main end)
+      → IfSome found (λ (end : RunEnd). TellsRun ended n end run.short.main finally old new Failed) → IfSome found (λ (end : RunEnd). finally ≡ ending.NoMemory → IsShort end.short)
+  short_on ended finally None n old new Failed play same tells = tt
+  short_on ended finally (Some end) n old new Failed play same tells = short_so ended n end run.short.main finally old new Failed (λ lacks. subst (λ (r : RunEnd). IsShort r.short) same (play.ran_short lacks)) tells
