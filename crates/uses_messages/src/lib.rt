@@ -1,7 +1,7 @@
 //! The public calls of the lower crates, made as a program above would make them: texts and codes, sources and sinks,
-//! starts of threads, messages, their flat texts and what is printed of them, filters, handlers, specifiers, property
-//! tables, elements and hey lines. There is nothing here but tests. They stand apart from those crates, since a crate with tests
-//! of its own is proved twice.
+//! starts of threads, messages, their flat texts, and of values, filters, handlers, specifiers, property tables,
+//! elements and hey lines what no row of a program over data can say. There is nothing here but tests. They stand apart
+//! from those crates, since a crate with tests of its own is proved twice.
 #![tactic(auto)]
 
 #[cfg(test)]

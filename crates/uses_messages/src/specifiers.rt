@@ -1,35 +1,21 @@
-// The specifiers of a message: added, read and popped.
+// The specifiers of a message, added and popped: what is answered, and how many are left. How they are read, rows of desks say.
 
 use crate::compare::same;
-use crate::plain::{number, words};
+use crate::plain::number;
 use AddFault::{BadType, FieldLimit};
-use Op::{Direct, Fields, Index, Indexes, Number, Pop};
+use Op::{Bad, Direct, Fields, Index, Indexes, Number, Pop};
 use ak_base::{Code, Text};
-use ak_message::{AddFault, At, AtRef, Kind, Message, Specifier, Value};
+use ak_message::{AddFault, At, AtRef, Message, Specifier, Value};
 use ak_specifier::{BadScript, add_specifier, current, left, pop};
 use std::alloc::Global;
 use std::process::Abort;
 use std::test::Fail;
 
-// What a specifier says beside its form and its property: `index`, `range`, `id` and `name`.
-pub(crate) type Said<'a> = (Option<i32>, Option<i32>, Option<i32>, Option<&'a str>);
-
-// Each form once, by its number.
-static FORMS: [(u32, Said<'static>); 7] = [
-    (1, (None, None, None, None)),
-    (2, (Some(105), None, None, None)),
-    (3, (Some(105), None, None, None)),
-    (4, (Some(105), Some(114), None, None)),
-    (5, (Some(105), Some(114), None, None)),
-    (6, (None, None, None, Some("n"))),
-    (7, (None, None, Some(100), None)),
-];
-
 fn text(alloc: Global, words: &[u8]) -> Result<Text, Fail> {
     Ok(Text::from_bytes(alloc, words)?)
 }
 
-// The specifier of that form in the table.
+// A specifier of that form.
 pub(crate) fn specifier(alloc: Global, form: u32) -> Result<Specifier, Fail> {
     let at = match form {
         1 => At::Direct,
@@ -58,57 +44,6 @@ fn add_index(alloc: Global, message: &mut Message, index: i32) -> Result<(), Fai
     Ok(add_specifier(alloc, message, Specifier { property, at })?)
 }
 
-// Adds a field that a letter stands for. Its value is the letter, as a text or as the number 105 for `i`; a capital
-// has the other kind.
-fn add_letter(alloc: Global, message: &mut Message, letter: u8) -> Result<(), Fail> {
-    let name: &[u8] = match letter {
-        b'p' | b'q' | b'P' => b"property",
-        b'i' | b'j' | b'I' => b"index",
-        b'r' | b's' | b'R' => b"range",
-        b'n' | b'm' | b'N' => b"name",
-        b'd' | b'e' | b'D' => b"id",
-        _ => b"further",
-    };
-    let value = if b"ijrsdePN".contains(&letter) {
-        Value::Int32(i32::from(letter))
-    } else {
-        Value::Text(text(alloc, &[letter])?)
-    };
-    Ok(message.add(name, value)?)
-}
-
-// Adds a specifier of that form with these fields.
-fn add_letters(
-    alloc: Global,
-    message: &mut Message,
-    form: u32,
-    letters: &[u8],
-) -> Result<(), Fail> {
-    let mut specifier = Message::new(alloc, Code(form));
-    for letter in letters {
-        add_letter(alloc, &mut specifier, *letter)?;
-    }
-    Ok(message.add(b"specifiers", Value::from_message(alloc, specifier)?)?)
-}
-
-pub(crate) fn said(at: AtRef<'_>) -> (u32, Said<'_>) {
-    match at {
-        AtRef::Direct => (1, (None, None, None, None)),
-        AtRef::Index(index) => (2, (Some(index), None, None, None)),
-        AtRef::Reverse(index) => (3, (Some(index), None, None, None)),
-        AtRef::Range { index, count } => (4, (Some(index), Some(count), None, None)),
-        AtRef::ReverseRange { index, count } => (5, (Some(index), Some(count), None, None)),
-        AtRef::Name(name) => (6, (None, None, None, Some(name.as_str()))),
-        AtRef::Id(id) => (7, (None, None, Some(id), None)),
-    }
-}
-
-// Its property, and what it says.
-fn read(message: &Message) -> Result<(&str, (u32, Said<'_>)), BadScript> {
-    let specifier = current(message)?;
-    Ok((specifier.property.as_str(), said(specifier.at)))
-}
-
 fn index_of(message: &Message) -> Option<i32> {
     match current(message).ok()?.at {
         AtRef::Index(index) => Some(index),
@@ -116,88 +51,13 @@ fn index_of(message: &Message) -> Option<i32> {
     }
 }
 
-// The form and the property of a specifier's message, and what it says.
-type Written<'a> = (Code, Option<&'a str>, Said<'a>);
-
-fn written(message: &Message) -> Result<Written<'_>, Fail> {
-    let Value::Message(specifier) = message.find(b"specifiers", Kind::Message, 0)? else {
-        return Err("no message".into());
-    };
-    let said = (
-        number(specifier, b"index", 0),
-        number(specifier, b"range", 0),
-        number(specifier, b"id", 0),
-        words(specifier, b"name", 0),
-    );
-    Ok((specifier.what(), words(specifier, b"property", 0), said))
-}
-
-// A specifier of that form is written as it says, and read back.
-fn is_kept(rt: &impl Abort, alloc: Global, form: u32, says: Said<'_>) -> Result<(), Fail> {
-    let mut message = Message::new(alloc, Code(1));
-    add_specifier(alloc, &mut message, specifier(alloc, form)?)?;
-    let told = (left(&message), read(&message));
-    same(rt, form, told, (1, Ok(("p", (form, says)))));
-    same(rt, form, written(&message)?, (Code(form), Some("p"), says));
-    Ok(())
-}
-
-// A specifier of that form that has each field twice, and a further one, is read by the first values.
-fn is_read_first(rt: &impl Abort, alloc: Global, form: u32, says: Said<'_>) -> Result<(), Fail> {
-    let mut message = Message::new(alloc, Code(1));
-    add_letters(alloc, &mut message, form, b"xpqijrsnmdey")?;
-    same(rt, form, read(&message), Ok(("p", (form, says))));
-    Ok(())
-}
-
-#[test]
-fn forms_are_written_and_read_back(rt: HostRuntime) -> Result<(), Fail> {
-    for (form, says) in &FORMS {
-        is_kept(&rt, rt.alloc(), *form, *says)?;
-        is_read_first(&rt, rt.alloc(), *form, *says)?;
-    }
-    Ok(())
-}
-
-static BADLY_FORMED: [(u32, &[u8]); 29] = [
-    (1, b""),
-    (1, b"Pirnd"),
-    (2, b"p"),
-    (2, b"i"),
-    (2, b"pI"),
-    (2, b"prnd"),
-    (3, b"p"),
-    (3, b"pI"),
-    (4, b"pi"),
-    (4, b"pr"),
-    (4, b"piR"),
-    (4, b"pIr"),
-    (5, b"pi"),
-    (5, b"pr"),
-    (5, b"piR"),
-    (6, b"p"),
-    (6, b"n"),
-    (6, b"pN"),
-    (7, b"p"),
-    (7, b"pi"),
-    (7, b"pD"),
-    (3, b"i"),
-    (4, b"ir"),
-    (5, b"ir"),
-    (5, b"pIr"),
-    (7, b"d"),
-    (0, b"pirnd"),
-    (8, b"pirnd"),
-    (0x8000_0001, b"pirnd"),
-];
-
-// ---- what is done, and what is answered
 // What is done to the specifiers of a message.
 #[derive(Clone, Copy)]
 enum Op {
-    // An index is added, or a specifier without one.
+    // An index is added, a specifier without one, or a badly formed one.
     Index(i32),
     Direct,
+    Bad,
     // The indexes from 0 on, before the end.
     Indexes(i32),
     // 63 fields that are none.
@@ -205,6 +65,11 @@ enum Op {
     // A number under that name.
     Number(&'static [u8], i32),
     Pop,
+}
+
+fn add_bad(alloc: Global, message: &mut Message) -> Result<(), Fail> {
+    let specifier = Message::new(alloc, Code(0));
+    Ok(message.add(b"specifiers", Value::from_message(alloc, specifier)?)?)
 }
 
 fn add_indexes(alloc: Global, message: &mut Message, end: i32) -> Result<(), Fail> {
@@ -229,6 +94,7 @@ fn done(alloc: Global, message: &mut Message, op: Op) -> Result<Answer, Fail> {
     match op {
         Index(n) => add_index(alloc, message, n)?,
         Direct => answer.0 = add_specifier(alloc, message, specifier(alloc, 1)?),
+        Bad => add_bad(alloc, message)?,
         Indexes(end) => add_indexes(alloc, message, end)?,
         Fields => answer.0 = add_fields(message),
         Number(name, n) => answer.0 = message.add(name, Value::Int32(n)),
@@ -276,7 +142,7 @@ const DONE: Answer = (Ok(()), Ok(()));
 
 const NOT_POPPED: Answer = (Ok(()), Err(BadScript));
 
-static SCRIPTS: [(&str, &[(Op, Answer, State)]); 5] = [
+static SCRIPTS: [(&str, &[(Op, Answer, State)]); 6] = [
     (
         "the last one is current",
         &[
@@ -287,6 +153,14 @@ static SCRIPTS: [(&str, &[(Op, Answer, State)]); 5] = [
             (Pop, DONE, (0, 3, true, None, 1, None)),
             (Pop, NOT_POPPED, (0, 3, true, None, 1, None)),
             (Index(7), DONE, (4, 0, false, Some(7), 1, None)),
+        ],
+    ),
+    (
+        "a badly formed one is popped",
+        &[
+            (Index(3), DONE, (1, 0, false, Some(3), 1, None)),
+            (Bad, DONE, (2, 0, true, None, 1, None)),
+            (Pop, DONE, (1, 1, false, Some(3), 1, None)),
         ],
     ),
     (
@@ -339,32 +213,10 @@ static SCRIPTS: [(&str, &[(Op, Answer, State)]); 5] = [
     ),
 ];
 
-// How a message stands with the index 3 and then a specifier of that form with these fields, what a pop is answered, and
-// how it stands then.
-type Refused = (State, Result<(), BadScript>, State);
-
-fn told_of_refused(alloc: Global, form: u32, letters: &[u8]) -> Result<Refused, Fail> {
-    let mut message = Message::new(alloc, Code(1));
-    add_index(alloc, &mut message, 3)?;
-    add_letters(alloc, &mut message, form, letters)?;
-    let before = state_of(&message);
-    let answer = pop(&mut message);
-    Ok((before, answer, state_of(&message)))
-}
-
 #[test]
 fn specifiers_are_added_and_popped(rt: HostRuntime) -> Result<(), Fail> {
     for (label, steps) in &SCRIPTS {
         are_done(&rt, rt.alloc(), label, steps)?;
-    }
-    let wanted = (
-        (2, 0, true, None, 1, None),
-        Ok(()),
-        (1, 1, false, Some(3), 1, None),
-    );
-    for (form, letters) in &BADLY_FORMED {
-        let told = told_of_refused(rt.alloc(), *form, letters)?;
-        same(&rt, (*form, *letters), told, wanted);
     }
     Ok(())
 }

@@ -1,14 +1,13 @@
-// Lines that are split into words, and inputs into lines.
+// The words of lines with their columns, and the longest input.
 
 use crate::compare::same;
-use WordsFault::{BadWord, NotUtf8};
 use ak_base::RefusalKind;
-use ak_message::{INPUT_LIMIT, Line, LinesFault, Word, WordsFault, split_lines, split_words};
+use ak_message::{INPUT_LIMIT, LinesFault, Word, WordsFault, split_lines, split_words};
 use std::alloc::Global;
 use std::test::Fail;
 
 // ---- words
-// Words with their columns, or the numbers of lines with their first words.
+// Words with their columns.
 type Begins = &'static [(u32, &'static [u8])];
 
 // Whether these are the words, with their columns.
@@ -24,7 +23,7 @@ fn are_words(words: &[Word], wanted: Begins) -> bool {
     true
 }
 
-// Whether a line has these words, if it is not long, or why it has none.
+// Whether a line has these words, if it is not long.
 fn is_split(alloc: Global, line: &[u8], wanted: Begins) -> Result<bool, WordsFault> {
     if line.len() > 65_536 {
         return Ok(false);
@@ -73,116 +72,45 @@ static SPLIT: [(&[u8], Begins); 20] = [
     ),
 ];
 
-static NOT_SPLIT: [(&[u8], WordsFault); 22] = [
-    (b"a\xff", NotUtf8),
-    (b"\"\xff", NotUtf8),
-    (b"a \"b", BadWord),
-    (b"'", BadWord),
-    (b"'a\\'b'", BadWord),
-    (b"a {b", BadWord),
-    (b"{{}", BadWord),
-    (b"[", BadWord),
-    (b"[[1]", BadWord),
-    (b"{[}", BadWord),
-    (b"{\"}", BadWord),
-    (b"\"\\", BadWord),
-    (b"\"\\\"", BadWord),
-    (b"\"\\a\"", BadWord),
-    (b"\"\\x00\"", BadWord),
-    (b"\"\\x20\"", BadWord),
-    (b"\"\\x7e\"", BadWord),
-    (b"\"\\x0A\"", BadWord),
-    (b"\"\\X0a\"", BadWord),
-    (b"\"\\x1\"", BadWord),
-    (b"\"\\x1g\"", BadWord),
-    (b"\"\\x7\"", BadWord),
-];
-
 #[test]
 fn lines_are_split_into_words(rt: HostRuntime) {
     for (line, wanted) in &SPLIT {
         same(&rt, *line, is_split(rt.alloc(), line, wanted), Ok(true));
     }
-    for (line, fault) in &NOT_SPLIT {
-        same(&rt, *line, is_split(rt.alloc(), line, &[]), Err(*fault));
-    }
 }
 
 // ---- lines
-fn first_word(line: &Line) -> Option<&[u8]> {
-    let word = line.words.as_slice().first()?;
-    Some(word.bytes.as_slice())
-}
-
-// Whether these are the numbers of the lines and their first words.
-fn begin_with(lines: &[Line], wanted: Begins) -> bool {
-    if lines.len() != wanted.len() {
-        return false;
-    }
-    for (line, (number, bytes)) in lines.iter().zip(wanted) {
-        if line.number != *number || first_word(line) != Some(*bytes) {
-            return false;
-        }
-    }
-    true
-}
-
 // The line of a fault and its kind.
 type Fault = Option<(u32, RefusalKind)>;
 
-// Whether the lines of an input begin so, and the first fault, if there is one; or why it is refused.
-type Told = Result<(bool, Fault), LinesFault>;
+// How many lines of an input say something, and the first fault, if there is one; or why it is refused.
+type Told = Result<(usize, Fault), LinesFault>;
 
-fn told_of(alloc: Global, input: &[u8], wanted: Begins) -> Told {
+fn told_of(alloc: Global, input: &[u8]) -> Told {
     let split = split_lines(alloc, input)?;
     let fault = match &split.fault {
         Some(fault) => Some((fault.line, fault.kind)),
         None => None,
     };
-    Ok((begin_with(split.lines.as_slice(), wanted), fault))
+    Ok((split.lines.as_slice().len(), fault))
 }
-
-static INPUTS: [(&[u8], Begins, Fault); 10] = [
-    (b"", &[], None),
-    (b"kit 1\n", &[(1, b"kit")], None),
-    (b"kit 1\nscript", &[(1, b"kit"), (2, b"script")], None),
-    (b"kit 1\r\nscript\r", &[(1, b"kit"), (2, b"script")], None),
-    (b"\n \t\n# a \"\n\t# b\na #\n", &[(5, b"a")], None),
-    (b"a\r\r\nb", &[(1, b"a\r"), (2, b"b")], None),
-    (b"\r\n\r\r\na", &[(2, b"\r"), (3, b"a")], None),
-    (
-        b"a\n#\xff\nb\xff\nc",
-        &[(1, b"a")],
-        Some((3, RefusalKind::NotUtf8)),
-    ),
-    (
-        b"a\n\nb \"\n\xff",
-        &[(1, b"a")],
-        Some((3, RefusalKind::BadWord)),
-    ),
-    (b"\xff\n", &[], Some((1, RefusalKind::NotUtf8))),
-];
 
 // What the longest input is told, which has no words, one with a byte more, and that one with a line more before its end.
 fn told_of_long(alloc: Global) -> Result<[Told; 3], Fail> {
     let mut input = vec![in alloc; b'#'; INPUT_LIMIT]?;
     input[0] = b'\n';
     input[2] = b'\n';
-    let longest = told_of(alloc, &input, &[]);
+    let longest = told_of(alloc, &input);
     input.push(b'\n')?;
-    let longer = told_of(alloc, &input, &[]);
+    let longer = told_of(alloc, &input);
     input[INPUT_LIMIT - 1] = b'\n';
-    Ok([longest, longer, told_of(alloc, &input, &[])])
+    Ok([longest, longer, told_of(alloc, &input)])
 }
 
 #[test]
-fn inputs_are_split_into_lines(rt: HostRuntime) -> Result<(), Fail> {
-    for (input, wanted, fault) in &INPUTS {
-        let told = told_of(rt.alloc(), input, wanted);
-        same(&rt, *input, told, Ok((true, *fault)));
-    }
+fn inputs_have_at_most_1048576_bytes(rt: HostRuntime) -> Result<(), Fail> {
     let wanted = [
-        Ok((true, None)),
+        Ok((0, None)),
         Err(LinesFault::TooLong { line: 3 }),
         Err(LinesFault::TooLong { line: 4 }),
     ];

@@ -1,6 +1,6 @@
 //! Tests of rules by public calls alone, of what no row of a program over data can say: states and plans
-//! that no description gives, what is made of those that one gives, lists at their limits, want of memory at a
-//! desk, threads that share one, and the lines of outcomes.
+//! that no description gives, lists at their limits, want of memory at a desk and at an edit, and threads that share
+//! a desk.
 //! Nothing here is for use.
 #![tactic(auto)]
 
@@ -8,8 +8,6 @@
 mod actions;
 #[cfg(test)]
 mod compare;
-#[cfg(test)]
-mod described;
 #[cfg(test)]
 mod desk;
 #[cfg(test)]

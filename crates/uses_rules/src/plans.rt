@@ -1,13 +1,10 @@
 //! Plans that no description gives, and which fault is answered where there are several. Expected values come
 //! from the table of faults.
 
-ghost use Rattle.std.specs.Prelude.{◌≡◌, IfOk};
-
 use crate::compare::same;
-use crate::parts::{NONE, Told, actions_of, str_of, text, text_or_none};
+use crate::parts::{NONE, Told, actions_of, text, text_or_none};
 use ak_action::{
     ElementsList, LooperPlan, Number, PlanFault, PlanParts, PlanRow, Reaction, ReactionList,
-    plans_are_whole,
 };
 use ak_base::{Code, Items, Text};
 use ak_filter::FilterList;
@@ -66,45 +63,6 @@ fn fault(
     rows: Vec<PlanRow>,
 ) -> Result<Option<PlanFault>, Fail> {
     Ok(LooperPlan::new(alloc, desk(alloc, capacity, preferred, rows)?).err())
-}
-
-// ---- a plan and its parts
-// The name, the capacity, the refusal, how many handlers, and the last one's name and next one.
-type Parts<'a> = (&'a str, u32, bool, usize, (&'a str, &'a str));
-
-fn names_of_last(rows: &[PlanRow]) -> (&str, &str) {
-    match rows.last() {
-        Some(row) => (row.name.as_str(), str_of(&row.next)),
-        None => ("", ""),
-    }
-}
-
-fn told(parts: &PlanParts) -> Parts<'_> {
-    let rows = parts.rows.as_slice();
-    (
-        parts.name.as_str(),
-        parts.capacity,
-        parts.quit_refused,
-        rows.len(),
-        names_of_last(rows),
-    )
-}
-
-const CHAIN: Parts<'static> = ("desk", 100, true, 3, ("b", "a"));
-
-// Whether it, its copy, and the parts that it is made into are that chain.
-fn are_chains(alloc: Global) -> Result<[bool; 3], Fail> {
-    let rows = linked(alloc, &[(b"desk", b""), (b"a", b""), (b"b", b"a")])?;
-    let Ok(plan) = LooperPlan::new(alloc, desk(alloc, 100, b"b", rows)?) else {
-        return Err(Fail::new("no plan"));
-    };
-    plans_are_whole();
-    let copy = plan.try_clone()?;
-    Ok([
-        told(plan.parts()) == CHAIN,
-        told(copy.parts()) == CHAIN,
-        told(&plan.into_parts()) == CHAIN,
-    ])
 }
 
 // ---- loopers, names and chains
@@ -344,9 +302,8 @@ fn first_handler(alloc: Global) -> Result<Option<Other>, Fail> {
 }
 
 #[test]
-fn plans_have_their_parts_or_their_first_fault(rt: HostRuntime) -> Result<(), Fail> {
+fn plans_have_their_first_fault(rt: HostRuntime) -> Result<(), Fail> {
     let alloc = rt.alloc();
-    same(&rt, "a plan has its parts", are_chains(alloc)?, [true; 3]);
     same(
         &rt,
         "loopers are tested before names and these before chains",
