@@ -1,7 +1,7 @@
 //! The same port and reply slots in plain Rust, with nothing proved: what `bench/ports` holds the proved ones against.
 //! Each is a `Mutex` and `Condvar`s of std round a bounded queue or a list of slots, and each keeps the history of what
 //! was done to it, with a copy of the bytes. `port CAPACITY WRITERS N` and `ask N` print the lines of `kit_bench`. `run.rs`
-//! takes its ports and its slots from here.
+//! and `gen.rs` take their ports and their slots from here.
 
 use std::collections::VecDeque;
 use std::mem;
@@ -209,7 +209,12 @@ impl Port {
         };
         book.entries.push(clock.entry(&book.entries, event));
         drop(guard);
-        self.room.notify_all();
+        // One item that goes leaves room for one writer.
+        if most == 1 {
+            self.room.notify_one();
+        } else {
+            self.room.notify_all();
+        }
         answer
     }
 
@@ -252,18 +257,29 @@ struct ReplyBook {
 
 pub struct Replies {
     book: Mutex<ReplyBook>,
-    settled: Condvar,
+    // Where the openers of slots wait: slot n at the place n, from the first one on again behind the last.
+    settled: Vec<Condvar>,
 }
 
 impl Replies {
+    /// One that has a condition for all slots.
     pub fn new() -> Replies {
+        Replies::with_conditions(1)
+    }
+
+    /// One that has a condition for each of so many slots, at least one.
+    pub fn with_conditions(slots: usize) -> Replies {
         Replies {
             book: Mutex::new(ReplyBook {
                 entries: Vec::new(),
                 slots: Vec::new(),
             }),
-            settled: Condvar::new(),
+            settled: (0..slots).map(|_| Condvar::new()).collect(),
         }
+    }
+
+    fn settled(&self, n: usize) -> &Condvar {
+        &self.settled[n % self.settled.len()]
     }
 
     pub fn open(&self, clock: &mut Clock) -> usize {
@@ -291,14 +307,14 @@ impl Replies {
         book.entries.push(clock.entry(&book.entries, ReplyEvent::Filled(n, flat.clone())));
         slot.progress = Progress::Filled(flat);
         drop(guard);
-        self.settled.notify_all();
+        self.settled(n).notify_all();
         true
     }
 
     pub fn wait_for(&self, clock: &mut Clock, n: usize) -> Vec<u8> {
         let mut guard = locked(&self.book);
         while !matches!(guard.slots[n].progress, Progress::Filled(_)) {
-            guard = waited(&self.settled, guard);
+            guard = waited(self.settled(n), guard);
         }
         let book = &mut *guard;
         let Progress::Filled(flat) = mem::replace(&mut book.slots[n].progress, Progress::Taken)

@@ -3,17 +3,17 @@
 //! that `bench/run` makes: applications of one looper with properties of the kind LONG, `launch` and `hey APP get NAME`.
 //!
 //! Its messages are those of `flat.rs`, its ports and slots those of `ports.rs`. Each object has its `Mutex` and the
-//! history of what was done to it, each looper a thread.
+//! history of what was done to it, each looper a thread. `gen.rs` takes its roster, its desks and its loopers from here.
 
 #[allow(dead_code)]
 #[path = "flat.rs"]
-mod flat;
+pub mod flat;
 #[allow(dead_code)]
 #[path = "ports.rs"]
-mod ports;
+pub mod ports;
 
 use flat::{Field, Kind, Message, Target, Value, flatten, unflatten};
-use ports::{Clock, Duty, Entry, Item, LIFE_LIMIT, Port, Replies, TakeAnswer, locked};
+use ports::{Clock, Duty, Entry, Item, LIFE_LIMIT, Port, Replies, TakeAnswer, Taken, locked};
 use std::collections::VecDeque;
 use std::fmt::Write as _;
 use std::io::{self, Read, Write};
@@ -24,28 +24,29 @@ use std::thread::{self, JoinHandle};
 const INPUT_LIMIT: u64 = 1_048_576;
 const STATEMENT_LIMIT: usize = 8_000;
 const PROPERTY_LIMIT: usize = 64;
-const CAPACITY: usize = 100;
+pub const CAPACITY: usize = 100;
 const FIRST_LOOPER_THREAD: u32 = 10_000;
 
-const GET: u32 = u32::from_be_bytes(*b"PGET");
-const REPLY: u32 = u32::from_be_bytes(*b"RPLY");
+pub const GET: u32 = u32::from_be_bytes(*b"PGET");
+pub const REPLY: u32 = u32::from_be_bytes(*b"RPLY");
 const NOT_UNDERSTOOD: u32 = u32::from_be_bytes(*b"MNOT");
 const NO_REPLY: u32 = u32::from_be_bytes(*b"NONE");
 const READY_TO_RUN: u32 = u32::from_be_bytes(*b"_RTR");
-const DIRECT: u32 = 1;
+pub const DIRECT: u32 = 1;
 
 // ---- the script
 #[derive(Clone)]
-struct Row {
-    name: String,
-    elements: Vec<i32>,
+pub struct Row {
+    pub name: String,
+    pub elements: Vec<i32>,
 }
 
-struct App {
-    path: String,
-    signature: String,
-    capacity: usize,
-    rows: Vec<Row>,
+/// An application, and its own looper: the capacity of that one's port, and its properties.
+pub struct App {
+    pub path: String,
+    pub signature: String,
+    pub capacity: usize,
+    pub rows: Vec<Row>,
 }
 
 enum Statement {
@@ -251,14 +252,15 @@ struct Team {
 }
 
 #[allow(dead_code)]
-enum RosterEvent {
+pub enum RosterEvent {
     Launch(String, Option<u32>),
     Find(String, Option<u32>),
     Gone(u32),
+    Door(usize),
 }
 
 #[derive(Default)]
-struct Roster {
+pub struct Roster {
     entries: Vec<Entry<RosterEvent>>,
     teams: Vec<Team>,
 }
@@ -268,8 +270,20 @@ fn fits(app: &App, word: &str) -> bool {
 }
 
 impl Roster {
-    fn enter(&mut self, clock: &mut Clock, event: RosterEvent) {
+    pub fn enter(&mut self, clock: &mut Clock, event: RosterEvent) {
         self.entries.push(clock.entry(&self.entries, event));
+    }
+
+    /// Enters that the application was started, with that first looper, and answers the team's number.
+    pub fn start(&mut self, clock: &mut Clock, path: &str, app: usize, looper: usize) -> u32 {
+        let number = self.teams.len() as u32 + 1;
+        self.enter(clock, RosterEvent::Launch(path.to_owned(), Some(number)));
+        self.teams.push(Team {
+            number,
+            app,
+            looper,
+        });
+        number
     }
 
     /// The looper of the running team that the word fits.
@@ -284,37 +298,44 @@ impl Roster {
 
 // ---- a desk
 #[allow(dead_code)]
-enum Route {
+pub enum Route {
     To(u64),
     NotUnderstood,
+    Forward(usize),
 }
 
 #[allow(dead_code)]
-struct Dispatched {
+pub struct Dispatched {
     position: u64,
     route: Route,
     answers: Vec<u32>,
     quit: bool,
 }
 
-struct Desk {
-    rows: Vec<Row>,
+pub struct Desk {
+    pub rows: Vec<Row>,
     entries: Vec<Entry<Dispatched>>,
 }
 
 /// The one value of a field of that name and kind.
-fn first<'a>(message: &'a Message, name: &[u8], kind: Kind) -> Option<&'a Value> {
+pub fn first<'a>(message: &'a Message, name: &[u8], kind: Kind) -> Option<&'a Value> {
     let field = message.fields.iter().find(|field| field.name == name)?;
     (field.kind == kind).then(|| field.values.first())?
 }
 
-/// The property that the current specifier names, where it is a direct one and no other is left.
-fn property_of(message: &Message, popped: u32) -> Option<&str> {
+/// The current specifier, the last of those that are left, and how many are left.
+pub fn current_of(message: &Message, popped: u32) -> Option<(&Message, usize)> {
     let field = message.fields.iter().find(|field| field.name == b"specifiers")?;
     let left = field.values.len().checked_sub(popped as usize)?;
-    let Some(Value::Message(current)) = field.values.get(left.checked_sub(1)?) else {
-        return None;
-    };
+    match field.values.get(left.checked_sub(1)?)? {
+        Value::Message(current) => Some((current, left)),
+        _ => None,
+    }
+}
+
+/// The property that the current specifier names, where it is a direct one and no other is left.
+fn property_of(message: &Message, popped: u32) -> Option<&str> {
+    let (current, left) = current_of(message, popped)?;
     match first(current, b"property", Kind::Text)? {
         Value::Text(name) if current.what == DIRECT && left == 1 => Some(name),
         _ => None,
@@ -337,7 +358,7 @@ fn plain(what: u32) -> Message {
 
 impl Desk {
     /// Where the message goes, and its reply.
-    fn answer(&self, message: &Message, popped: u32) -> (Route, Message) {
+    pub fn answer(&self, message: &Message, popped: u32) -> (Route, Message) {
         if message.what == READY_TO_RUN {
             return (Route::To(0), plain(NO_REPLY));
         }
@@ -352,38 +373,75 @@ impl Desk {
     fn dispatch(&mut self, clock: &mut Clock, position: u64, item: &Item) -> Message {
         let message = unflatten(&item.flat).expect("what was written is a flat text");
         let (route, reply) = self.answer(&message, item.popped);
+        self.enter(clock, position, route, Vec::new());
+        reply
+    }
+
+    pub fn enter(&mut self, clock: &mut Clock, position: u64, route: Route, answers: Vec<u32>) {
         let event = Dispatched {
             position,
             route,
-            answers: Vec::new(),
+            answers,
             quit: false,
         };
         self.entries.push(clock.entry(&self.entries, event));
-        reply
     }
 }
 
 // ---- loopers
-struct Looper {
-    port: Port,
-    desk: Mutex<Desk>,
+pub struct Looper {
+    pub port: Port,
+    pub desk: Mutex<Desk>,
     replies: Arc<Replies>,
+}
+
+impl Looper {
+    pub fn new(
+        capacity: usize,
+        rows: Vec<Row>,
+        replies: &Arc<Replies>,
+        clock: &mut Clock,
+    ) -> Looper {
+        Looper {
+            port: Port::new(capacity, LIFE_LIMIT, clock),
+            desk: Mutex::new(Desk {
+                rows,
+                entries: Vec::new(),
+            }),
+            replies: Arc::clone(replies),
+        }
+    }
+
+    /// Writes that the application is ready to run.
+    pub fn get_ready(&self, clock: &mut Clock) {
+        let ready = Item::new(&flat_of(&plain(READY_TO_RUN)), Duty::None);
+        self.port.write(clock, ready);
+    }
+
+    /// Dispatches what was taken, and answers its reply.
+    fn dispatch(&self, clock: &mut Clock, taken: &Taken) -> Option<Message> {
+        Some(locked(&self.desk).dispatch(clock, taken.position, &taken.item))
+    }
 }
 
 fn flat_of(message: &Message) -> Vec<u8> {
     flatten(message).expect("the text is short")
 }
 
-/// Takes and dispatches one item after the other, until the port is shut.
-fn live(looper: &Looper, thread: u32) {
+/// Takes and dispatches one item after the other, until the port is shut. There is no reply where the message was sent on.
+pub fn live(
+    looper: &Looper,
+    thread: u32,
+    dispatch: impl Fn(&mut Clock, &Taken) -> Option<Message>,
+) {
     let mut clock = Clock { thread, time: 0 };
     let mut taken = VecDeque::with_capacity(CAPACITY);
     while let TakeAnswer::Took = looper.port.take(&mut clock, &mut taken, 1) {
         let Some(next) = taken.pop_front() else {
             continue;
         };
-        let reply = locked(&looper.desk).dispatch(&mut clock, next.position, &next.item);
-        if let Duty::Slot(slot) = next.item.duty {
+        let reply = dispatch(&mut clock, &next);
+        if let (Some(reply), Duty::Slot(slot)) = (reply, next.item.duty) {
             looper.replies.fill(&mut clock, slot, flat_of(&reply));
         }
     }
@@ -470,29 +528,84 @@ fn put_message(out: &mut String, message: &Message) {
 
 // ---- a run
 #[allow(dead_code)]
-enum Outcome {
+pub enum Outcome {
     Launched { place: usize },
     Replied { slot: usize },
     NoTeam { place: usize },
 }
 
-struct Run {
+/// What main reaches, and whoever else asks.
+pub struct World {
     apps: Vec<App>,
-    roster: Mutex<Roster>,
-    replies: Arc<Replies>,
-    loopers: Vec<Arc<Looper>>,
+    pub roster: Mutex<Roster>,
+    pub replies: Arc<Replies>,
+    pub loopers: Vec<Arc<Looper>>,
+}
+
+impl World {
+    /// Asks the own looper of the application that runs, and answers what came of it, and its reply.
+    pub fn ask(
+        &self,
+        clock: &mut Clock,
+        word: &str,
+        message: &Message,
+    ) -> (Outcome, Option<Message>) {
+        let mut roster = locked(&self.roster);
+        let place = roster.entries.len();
+        let Some(looper) = roster.find(clock, &self.apps, word) else {
+            return (Outcome::NoTeam { place }, None);
+        };
+        drop(roster);
+        let flat = flat_of(message);
+        let slot = self.replies.open(clock);
+        let item = Item::new(&flat, Duty::Slot(slot));
+        if self.loopers[looper].port.write(clock, item).is_none() {
+            unreachable!("main alone shuts the port, at the end");
+        }
+        let flat = self.replies.wait_for(clock, slot);
+        let reply = unflatten(&flat).expect("what was filled in is a flat text");
+        (Outcome::Replied { slot }, Some(reply))
+    }
+}
+
+pub struct Run {
+    pub world: World,
     threads: Vec<JoinHandle<()>>,
     outcomes: Vec<Outcome>,
-    clock: Clock,
+    pub clock: Clock,
 }
 
 impl Run {
+    pub fn new(apps: Vec<App>, replies: Replies) -> Run {
+        Run {
+            world: World {
+                apps,
+                roster: Mutex::default(),
+                replies: Arc::new(replies),
+                loopers: Vec::new(),
+            },
+            threads: Vec::new(),
+            outcomes: Vec::new(),
+            clock: Clock { thread: 0, time: 0 },
+        }
+    }
+
+    /// Starts the thread of the next looper.
+    pub fn start(
+        &mut self,
+        looper: Arc<Looper>,
+        dispatch: impl Fn(&mut Clock, &Taken) -> Option<Message> + Send + 'static,
+    ) {
+        let thread = FIRST_LOOPER_THREAD + self.threads.len() as u32;
+        self.threads.push(thread::spawn(move || live(&looper, thread, dispatch)));
+    }
+
     /// Launches the application, and answers its line.
     fn launch(&mut self, path: &str) -> String {
-        let mut roster = locked(&self.roster);
+        let mut roster = locked(&self.world.roster);
         let place = roster.entries.len();
         self.outcomes.push(Outcome::Launched { place });
-        let Some(app) = self.apps.iter().position(|app| app.path == path) else {
+        let Some(app) = self.world.apps.iter().position(|app| app.path == path) else {
             roster.enter(&mut self.clock, RosterEvent::Launch(path.to_owned(), None));
             return "launch B_LAUNCH_FAILED_APP_NOT_FOUND\n".to_owned();
         };
@@ -501,62 +614,38 @@ impl Run {
             roster.enter(&mut self.clock, RosterEvent::Launch(path.to_owned(), None));
             return format!("launch B_ALREADY_RUNNING team {number}\n");
         }
-        let looper = Arc::new(Looper {
-            port: Port::new(self.apps[app].capacity, LIFE_LIMIT, &mut self.clock),
-            desk: Mutex::new(Desk {
-                rows: self.apps[app].rows.clone(),
-                entries: Vec::new(),
-            }),
-            replies: Arc::clone(&self.replies),
-        });
-        let ready = Item::new(&flat_of(&plain(READY_TO_RUN)), Duty::None);
-        looper.port.write(&mut self.clock, ready);
-        let number = roster.teams.len() as u32 + 1;
-        roster.enter(&mut self.clock, RosterEvent::Launch(path.to_owned(), Some(number)));
-        roster.teams.push(Team {
-            number,
-            app,
-            looper: self.loopers.len(),
-        });
+        let App { capacity, rows, .. } = &self.world.apps[app];
+        let looper = Looper::new(*capacity, rows.clone(), &self.world.replies, &mut self.clock);
+        looper.get_ready(&mut self.clock);
+        let number = roster.start(&mut self.clock, path, app, self.world.loopers.len());
         drop(roster);
-        let thread = FIRST_LOOPER_THREAD + self.loopers.len() as u32;
-        self.loopers.push(Arc::clone(&looper));
-        self.threads.push(thread::spawn(move || live(&looper, thread)));
+        let looper = Arc::new(looper);
+        self.world.loopers.push(Arc::clone(&looper));
+        let at_work = Arc::clone(&looper);
+        self.start(looper, move |clock, taken| at_work.dispatch(clock, taken));
         format!("launch team {number}\n")
     }
 
     /// Asks the application's looper, and answers the line of its reply.
     fn hey(&mut self, word: &str, message: &Message) -> String {
-        let mut roster = locked(&self.roster);
-        let place = roster.entries.len();
-        let Some(looper) = roster.find(&mut self.clock, &self.apps, word) else {
-            self.outcomes.push(Outcome::NoTeam { place });
+        let (outcome, reply) = self.world.ask(&mut self.clock, word, message);
+        self.outcomes.push(outcome);
+        let Some(reply) = reply else {
             return "no such application\n".to_owned();
         };
-        drop(roster);
-        let flat = flat_of(message);
-        let slot = self.replies.open(&mut self.clock);
-        let item = Item::new(&flat, Duty::Slot(slot));
-        let port = &self.loopers[looper].port;
-        if port.write(&mut self.clock, item).is_none() {
-            unreachable!("main alone shuts the port, at the end");
-        }
-        let flat = self.replies.wait_for(&mut self.clock, slot);
-        let reply = unflatten(&flat).expect("what was filled in is a flat text");
-        self.outcomes.push(Outcome::Replied { slot });
         let mut line = "reply ".to_owned();
         put_message(&mut line, &reply);
         line.push('\n');
         line
     }
 
-    fn end(mut self) -> Run {
-        let mut roster = locked(&self.roster);
+    pub fn end(mut self) -> Run {
+        let mut roster = locked(&self.world.roster);
         for number in roster.teams.iter().map(|team| team.number).collect::<Vec<_>>() {
             roster.enter(&mut self.clock, RosterEvent::Gone(number));
         }
         drop(roster);
-        for looper in &self.loopers {
+        for looper in &self.world.loopers {
             looper.port.close(&mut self.clock);
         }
         for thread in self.threads.drain(..) {
@@ -571,15 +660,8 @@ fn run_script(script: Script, out: &mut impl Write) -> io::Result<()> {
     let Script {
         apps, statements, ..
     } = script;
-    let mut run = Run {
-        apps,
-        roster: Mutex::default(),
-        replies: Arc::new(Replies::new()),
-        loopers: Vec::new(),
-        threads: Vec::new(),
-        outcomes: Vec::with_capacity(statements.len()),
-        clock: Clock { thread: 0, time: 0 },
-    };
+    let mut run = Run::new(apps, Replies::new());
+    run.outcomes.reserve(statements.len());
     for statement in &statements {
         let line = match statement {
             Statement::Launch(path) => run.launch(path),
