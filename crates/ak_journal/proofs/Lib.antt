@@ -1,0 +1,12 @@
+pub mod Joining
+pub mod Dark
+pub mod Parted
+pub mod Numbers
+pub mod Named
+pub mod DarkWords
+pub mod PortAgain
+pub mod BookAgain
+pub mod RosterAgain
+pub mod DeskAgain
+pub mod EntryAgain
+pub mod EntryLaws
