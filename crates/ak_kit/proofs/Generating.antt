@@ -66,15 +66,15 @@ some_plays_nowhere script end (Some run) of_script play = plays_nowhere (Rose 0 
 
 -- ---- the run, behind its line
 -- a run without memory is short, and so is one without memory for its line
-pub short_so : (ended : Ending) (n : ℕ) (run : RunEnd) (main : Bool) (end : Ending) (old new : Option (List ℕ)) (Failed : Type 0) → (ended ≡ ending.NoMemory → IsShort (with_main main run).short) → TellsRun ended n run main end old new Failed
+pub short_so : (ended : Ending) (n : ℕ) (run : RunEnd) (main : Bool) (end : Ending) (old new : Option (List ℕ)) (faults faults' : ℕ) → (ended ≡ ending.NoMemory → IsShort (with_main main run).short) → TellsRun ended n run main end old new faults faults'
     → end ≡ ending.NoMemory → IsShort run.short
-short_so ending.Done n run main end old new Failed short tells lacks = inl (tells.2 lacks)
-short_so ending.NoMemory n run main end old new Failed short tells lacks = subst (λ (b : Bool). IsShort (with_main b run).short) (sym tells.1) (short refl)
-short_so ending.WriteFault n run main end old new Failed short tells lacks = let bad : ending.WriteFault ≡ ending.NoMemory = sym tells.0 ∙ lacks in absurd (cc bad)
-short_so ending.ThreadFault n run main end old new Failed short tells lacks = let bad : ending.ThreadFault ≡ ending.NoMemory = sym tells.0 ∙ lacks in absurd (cc bad)
-short_so ending.Usage n run main end old new Failed short tells lacks = let bad : ending.Usage ≡ ending.NoMemory = sym tells.0 ∙ lacks in absurd (cc bad)
-short_so (ending.Refused line why) n run main end old new Failed short tells lacks = let bad : ending.Refused line why ≡ ending.NoMemory = sym tells.0 ∙ lacks in absurd (cc bad)
-short_so ending.ReadFault n run main end old new Failed short tells lacks = let bad : ending.ReadFault ≡ ending.NoMemory = sym tells.0 ∙ lacks in absurd (cc bad)
+short_so ending.Done n run main end old new faults faults' short tells lacks = inl (tells.2 lacks)
+short_so ending.NoMemory n run main end old new faults faults' short tells lacks = subst (λ (b : Bool). IsShort (with_main b run).short) (sym tells.1) (short refl)
+short_so ending.WriteFault n run main end old new faults faults' short tells lacks = let bad : ending.WriteFault ≡ ending.NoMemory = sym tells.0 ∙ lacks in absurd (cc bad)
+short_so ending.ThreadFault n run main end old new faults faults' short tells lacks = let bad : ending.ThreadFault ≡ ending.NoMemory = sym tells.0 ∙ lacks in absurd (cc bad)
+short_so ending.Usage n run main end old new faults faults' short tells lacks = let bad : ending.Usage ≡ ending.NoMemory = sym tells.0 ∙ lacks in absurd (cc bad)
+short_so (ending.Refused line why) n run main end old new faults faults' short tells lacks = let bad : ending.Refused line why ≡ ending.NoMemory = sym tells.0 ∙ lacks in absurd (cc bad)
+short_so ending.ReadFault n run main end old new faults faults' short tells lacks = let bad : ending.ReadFault ≡ ending.NoMemory = sym tells.0 ∙ lacks in absurd (cc bad)
 
 module _ (run : RunEnd) where
   pub answered_on : (found : Option RunEnd) → EachGotOneReply run.short.loopers run.histories → IsSomeAnd found (λ (end : RunEnd). run ≡ with_main run.short.main end)
@@ -82,7 +82,7 @@ module _ (run : RunEnd) where
   answered_on None answered same = tt
   answered_on (Some end) answered same = subst (λ (r : RunEnd). EachGotOneReply r.short.loopers r.histories) same answered
 
-  pub short_on : (ended finally : Ending) (found : Option RunEnd) (n : ℕ) (old new : Option (List ℕ)) (Failed : Type 0) → IsPlayNowhere ended run → IsSomeAnd found (λ (end : RunEnd). run ≡ with_main run.short.main end)
-      → IfSome found (λ (end : RunEnd). TellsRun ended n end run.short.main finally old new Failed) → IfSome found (λ (end : RunEnd). finally ≡ ending.NoMemory → IsShort end.short)
-  short_on ended finally None n old new Failed play same tells = tt
-  short_on ended finally (Some end) n old new Failed play same tells = short_so ended n end run.short.main finally old new Failed (λ lacks. subst (λ (r : RunEnd). IsShort r.short) same (play.ran_short lacks)) tells
+  pub short_on : (ended finally : Ending) (found : Option RunEnd) (n : ℕ) (old new : Option (List ℕ)) (faults faults' : ℕ) → IsPlayNowhere ended run → IsSomeAnd found (λ (end : RunEnd). run ≡ with_main run.short.main end)
+      → IfSome found (λ (end : RunEnd). TellsRun ended n end run.short.main finally old new faults faults') → IfSome found (λ (end : RunEnd). finally ≡ ending.NoMemory → IsShort end.short)
+  short_on ended finally None n old new faults faults' play same tells = tt
+  short_on ended finally (Some end) n old new faults faults' play same tells = short_so ended n end run.short.main finally old new faults faults' (λ lacks. subst (λ (r : RunEnd). IsShort r.short) same (play.ran_short lacks)) tells

@@ -148,27 +148,28 @@ IsFaultOf _ input = ⊥
 
 -- ---- what is written
 
--- the closing line was written, or a front of it where the sink failed
-abbrev pub Closes : Ending → Option (List ℕ) → Option (List ℕ) → Type 0 → Type 0
-Closes end old new Failed = (n : ℕ) × Appends old new (take n (closing_line end)) × (n < length (closing_line end) → Failed)
+-- the closing line was written, and no call failed; or a front of it, and one did
+abbrev pub Closes : Ending → Option (List ℕ) → Option (List ℕ) → ℕ → ℕ → Type 0
+Closes end old new faults faults' =
+    (n : ℕ) × Appends old new (take n (closing_line end)) × (n < length (closing_line end) → Rose faults faults') × (length (closing_line end) ≤ n → faults' ≡ faults)
 
 -- the line was written, or a front of it where the sink failed; without memory for it the closing line alone
-abbrev pub TellsLine : List ℕ → Ending → Option (List ℕ) → Option (List ℕ) → Type 0 → Type 0
-TellsLine line ending.Done old new Failed = Appends old new line
-TellsLine line ending.WriteFault old new Failed = AppendsPart old new line
-TellsLine line ending.NoMemory old new Failed = Closes ending.NoMemory old new Failed
-TellsLine line _ old new Failed = ⊥
+abbrev pub TellsLine : List ℕ → Ending → Option (List ℕ) → Option (List ℕ) → ℕ → ℕ → Type 0
+TellsLine line ending.Done old new faults faults' = Appends old new line
+TellsLine line ending.WriteFault old new faults faults' = AppendsPart old new line
+TellsLine line ending.NoMemory old new faults faults' = Closes ending.NoMemory old new faults faults'
+TellsLine line _ old new faults faults' = ⊥
 
 -- At Done, of what the source gave (`left` and `left'` are what is left of it before and after), the summary line of the script; at
 -- WriteFault a front of it; at any other ending the closing line alone.
-abbrev pub Tells : Ending → Option (List ℕ) → Option (List ℕ) → Option (List ℕ) → Option (List ℕ) → Type 0 → Type 0
-Tells ending.Done left left' old new Failed = SomeInput (SomeScript (λ s. Appends old new (summary s))) left left'
-Tells ending.WriteFault left left' old new Failed = SomeInput (SomeScript (λ s. AppendsPart old new (summary s))) left left'
-Tells ending.Usage left left' old new Failed = Closes ending.Usage old new Failed
-Tells (ending.Refused line why) left left' old new Failed = Closes (ending.Refused line why) old new Failed
-Tells ending.ReadFault left left' old new Failed = Closes ending.ReadFault old new Failed
-Tells ending.ThreadFault left left' old new Failed = Closes ending.ThreadFault old new Failed
-Tells ending.NoMemory left left' old new Failed = Closes ending.NoMemory old new Failed
+abbrev pub Tells : Ending → Option (List ℕ) → Option (List ℕ) → Option (List ℕ) → Option (List ℕ) → ℕ → ℕ → Type 0
+Tells ending.Done left left' old new faults faults' = SomeInput (SomeScript (λ s. Appends old new (summary s))) left left'
+Tells ending.WriteFault left left' old new faults faults' = SomeInput (SomeScript (λ s. AppendsPart old new (summary s))) left left'
+Tells ending.Usage left left' old new faults faults' = Closes ending.Usage old new faults faults'
+Tells (ending.Refused line why) left left' old new faults faults' = Closes (ending.Refused line why) old new faults faults'
+Tells ending.ReadFault left left' old new faults faults' = Closes ending.ReadFault old new faults faults'
+Tells ending.ThreadFault left left' old new faults faults' = Closes ending.ThreadFault old new faults faults'
+Tells ending.NoMemory left left' old new faults faults' = Closes ending.NoMemory old new faults faults'
 
 -- the lines of the run's statements, those of a block session by session, and behind them the closing line. The sink failed so often before
 -- and after all, and so often between
@@ -178,7 +179,7 @@ pub record PlaysAndCloses (run : RunEnd) (end : Ending) (old new : Option (List 
   pub first : faults ≤ faults_between
   pub second : faults_between ≤ faults'
   pub play : IsPlay run.script.apps.items run.script.statements.items end run old between (Rose faults faults_between) (faults_between ≡ faults)
-  pub closes : Closes end between new (Rose faults_between faults')
+  pub closes : Closes end between new faults_between faults'
 
 -- ---- the script of a number
 
@@ -192,10 +193,10 @@ IsPlayNowhere ended run = IsPlay run.script.apps.items run.script.statements.ite
 
 -- What was written of a run that ended so (`ended`). Of one that was done it is the line, and main is told as it was (`main`); or, without memory
 -- for the line, the closing line, and main is told to have found none. Of any other it is the closing line, and main is told as it was
-abbrev pub TellsRun : Ending → ℕ → RunEnd → Bool → Ending → Option (List ℕ) → Option (List ℕ) → Type 0 → Type 0
-TellsRun ending.Done n run main end old new Failed =
-    TellsLine (gen_line n run.tolds) end old new Failed × (end ≢ ending.NoMemory → run.short.main ≡ main) × (end ≡ ending.NoMemory → run.short.main ≡ true)
-TellsRun ended n run main end old new Failed = (end ≡ ended) × (run.short.main ≡ main) × Closes end old new Failed
+abbrev pub TellsRun : Ending → ℕ → RunEnd → Bool → Ending → Option (List ℕ) → Option (List ℕ) → ℕ → ℕ → Type 0
+TellsRun ending.Done n run main end old new faults faults' =
+    TellsLine (gen_line n run.tolds) end old new faults faults' × (end ≢ ending.NoMemory → run.short.main ≡ main) × (end ≡ ending.NoMemory → run.short.main ≡ true)
+TellsRun ended n run main end old new faults faults' = (end ≡ ended) × (run.short.main ≡ main) × Closes end old new faults faults'
 
 -- The script was carried out, with its lines written nowhere, and then it was told of by one line. Before the line the run ended so, and main was
 -- so; the sink failed so often before and after it
@@ -204,4 +205,4 @@ pub record GeneratesAndCloses (n : ℕ) (run : RunEnd) (end : Ending) (old new :
   pub main : Bool
   pub play : IsPlayNowhere ended (with_main main run)
   pub no_write : ended ≢ ending.WriteFault
-  pub tells : TellsRun ended n run main end old new (Rose faults faults')
+  pub tells : TellsRun ended n run main end old new faults faults'

@@ -43,7 +43,7 @@ fn end_with<K: Sink>(sink: &mut K, ending: Ending, line: &[u8], run: Option<RunE
     ensures status { result.status ≡ kit.status_of ending }
     ensures ending { result.ending ≡ ending }
     ensures run { result.run ≡ run }
-    ensures line { kit.Closes ending (K.written sink.old) (K.written sink.new) (Rose (K.faults sink.old) (K.faults sink.new)) }
+    ensures line { kit.Closes ending (K.written sink.old) (K.written sink.new) (K.faults sink.old) (K.faults sink.new) }
     ensures never_falls { K.faults sink.old ≤ K.faults sink.new }
     ensures kept { kit.closing_line ending ≡ [] → K.faults sink.new ≡ K.faults sink.old }
 {
@@ -61,7 +61,7 @@ pub(crate) fn close<K: Sink>(sink: &mut K, ending: Ending, run: Option<RunEnd>) 
     ensures status { result.status ≡ kit.status_of ending }
     ensures ending { result.ending ≡ ending }
     ensures run { result.run ≡ run }
-    ensures line { kit.Closes ending (K.written sink.old) (K.written sink.new) (Rose (K.faults sink.old) (K.faults sink.new)) }
+    ensures line { kit.Closes ending (K.written sink.old) (K.written sink.new) (K.faults sink.old) (K.faults sink.new) }
     ensures never_falls { K.faults sink.old ≤ K.faults sink.new }
     ensures kept { kit.closing_line ending ≡ [] → K.faults sink.new ≡ K.faults sink.old }
 {
@@ -73,7 +73,7 @@ pub(crate) fn end_with_line<K: Sink>(sink: &mut K, line: &[u8], run: Option<RunE
     ensures status { result.status ≡ kit.status_of result.ending }
     ensures ending { (result.ending ≡ Ending.Done) ⊎ (result.ending ≡ Ending.WriteFault) }
     ensures run { result.run ≡ run }
-    ensures told { kit.TellsLine line.now result.ending (K.written sink.old) (K.written sink.new) (Rose (K.faults sink.old) (K.faults sink.new)) }
+    ensures told { kit.TellsLine line.now result.ending (K.written sink.old) (K.written sink.new) (K.faults sink.old) (K.faults sink.new) }
     ensures write_fault { result.ending ≡ Ending.WriteFault → Rose (K.faults sink.old) (K.faults sink.new) }
     ensures done { result.ending ≡ Ending.Done → K.faults sink.new ≡ K.faults sink.old }
     ensures sink_never_falls { K.faults sink.old ≤ K.faults sink.new }
@@ -90,7 +90,7 @@ fn refuse<K: Sink>(alloc: Global, sink: &mut K, line: u32, kind: RefusalKind) ->
     ensures status { result.status ≡ kit.status_of result.ending }
     ensures ending { (result.ending ≡ Ending.Refused line kind) ⊎ (result.ending ≡ Ending.NoMemory) }
     ensures run { result.run ≡ None }
-    ensures line { kit.Closes result.ending (K.written sink.old) (K.written sink.new) (Rose (K.faults sink.old) (K.faults sink.new)) }
+    ensures line { kit.Closes result.ending (K.written sink.old) (K.written sink.new) (K.faults sink.old) (K.faults sink.new) }
     ensures never_falls { K.faults sink.old ≤ K.faults sink.new }
 {
     let ending = Ending::Refused { line, kind };
@@ -107,7 +107,7 @@ pub(crate) fn end_without_script<K: Sink>(alloc: Global, sink: &mut K, ending: E
     ensures ending { kit.EndsFor ending result.ending }
     ensures scriptless { kit.IsScriptless result.ending }
     ensures run { result.run ≡ None }
-    ensures line { kit.Closes result.ending (K.written sink.old) (K.written sink.new) (Rose (K.faults sink.old) (K.faults sink.new)) }
+    ensures line { kit.Closes result.ending (K.written sink.old) (K.written sink.new) (K.faults sink.old) (K.faults sink.new) }
     ensures never_falls { K.faults sink.old ≤ K.faults sink.new }
 {
     match ending {

@@ -40,7 +40,7 @@ pub(crate) fn play<
     ensures answered { IfSome result.run (λ run. EachGotOneReply run.short.loopers run.histories) }
 
     ensures play { IfSome result.run (λ run. kit.PlaysAndCloses run result.ending (K.written sink.old) (K.written sink.new) (K.faults sink.old) (K.faults sink.new)) }
-    ensures closing { IfNone result.run (kit.Closes result.ending (K.written sink.old) (K.written sink.new) (Rose (K.faults sink.old) (K.faults sink.new))) }
+    ensures closing { IfNone result.run (kit.Closes result.ending (K.written sink.old) (K.written sink.new) (K.faults sink.old) (K.faults sink.new)) }
 
     ensures write_fault { result.ending ≡ Ending.WriteFault → Rose (K.faults sink.old) (K.faults sink.new) }
     ensures done { result.ending ≡ Ending.Done → K.faults sink.new ≡ K.faults sink.old }
@@ -58,7 +58,7 @@ pub(crate) fn tell<K: Sink>(alloc: Global, script: &Script, sink: &mut K) -> Kit
     requires { AreWholeApps script.now.apps.items }
     ensures status { result.status ≡ kit.status_of result.ending }
     ensures run { result.run ≡ None }
-    ensures told { kit.TellsLine (summary (script_seen script.now)) result.ending (K.written sink.old) (K.written sink.new) (Rose (K.faults sink.old) (K.faults sink.new)) }
+    ensures told { kit.TellsLine (summary (script_seen script.now)) result.ending (K.written sink.old) (K.written sink.new) (K.faults sink.old) (K.faults sink.new) }
     ensures write_fault { result.ending ≡ Ending.WriteFault → Rose (K.faults sink.old) (K.faults sink.new) }
     ensures done { result.ending ≡ Ending.Done → K.faults sink.new ≡ K.faults sink.old }
     ensures sink_never_falls { K.faults sink.old ≤ K.faults sink.new }

@@ -45,7 +45,7 @@ pub(crate) fn kit_gen<
     ensures answered { IfSome result.run (λ run. EachGotOneReply run.short.loopers run.histories) }
 
     ensures play { IfSome result.run (λ run. kit.GeneratesAndCloses n run result.ending (K.written sink.old) (K.written sink.new) (K.faults sink.old) (K.faults sink.new)) }
-    ensures closing { IfNone result.run (kit.Closes result.ending (K.written sink.old) (K.written sink.new) (Rose (K.faults sink.old) (K.faults sink.new))) }
+    ensures closing { IfNone result.run (kit.Closes result.ending (K.written sink.old) (K.written sink.new) (K.faults sink.old) (K.faults sink.new)) }
 
     ensures write_fault { result.ending ≡ Ending.WriteFault → Rose (K.faults sink.old) (K.faults sink.new) }
     ensures done { result.ending ≡ Ending.Done → K.faults sink.new ≡ K.faults sink.old }
@@ -114,7 +114,7 @@ fn end_generated<K: Sink>(
 
     // The run is handed on, but for whether main found no memory.
     ensures run { IsSomeAnd result.run (λ end. run ≡ kit.with_main run.short.main end) }
-    ensures tells { IfSome result.run (λ end. kit.TellsRun ended n end run.short.main result.ending (K.written sink.old) (K.written sink.new) (Rose (K.faults sink.old) (K.faults sink.new))) }
+    ensures tells { IfSome result.run (λ end. kit.TellsRun ended n end run.short.main result.ending (K.written sink.old) (K.written sink.new) (K.faults sink.old) (K.faults sink.new)) }
 
     ensures write_fault { result.ending ≡ Ending.WriteFault → Rose (K.faults sink.old) (K.faults sink.new) }
     ensures done { result.ending ≡ Ending.Done → K.faults sink.new ≡ K.faults sink.old }

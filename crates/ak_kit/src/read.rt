@@ -32,7 +32,7 @@ pub fn kit_read<S: Source, K: Sink>(alloc: Global, source: &mut S, sink: &mut K)
         → kit.SomeInput (kit.IsRefusedAt line why) (S.left source.old) (S.left source.new) }
 
     // What was written.
-    ensures told { kit.Tells result.ending (S.left source.old) (S.left source.new) (K.written sink.old) (K.written sink.new) (Rose (K.faults sink.old) (K.faults sink.new)) }
+    ensures told { kit.Tells result.ending (S.left source.old) (S.left source.new) (K.written sink.old) (K.written sink.new) (K.faults sink.old) (K.faults sink.new) }
 
     // A fault has its cause.
     ensures read_fault { result.ending ≡ Ending.ReadFault → Rose (S.faults source.old) (S.faults source.new) }

@@ -44,7 +44,7 @@ pub(crate) fn kit_run<
     ensures answered { IfSome result.run (λ run. EachGotOneReply run.short.loopers run.histories) }
 
     ensures play { IfSome result.run (λ run. kit.PlaysAndCloses run result.ending (K.written sink.old) (K.written sink.new) (K.faults sink.old) (K.faults sink.new)) }
-    ensures closing { IfNone result.run (kit.Closes result.ending (K.written sink.old) (K.written sink.new) (Rose (K.faults sink.old) (K.faults sink.new))) }
+    ensures closing { IfNone result.run (kit.Closes result.ending (K.written sink.old) (K.written sink.new) (K.faults sink.old) (K.faults sink.new)) }
 
     ensures read_fault { result.ending ≡ Ending.ReadFault → Rose (S.faults source.old) (S.faults source.new) }
     ensures source_kept { result.ending ≢ Ending.ReadFault → S.faults source.new ≡ S.faults source.old }

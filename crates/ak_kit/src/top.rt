@@ -81,12 +81,12 @@ pub fn kit<
 
     // What main and the sessions did for the statements, and what was written.
     ensures play { words.now ≡ kit.run_words → IfSome result.run (λ run. kit.PlaysAndCloses run result.ending (K.written sink.old) (K.written sink.new) (K.faults sink.old) (K.faults sink.new)) }
-    ensures closing { words.now ≢ kit.read_words → IfNone result.run (kit.Closes result.ending (K.written sink.old) (K.written sink.new) (Rose (K.faults sink.old) (K.faults sink.new))) }
+    ensures closing { words.now ≢ kit.read_words → IfNone result.run (kit.Closes result.ending (K.written sink.old) (K.written sink.new) (K.faults sink.old) (K.faults sink.new)) }
 
     // With `read` nothing is run, and the summary line is written.
     ensures read_runs_nothing { words.now ≡ kit.read_words → (result.run ≡ None) × (spawner.new ≡ spawner.old) }
     ensures read_ending { words.now ≡ kit.read_words → kit.IsReading result.ending }
-    ensures read_tells { words.now ≡ kit.read_words → kit.Tells result.ending (S.left source.old) (S.left source.new) (K.written sink.old) (K.written sink.new) (Rose (K.faults sink.old) (K.faults sink.new)) }
+    ensures read_tells { words.now ≡ kit.read_words → kit.Tells result.ending (S.left source.old) (S.left source.new) (K.written sink.old) (K.written sink.new) (K.faults sink.old) (K.faults sink.new) }
 
     // With `gen` nothing is read, the script of the number is run, and its line is written.
     ensures gen_reads_nothing { kit.IsGen words.now → source.new ≡ source.old }

@@ -1,7 +1,6 @@
 -- What holds of the run holds of it behind its line, too.
 use Rattle.std.proofs.Common.{Option, subst}
 use Rattle.std.specs.Prelude.{IfSome}
-use Rattle.ak_outside.specs.Faults.{Rose}
 use Rattle.ak_headline.specs.Headline.{EachGotOneReply}
 use Rattle.ak_play.specs.declared.run_end.RunEnd.{RunEnd}
 use Rattle.ak_kit.specs.Kit.{IsPlayNowhere}
@@ -18,4 +17,4 @@ returns-in-Some-clause-short g c =
     let ended = c.play_generated-run.result.1 in
     let end = c.end_generated in
     let play = subst (λ (o : Option RunEnd). IfSome o (IsPlayNowhere ended)) c.in-Some.is c.play_generated-run.ensures.play in
-    short_on c.in-Some.run' ended end.result.ending end.result.run c.args.n (g.K.Sink.written c.args.sink.now) (g.K.Sink.written end.new.sink) (Rose (g.K.Sink.faults c.args.sink.now) (g.K.Sink.faults end.new.sink)) play end.ensures.run end.ensures.tells
+    short_on c.in-Some.run' ended end.result.ending end.result.run c.args.n (g.K.Sink.written c.args.sink.now) (g.K.Sink.written end.new.sink) (g.K.Sink.faults c.args.sink.now) (g.K.Sink.faults end.new.sink) play end.ensures.run end.ensures.tells
