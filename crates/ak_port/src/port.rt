@@ -12,7 +12,7 @@ ghost use Rattle.ak_base.specs.Limits.{capacity_limit};
 ghost use Rattle.ak_port.specs.Limits.{life_limit};
 
 use crate::port_book::PortBook;
-use crate::port_entry::{CloseAnswer, TakeAnswer, WriteAnswer};
+use crate::port_entry::{CloseAnswer, ITEMS, ROOM, TakeAnswer, WriteAnswer};
 use ak_base::{CAPACITY_LIMIT, NoMemory, ThreadId};
 use ak_flatten::{Item, Taken};
 use ak_turn::{Clock, Seat, Turn, TurnLock};
@@ -121,7 +121,7 @@ fn try_write<R: Wait>(
     Ok(write_at_turn(turn, seat, clock, item))
 }
 
-// A write that waits for room: it gives its turn back, and tries again once there is a new entry.
+// A write that waits for room: it gives its turn back, and tries again once there may be some.
 fn write_once_free<R: Wait>(
     port: &Port,
     rt: &R,
@@ -145,7 +145,7 @@ fn write_once_free<R: Wait>(
             Ok(answer) => return answer,
             Err(back) => item = back,
         }
-        port.wait_past(rt, seat.seen());
+        port.wait_at_bell(rt, seat.seen(), ROOM);
     }
     unreachable!()
 }
@@ -153,7 +153,7 @@ fn write_once_free<R: Wait>(
 /// Writes an item at the end of what is pending, and answers its position, counted from 0. Refused, in this
 /// order, with `Closed` and `Spent`; the item is given back as it was. Each of these is one entry. `NoMemory`
 /// gives the item back too, and makes none; no full port is answered so. It waits for its turn. Where it finds the
-/// port full it gives its turn back, and tries again once there is a new entry: `Full` is not answered. Whoever is
+/// port full it gives its turn back, and tries again once there may be room: `Full` is not answered. Whoever is
 /// not to wait for room calls `write_at_turn`. It copies the flat text, which stays in the history, and reserves
 /// what taking the item needs. (The Be Book, The Kernel Kit, Ports: write_port().)
 pub fn write<R: Wait>(
@@ -248,7 +248,7 @@ pub fn take<R: Wait>(
         if let Some(answer) = try_take(port, rt, seat, clock, out, most) {
             return answer;
         }
-        port.wait_past(rt, seat.seen());
+        port.wait_at_bell(rt, seat.seen(), ITEMS);
     }
     unreachable!()
 }

@@ -10,7 +10,7 @@ ghost use Rattle.ak_port.specs.Limits.{life_limit};
 use crate::port_entry::{PortEntry, PortEvent, Refusal, TakeAnswer, WriteAnswer};
 use ak_base::{NoMemory, ThreadId};
 use ak_flatten::{Item, Taken};
-use ak_turn::{Book, Clock};
+use ak_turn::{Bells, Book, Clock};
 use std::alloc::Global;
 use std::collections::VecDeque;
 use std::marker::Model;
@@ -73,6 +73,13 @@ impl Book for PortBook {
         match self.entries.get(place as usize) {
             None => Ok(None),
             Some(entry) => Ok(Some(entry.try_clone(*self.entries.allocator())?)),
+        }
+    }
+
+    fn rings(&self) -> Bells {
+        match self.entries.last() {
+            None => Bells::None,
+            Some(entry) => entry.event.rings(),
         }
     }
 }

@@ -2,7 +2,14 @@ ghost use Rattle.std.specs.Prelude.{◌≡◌, IfOk};
 
 use ak_base::{NoMemory, ThreadId};
 use ak_flatten::Item;
+use ak_turn::Bells;
 use std::alloc::Global;
+
+/// The bell of those who wait for room.
+pub(crate) const ROOM: u64 = 0;
+
+/// The bell of the taker, who waits for an item.
+pub(crate) const ITEMS: u64 = 1;
 
 /// What was done to a port, by which thread, and when by its clock.
 #[derive(Debug, Drop)]
@@ -79,6 +86,19 @@ pub enum CloseAnswer {
 }
 
 impl PortEvent {
+    // Whom it concerns. Where a port is full, only a take or its closing ends that; where it holds nothing, only a
+    // write or its closing.
+    pub(crate) fn rings(&self) -> Bells {
+        match self {
+            PortEvent::Written { .. } => Bells::One(ITEMS),
+            PortEvent::Took(_) | PortEvent::Rest(_) => Bells::One(ROOM),
+            PortEvent::Shut => Bells::All,
+            PortEvent::Made { .. } | PortEvent::Full | PortEvent::Refused | PortEvent::Spent => {
+                Bells::None
+            }
+        }
+    }
+
     /// An equal event, or `NoMemory` where memory ran out.
     pub fn try_clone(&self, alloc: Global) -> Result<PortEvent, NoMemory>
         ensures { IfOk result (λ event. event ≡ self.now) }

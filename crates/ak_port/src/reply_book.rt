@@ -10,7 +10,7 @@ use crate::reply_slot::{Progress, Slot};
 use ak_base::{Bytes, Code, NoMemory, ThreadId};
 use ak_flatten::{FLAT_LIMIT, flatten};
 use ak_message::Message;
-use ak_turn::{Book, Clock};
+use ak_turn::{Bells, Book, Clock};
 use std::alloc::Global;
 use std::marker::Model;
 use std::mem;
@@ -373,5 +373,12 @@ impl Book for ReplyBook {
             return Ok(None);
         };
         Ok(Some(shown(*self.store.allocator(), &self.store, entry)?))
+    }
+
+    fn rings(&self) -> Bells {
+        match self.entries.last() {
+            None => Bells::None,
+            Some(entry) => entry.event.rings(),
+        }
     }
 }

@@ -7,6 +7,7 @@ ghost use Rattle.ak_turn.specs.Called.{KeepsSeat};
 
 use crate::reply_book::ReplyBook;
 use crate::reply_entry::{CancelAnswer, FillAnswer, ReplyEvent};
+use crate::reply_kept::{OPENINGS, filling};
 use ak_base::{Bytes, NoMemory};
 use ak_turn::{Clock, Seat, TurnLock};
 use std::sync::Wait;
@@ -93,7 +94,7 @@ fn fill_in<R: Wait>(
             Ok(answer) => return answer,
             Err(text) => left = text,
         }
-        book.wait_past(rt, seat.seen());
+        book.wait_at_bell(rt, seat.seen(), OPENINGS);
     }
     unreachable!()
 }
@@ -221,7 +222,7 @@ pub fn wait_for<R: Wait>(
         if let Some(flat) = try_take(book, rt, seat, clock, n) {
             return flat;
         }
-        book.wait_past(rt, seat.seen());
+        book.wait_at_bell(rt, seat.seen(), filling(n));
     }
     unreachable!()
 }

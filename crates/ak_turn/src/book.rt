@@ -1,6 +1,7 @@
 ghost use Rattle.std.specs.Prelude.{◌≡◌, ℕ, List, length, option_map, slice_get, IfOk};
 ghost use Rattle.ak_turn.specs.Entries.{last_stamp_of};
 
+use crate::bells::Bells;
 use ak_base::NoMemory;
 
 /// An object that threads share, as the list of what was done to it. It has an opening, which no call
@@ -40,4 +41,10 @@ pub trait Book: Drop {
     /// `NoMemory` where memory ran out.
     fn entry(&self, place: u64) -> Result<Option<Self::Plain>, NoMemory>
         ensures { IfOk result (λ entry. entry ≡ option_map plain (slice_get (entries self.now) place)) };
+
+    /// Which bells the last entry rings. Each thread that waits at a bell for what that entry brings has to be at one
+    /// of these, or may sleep on. Nothing is claimed of it. Takes no memory.
+    fn rings(&self) -> Bells {
+        Bells::All
+    }
 }

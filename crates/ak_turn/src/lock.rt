@@ -4,6 +4,7 @@ ghost use Rattle.ak_turn.specs.Entries.{last_stamp_of, maker, places};
 ghost use Rattle.ak_turn.specs.Seats.{IsGiven, KnowsWhole, first_seat, new_seat, titled_seat, joined_seat};
 ghost use Rattle.ak_turn.specs.Steps.{IsNewName, names_with};
 
+use crate::bells::Watchers;
 use crate::book::Book;
 use crate::plays::{Board, Start};
 use crate::seat::Seat;
@@ -23,7 +24,7 @@ use std::sync::{Arc, Wait};
 #[derive(Drop)]
 pub struct TurnLock<B: Book> {
     pub(crate) board: Board<B>,
-    pub(crate) watchers: AtomicU64,
+    pub(crate) watchers: Watchers,
     pub(crate) sleepers: AtomicU64,
 }
 
@@ -75,7 +76,7 @@ impl<B: Book> TurnLock<B> {
             alloc,
             TurnLock {
                 board,
-                watchers: AtomicU64::new(0),
+                watchers: Watchers::nobody(),
                 sleepers: AtomicU64::new(0),
             },
         )?;
@@ -117,7 +118,17 @@ impl<B: Book> TurnLock<B> {
     pub fn wait_past<R: Wait>(&self, rt: &R, seen: u64) -> u64
         ensures { result ≢ seen }
     {
-        rest_for_entry(rt, &self.board.shared, &self.watchers, seen)
+        let each = self.watchers.each();
+        rest_for_entry(rt, &self.board.shared, &self.watchers, each, seen)
+    }
+
+    /// The same for whoever is concerned only by entries that ring the bell of that number, as the book's `rings`
+    /// tells: other entries let it sleep. It may return all the same once there is another entry. Takes no memory.
+    pub fn wait_at_bell<R: Wait>(&self, rt: &R, seen: u64, number: u64) -> u64
+        ensures { result ≢ seen }
+    {
+        let bell = self.watchers.bell(number);
+        rest_for_entry(rt, &self.board.shared, &self.watchers, bell, seen)
     }
 
     /// A seat for a new thread. It has seen as much as the seat, and none of the entries is its own. The seat

@@ -54,13 +54,20 @@ impl<'a, B: Book> Turn<'a, B> {
         let Turn { lock, book } = self;
         let common = &lock.board.shared;
         let count = book.len();
+        let bells = book.rings();
         let kept = Snapshot::of(&book);
         let is_longer = count != seat.seen;
         put_back(common, &mut seat.place, book);
         note_entry(common, &mut seat.place, &kept, is_longer);
         seat.seen = count;
         let served = pass_on(common, &mut seat.place, &kept);
-        wake(common, &lock.watchers, &lock.sleepers, served, is_longer);
+        wake(
+            common,
+            &lock.watchers,
+            &lock.sleepers,
+            served,
+            is_longer.then_some(bells),
+        );
     }
 
     /// Gives the book out, and never passes the turn on: threads that ask for a turn then wait for ever. Takes

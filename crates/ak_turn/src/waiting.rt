@@ -2,6 +2,7 @@
 ghost use Rattle.std.specs.Prelude.{◌<◌, ◌≢◌};
 ghost use Rattle.ak_turn.specs.Steps.{IsWide};
 
+use crate::bells::{Bell, Bells, Watchers};
 use crate::book::Book;
 use crate::plays::Common;
 use crate::steps::{COUNT, SERVING, TICKET};
@@ -101,67 +102,81 @@ fn end_nap(sleepers: &AtomicU64) {
     }
 }
 
-// Wakes those who sleep on that word.
+// Wakes those who sleep with a ticket.
 #[cold]
 #[inline(never)]
-fn wake_sleepers<B: Book>(common: &Common<B>, word: usize)
-    requires wide { IsWide common.now.table_id }
-    requires word { word < 3 }
+fn wake_sleepers<B: Book>(common: &Common<B>)
+    requires { IsWide common.now.table_id }
 {
-    common.wake_all(word);
+    common.wake_all(SERVING);
 }
 
-// Wakes those who wait for their turn, once the number was served, and, after a new entry, those who wait for
-// one. Whoever drew a ticket before the turn was passed on is seen in the count of tickets, and whoever draws
-// one later finds the next number; where nobody has one, one of those who sleep without a ticket is woken.
-// Where nobody has waited, nobody is woken.
+// Wakes those who wait for their turn, once the number was served, and, after a new entry, those who wait at the
+// bells that it rings. Whoever drew a ticket before the turn was passed on is seen in the count of tickets, and
+// whoever draws one later finds the next number; where nobody has one, one of those who sleep without a ticket is
+// woken. Where nobody has waited, nobody is woken.
 pub(crate) fn wake<B: Book>(
     common: &Common<B>,
-    watchers: &AtomicU64,
+    watchers: &Watchers,
     sleepers: &AtomicU64,
     served: u64,
-    is_longer: bool,
+    entered: Option<Bells>,
 )
     requires { IsWide common.now.table_id }
 {
     if common.peek(TICKET) != served.wrapping_add(1) {
-        wake_sleepers(common, SERVING);
+        wake_sleepers(common);
     } else if sleepers.load(SeqCst) != 0 {
         end_nap(sleepers);
     }
-    if is_longer && watchers.load(SeqCst) != 0 {
-        wake_sleepers(common, COUNT);
+    if let Some(bells) = entered
+        && watchers.all.load(SeqCst) != 0
+    {
+        watchers.ring(bells);
     }
 }
 
-// Looks at the count of entries, and parks, as long as it is that number. Answers the other one that was found.
-fn count_past<B: Book, R: Wait>(rt: &R, common: &Common<B>, seen: u64) -> u64
+// Looks at the count of entries, and parks at the bell, as long as it is that number. Answers the other one that was
+// found.
+fn count_past<B: Book, R: Wait>(rt: &R, common: &Common<B>, bell: &Bell, seen: u64) -> u64
     requires { IsWide common.now.table_id }
     ensures { result ≢ seen }
 {
     for _ in rt.forever() {
+        let rung = bell.rung.load(SeqCst);
         let count = common.peek(COUNT);
         if count != seen {
             return count;
         }
-        common.park(rt, COUNT, low(seen));
+        bell.rung.park(rt, low(rung));
     }
     unreachable!()
 }
 
-// Waits while the count of entries is that number, and answers the other one that was found. Whoever waits is counted.
+// Waits at the bell while the count of entries is that number, and answers the other one that was found. Whoever
+// waits is counted.
+//
+// No wake-up is lost. A waiter is counted, then reads the bell, then looks at the count of entries. Whoever makes an
+// entry moves that count, then looks whether anybody is counted, then moves the bell's word, then wakes. All these are
+// in one order. So where the waiter does not find the entry, it was counted before, is seen, and had read the bell's
+// word before that was moved: it does not park on the old word any more, or it sleeps already and is woken. Only an
+// entry that does not ring the bell leaves it asleep, so a book's entries ring the bell of each waiter whom they let go
+// on. Who is woken for another's sake finds another count and returns; it waits again with that count.
 pub(crate) fn rest_for_entry<B: Book, R: Wait>(
     rt: &R,
     common: &Common<B>,
-    watchers: &AtomicU64,
+    watchers: &Watchers,
+    bell: &Bell,
     seen: u64,
 ) -> u64
     requires { IsWide common.now.table_id }
     ensures { result ≢ seen }
 {
-    watchers.fetch_add(1, SeqCst);
-    let count = count_past(rt, common, seen);
-    watchers.fetch_sub(1, SeqCst);
+    watchers.all.fetch_add(1, SeqCst);
+    bell.waiting.fetch_add(1, SeqCst);
+    let count = count_past(rt, common, bell, seen);
+    bell.waiting.fetch_sub(1, SeqCst);
+    watchers.all.fetch_sub(1, SeqCst);
     count
 }
 

@@ -4,6 +4,8 @@
 #![tactic(auto)]
 
 #[cfg(test)]
+mod askers;
+#[cfg(test)]
 mod compare;
 #[cfg(test)]
 mod ports;

@@ -16,3 +16,11 @@ pub fn reply_text(alloc: Global) -> Result<Bytes, NoMemory>
         Err(_) => Err(NoMemory),
     }
 }
+
+/// The flat text of `NONE` without fields, which stands for no reply.
+pub fn none_text(alloc: Global) -> Result<Bytes, NoMemory> {
+    match flatten(alloc, &Message::new(alloc, Code::NO_REPLY)) {
+        Ok(text) => Ok(text),
+        Err(_) => Err(NoMemory),
+    }
+}
