@@ -176,11 +176,11 @@ module _ (h : Histories) (short : List ℕ) (n : ℕ) (accounts : (k : ℕ) → 
   did does k = how_many (at_slot does) (accounts k).steps
 
   -- ---- the book
-  made_at_book : (does : ReplyEvent → Bool) (thread : ℕ) (steps : List Step) → IsToldBy h thread steps → in_book_by h thread does ≡ how_many (at_slot does) steps
+  pub made_at_book : (does : ReplyEvent → Bool) (thread : ℕ) (steps : List Step) → IsToldBy h thread steps → in_book_by h thread does ≡ how_many (at_slot does) steps
   made_at_book does thread steps told =
       made_is_noted books.maker_of (λ (entry : ReplyEntry). does entry.event) thread h.book ∙ ap (how_many (λ (m : Noted ReplyEntry). does m.entry.event)) told.at_book ∙ steps_at_book does steps
 
-  book_total : (does : ReplyEvent → Bool) → in_book h does ≡ all_clients (client_did does) + all_of (did does)
+  pub book_total : (does : ReplyEvent → Bool) → in_book h does ≡ all_clients (client_did does) + all_of (did does)
   book_total does =
       let test : ReplyEntry → Bool = λ entry. does entry.event in
       omega (
@@ -243,7 +243,7 @@ module _ (h : Histories) (short : List ℕ) (n : ℕ) (accounts : (k : ℕ) → 
   client_sent : (k : ℕ) → client_sends k ≡ client_asked k
   client_sent k = omega (arith, (clients k).tally.sent)
 
-  balance : all_asked ≡ all_of rested
+  pub balance : all_asked ≡ all_of rested
   balance =
       let loopers = length h.ports.items in
       omega (
@@ -257,7 +257,7 @@ module _ (h : Histories) (short : List ℕ) (n : ℕ) (accounts : (k : ℕ) → 
       )
 
   -- ---- at most one
-  few : all_asked + (all_clients (client_did (cancels n)) + all_of (did (cancels n))) ≤ in_book h (opens n)
+  pub few : all_asked + (all_clients (client_did (cancels n)) + all_of (did (cancels n))) ≤ in_book h (opens n)
   few =
       let loopers = length h.ports.items in
       omega (
@@ -286,7 +286,7 @@ module _ (h : Histories) (short : List ℕ) (n : ℕ) (accounts : (k : ℕ) → 
     client_sends_none : (looper k : ℕ) → k < count → client_to looper k ≡ 0
     client_sends_none looper k lt = omega (arith, client_sent k, client_asks_none k lt, sends_some n looper (clients k).steps)
 
-    none_below : (bound looper : ℕ) → looper < bound → writes_at h n looper ≡ 0
+    pub none_below : (bound looper : ℕ) → looper < bound → writes_at h n looper ≡ 0
     none_below zero looper lt = absurd (omega (arith, lt))
     none_below (suc bound) looper lt =
         omega (

@@ -14,6 +14,7 @@ use Rattle.ak_headline.specs.Sends.{SendsSo}
 use Rattle.ak_headline.specs.Tally.{Tally}
 use Rattle.ak_headline.proofs.ActsTold.{NoLooper}
 use Rattle.ak_headline.proofs.Counting.{add_none}
+use Rattle.ak_headline.proofs.Seeing.{Idle, idle_none, main_looks, session_looks}
 use Rattle.ak_headline.proofs.SendsTold.{sends_nothing}
 
 -- ---- one thread
@@ -27,11 +28,12 @@ pub told_by : (h : Histories) (thread : ℕ) (steps : List Step) → HasDone h t
 told_by h thread steps done = record { at_book = done.at_book; at_ports = done.at_ports; book_seen = done.book_seen }
 
 -- ---- one client
--- it asked and took, and neither sent on nor filled; no steps are told of a number past them
+-- it asked and took, and neither sent on nor filled; where it saw the book without an entry it had opened a slot; no steps are told of a number past them
 pub record Client (h : Histories) (n count k : ℕ) : Type 0 where
   pub steps : List Step
   pub tally : Tally n [] [] steps
   pub sends : SendsSo n 0 [] steps
+  pub looks : Idle steps
   pub told : k < count → IsToldBy h k steps
 
 module _ (of_main : MainTallies) (main_so : MainAsksSo) (of_sessions : SessionsTally) (sessions_so : SessionsAskSo) where
@@ -41,6 +43,7 @@ module _ (of_main : MainTallies) (main_so : MainAsksSo) (of_sessions : SessionsT
       steps = run.main;
       tally = of_main run.main run.main_diary n;
       sends = main_so run.main run.main_diary n;
+      looks = main_looks run.main run.main_diary;
       told = λ within. told_by h zero run.main run.main_done;
     }
 
@@ -49,6 +52,7 @@ module _ (of_main : MainTallies) (main_so : MainAsksSo) (of_sessions : SessionsT
       steps = has.steps;
       tally = of_sessions has.steps has.diary n;
       sends = sessions_so has.steps has.diary n;
+      looks = session_looks has.steps has.diary;
       told = λ within. told_by h number has.steps has.done;
     }
 
@@ -57,6 +61,7 @@ module _ (of_main : MainTallies) (main_so : MainAsksSo) (of_sessions : SessionsT
       steps = [];
       tally = record { asks = 0; sent = refl; opened = omega arith; took = refl; filled = omega arith; settled = inl refl };
       sends = sends_nothing n 0 NoLooper 0 [] (add_none NoLooper n);
+      looks = idle_none [] refl;
       told = λ within. absurd (omega (arith, within, past));
     }
 

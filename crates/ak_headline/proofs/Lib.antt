@@ -10,7 +10,9 @@ pub mod LastTurn
 pub mod Later
 pub mod Lists
 pub mod Loopers
+pub mod LoopersSeeing
 pub mod LoopersTold
+pub mod Missing
 pub mod Once
 pub mod OneReply
 pub mod Owing
@@ -18,6 +20,7 @@ pub mod OwnWants
 pub mod Paying
 pub mod Replies
 pub mod Resting
+pub mod Seeing
 pub mod Senders
 pub mod SendsTold
 pub mod SentOn

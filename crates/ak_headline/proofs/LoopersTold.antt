@@ -115,13 +115,13 @@ module _ (test : EntryData → Bool) (spares : (x : EntryData) → IsOwn x.plain
   own_first x mine false own = omega (arith, ap bit (spares x own))
 
   -- those of others are edits
-  own_many : (looper n : ℕ) (s : DeskState) (entries : List EntryData) (t : DeskState) → Replays looper n s entries t → how_many test entries ≡ how_many test (made_by by_number (looper_thread looper) entries)
+  pub own_many : (looper n : ℕ) (s : DeskState) (entries : List EntryData) (t : DeskState) → Replays looper n s entries t → how_many test entries ≡ how_many test (made_by by_number (looper_thread looper) entries)
   own_many looper n s [] t e = refl
   own_many looper n s (x ∷ entries) t (u, (step, rest)) =
       many_first x entries ∙ ap (λ (k : ℕ). bit (test x) + k) (own_many looper (counted n x.plain.event) u entries t rest)
       ∙ own_first x (made_by by_number (looper_thread looper) entries) (by_number x == looper_thread looper) (is_own looper x.plain.by.0 x.plain.event step.by)
 
-no_owing : (n : ℕ) (e : DeskEvent) (item : Option ItemData) → IsOwn e false → owes_event n e item ≡ false
+pub no_owing : (n : ℕ) (e : DeskEvent) (item : Option ItemData) → IsOwn e false → owes_event n e item ≡ false
 no_owing n (event.Dispatched position r words quit) item own = absurd cc
 no_owing n (event.Edited edit answer) item own = refl
 

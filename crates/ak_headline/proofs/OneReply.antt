@@ -42,6 +42,12 @@ form_of_fill n (slot.Filled m text) is = (text, ap (λ (k : ℕ). slot.Filled k 
 form_of_fill n (slot.Cancelled m) is = absurd (cc is)
 form_of_fill n (slot.Taken m) is = absurd (cc is)
 
+-- by whom the one entry of the book is that does so
+pub made_by_whom : (h : Histories) (does : ReplyEvent → Bool) (thread : ℕ) (x : ReplyEntry) → doing does h.book ≡ x ∷ []
+    → 1 ≤ how_many (λ (entry : ReplyEntry). does entry.event) (made_by books.maker_of thread h.book) → x.by.0 ≡ thread
+made_by_whom h does thread x one some =
+    eqb-true x.by.0 thread (one_among (λ (entry : ReplyEntry). does entry.event) (λ (entry : ReplyEntry). books.maker_of entry == thread) h.book x one some)
+
 -- ---- from the accounts of all threads
 module _ (h : Histories) (short : List ℕ) (n : ℕ) (accounts : (k : ℕ) → Account h short n k) (once : IsEachOnce h short n accounts) (count : ℕ) (few_clients : count ≤ looper_thread 0)
     (clients : (k : ℕ) → Client h n count k) (port_makers : (looper : ℕ) → All (λ (entry : PortEntry). IsClientOrLooper h count entry.by.0) (port_list h looper))
@@ -61,13 +67,8 @@ module _ (h : Histories) (short : List ℕ) (n : ℕ) (accounts : (k : ℕ) → 
   taken : (x : ReplyEntry) × (doing (takes n) h.book ≡ x ∷ [])
   taken = one_of (doing (takes n) h.book) once.taken
 
-  -- by whom the one entry is that does so
-  by_whom : (does : ReplyEvent → Bool) (thread : ℕ) (x : ReplyEntry) → doing does h.book ≡ x ∷ [] → 1 ≤ how_many (λ (entry : ReplyEntry). does entry.event) (made_by books.maker_of thread h.book) → x.by.0 ≡ thread
-  by_whom does thread x one some =
-      eqb-true x.by.0 thread (one_among (λ (entry : ReplyEntry). does entry.event) (λ (entry : ReplyEntry). books.maker_of entry == thread) h.book x one some)
-
   filled_by : filled.0.by.0 ≡ looper_thread looper
-  filled_by = by_whom (fills n) (looper_thread looper) filled.0 filled.1 once.fills_it
+  filled_by = made_by_whom h (fills n) (looper_thread looper) filled.0 filled.1 once.fills_it
 
   filled_with : (text : List ℕ) × (filled.0.event ≡ slot.Filled n text)
   filled_with = form_of_fill n filled.0.event (first_meets (λ (entry : ReplyEntry). fills n entry.event) h.book filled.0 [] filled.1)
@@ -130,7 +131,7 @@ module _ (h : Histories) (short : List ℕ) (n : ℕ) (accounts : (k : ℕ) → 
     filled_once = filled.1;
     taken = taken.0;
     taken_once = taken.1;
-    by_opener = by_whom (takes n) once.asked.thread taken.0 taken.1 once.asked.takes_it ∙ sym (by_whom (opens n) once.asked.thread opened.0 opened.1 once.asked.opens_it);
+    by_opener = made_by_whom h (takes n) once.asked.thread taken.0 taken.1 once.asked.takes_it ∙ sym (made_by_whom h (opens n) once.asked.thread opened.0 opened.1 once.asked.opens_it);
     not_cancelled = none_of (doing (cancels n) h.book) once.cancelled;
     looper = looper;
     position = was_paid.position;
@@ -175,31 +176,31 @@ module _ (all : AcceptedIsDispatchedThenLeft) (law : EachIsDispatchedByRule) (on
         }
 
     -- main and the sessions
-    abbrev count : ℕ
+    abbrev pub count : ℕ
     count = suc sessions
 
-    few_clients : count ≤ looper_thread 0
+    pub few_clients : count ≤ looper_thread 0
     few_clients = omega (arith, run.few_sessions)
 
-    clients : (k : ℕ) → Client h n count k
+    pub clients : (k : ℕ) → Client h n count k
     clients = client of_main main_so of_sessions sessions_so sessions heads short h run n
 
-    book_makers : All (λ (entry : ReplyEntry). IsClientOrLooper h count entry.by.0) h.book
+    pub book_makers : All (λ (entry : ReplyEntry). IsClientOrLooper h count entry.by.0) h.book
     book_makers =
         All-weaker (λ (entry : ReplyEntry). ActsIn h sessions entry.by.0) (λ (entry : ReplyEntry). IsClientOrLooper h count entry.by.0)
         (λ entry of. client_or_looper h sessions entry.by.0 of) h.book run.book_makers
 
-    port_makers : (looper : ℕ) → All (λ (entry : PortEntry). IsClientOrLooper h count entry.by.0) (port_list h looper)
+    pub port_makers : (looper : ℕ) → All (λ (entry : PortEntry). IsClientOrLooper h count entry.by.0) (port_list h looper)
     port_makers looper =
         All-weaker (λ (entry : PortEntry). ActsIn h sessions entry.by.0) (λ (entry : PortEntry). IsClientOrLooper h count entry.by.0)
         (λ entry of. client_or_looper h sessions entry.by.0 of) (port_list h looper) (run.port_makers looper)
 
-    accounts : (k : ℕ) → Account h short n k
+    pub accounts : (k : ℕ) → Account h short n k
     accounts k =
         ⊎_elim (λ (lt : k < length h.ports.items). account_of k (run.loopers k lt))
         (λ (past : length h.ports.items ≤ k). account_none h k past short n run.histories.each count few_clients book_makers port_makers) (cases_lt k (length h.ports.items))
 
-    some_written : (k at : ℕ) (item : ItemData) → IsAccepted h n k at item → 1 ≤ how_many (λ (entry : PortEntry). writes_owing n entry.event) (port_list h k)
+    pub some_written : (k at : ℕ) (item : ItemData) → IsAccepted h n k at item → 1 ≤ how_many (λ (entry : PortEntry). writes_owing n entry.event) (port_list h k)
     some_written k at item is =
         let t : Taken = record { position = at; item = item } in
         omega (

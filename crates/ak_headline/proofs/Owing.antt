@@ -136,7 +136,7 @@ wants_some duty.None e = absurd cc
 wants_some (duty.Slot m) e = absurd cc
 wants_some (duty.Back to) e = absurd cc
 
-told_none : (owed : Duty) (reply told : Option MessageData) (steps : List Step) → reply ≡ None → WritesText owed reply told steps → told ≡ None
+pub told_none : (owed : Duty) (reply told : Option MessageData) (steps : List Step) → reply ≡ None → WritesText owed reply told steps → told ≡ None
 told_none owed reply _ _ none turns.with_memory = none
 told_none owed reply _ _ none (turns.without wants) = absurd (wants_some owed (subst (λ (k : Option MessageData). turns.wants_text owed k ≡ true) none wants))
 

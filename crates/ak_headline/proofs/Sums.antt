@@ -16,6 +16,17 @@ pub total_most : (f g : ℕ → ℕ) (n : ℕ) → ((k : ℕ) → k < n → f k 
 total_most f g zero most = omega arith
 total_most f g (suc n) most = omega (arith, total_most f g n (λ k lt. most k (omega (arith, lt))), most n (omega arith))
 
+-- and less in all where one of them is less
+pub total_less : (f g : ℕ → ℕ) (n j : ℕ) → ((k : ℕ) → k < n → f k ≤ g k) → j < n → suc (f j) ≤ g j → suc (total f n) ≤ total g n
+total_less f g zero j most lt less = absurd (omega (arith, lt))
+total_less f g (suc n) j most lt less =
+    ⊎_elim (λ (there : j < n). omega (arith, total_less f g n j (λ k within. most k (omega (arith, within))) there less, most n (omega arith)))
+    (λ (here : n ≤ j).
+    let same : j ≡ n = omega (arith, lt, here) in
+    let few : f j ≡ f n = ap f same in
+    let more : g j ≡ g n = ap g same in
+    omega (arith, few, more, less, total_most f g n (λ k within. most k (omega (arith, within))))) (cases_lt j n)
+
 pub total_sum : (f g : ℕ → ℕ) (n : ℕ) → total (λ k. f k + g k) n ≡ total f n + total g n
 total_sum f g zero = omega arith
 total_sum f g (suc n) = omega (arith, total_sum f g n)

@@ -163,3 +163,15 @@ pub record GotOneReply (h : Histories) (short : List ℕ) (n : ℕ) : Type 0 whe
   pub came : (number at : ℕ) (other : ItemData) → IsAccepted h n number at other → ((number ≡ asked_looper) × (at ≡ asked_position)) ⊎ CameFrom h n number at other
   pub least : (number at : ℕ) (other : ItemData) → IsAccepted h n number at other → asked_looper ≤ number
   pub same : (number at : ℕ) (other : ItemData) → IsAccepted h n number at other → IsSameMessage asked other
+
+-- Exactly one entry opened the slot, and one cancelled it, which is the opener's. None filled it, and none took from it; and no port accepted an
+-- item that has the duty to fill it
+pub record WasWithdrawn (h : Histories) (n : ℕ) : Type 0 where
+  pub opened : ReplyEntry
+  pub opened_once : doing (opens n) h.book ≡ opened ∷ []
+  pub cancelled : ReplyEntry
+  pub cancelled_once : doing (cancels n) h.book ≡ cancelled ∷ []
+  pub by_opener : cancelled.by.0 ≡ opened.by.0
+  pub not_filled : doing (fills n) h.book ≡ []
+  pub not_taken : doing (takes n) h.book ≡ []
+  pub no_item : (looper position : ℕ) (item : ItemData) → ¬ (IsAccepted h n looper position item)

@@ -1,7 +1,9 @@
 -- What holds of every run that ended, whatever the schedule: clause by clause.
-use Rattle.std.specs.Prelude.{◌≡◌, ℕ, suc, Bool, List, [], ◌∷◌, ◌++◌}
+use Rattle.std.specs.Prelude.{◌≡◌, ◌<◌, ◌⊎◌, ℕ, suc, Bool, List, [], ◌∷◌, ◌++◌, length, Contains}
 use Rattle.ak_flatten.specs.Item.{ItemData}
 use Rattle.ak_roster.specs.declared.head.AppHead.{AppHead}
+use Rattle.ak_port.specs.declared.reply_entry.ReplyEntry.{ReplyEntry}
+use Rattle.ak_port.specs.declared.reply_entry.ReplyEvent.TheVariants as slot
 use Rattle.ak_port.specs.PortCalls.{PortData}
 use Rattle.ak_action.specs.declared.answer.AnswerWord.{AnswerWord}
 use Rattle.ak_desk.specs.declared.entry.DeskEvent.TheVariants as desk_event
@@ -12,9 +14,9 @@ use Rattle.ak_diary.specs.declared.histories.Histories.{Histories}
 use Rattle.ak_diary.specs.Diary.{IsDiary}
 use Rattle.ak_diary.specs.Laws.{IsAccountedFor, IsDispatchedSo}
 use Rattle.ak_diary.specs.Looper.{LooperFacts}
-use Rattle.ak_diary.specs.Step.{Step}
-use Rattle.ak_headline.specs.Answers.{GotOneReply, IsAccepted}
-use Rattle.ak_headline.specs.Run.{IsRunWith}
+use Rattle.ak_diary.specs.Step.{Step, book_sights}
+use Rattle.ak_headline.specs.Answers.{GotOneReply, IsAccepted, WasWithdrawn}
+use Rattle.ak_headline.specs.Run.{IsRunWith, IsSession}
 use Rattle.ak_headline.specs.Diaries.{LoopersPay, LoopersSendSo, LoopersSendUp, LoopersTally, MainAsksSo, MainTallies, SessionsAskSo, SessionsTally}
 
 -- of each looper, by their numbers from that one on, its port and its desk are so
@@ -41,6 +43,21 @@ IsByRule number port desk =
 abbrev pub EachGotOneReply : List ℕ → Histories → Type 0
 EachGotOneReply short h = (n looper position : ℕ) (item : ItemData) → IsAccepted h n looper position item → GotOneReply h short n
 
+-- ---- the reply book
+-- the diary has no sight of the book without an entry: where the thread was to fill or to cancel a slot, it made that entry itself
+abbrev pub MissesNone : List Step → Type 0
+MissesNone steps = book_sights steps ≡ []
+
+-- so it is of each thread of the run
+pub record NoneIsMissing (sessions : ℕ) (heads : List AppHead) (short : List ℕ) (h : Histories) (run : IsRunWith sessions heads short h) : Type 0 where
+  pub by_main : MissesNone run.main
+  pub by_loopers : (looper : ℕ) (there : looper < length h.ports.items) → MissesNone (run.loopers looper there).steps
+  pub by_sessions : (number : ℕ) (is : IsSession sessions number) → MissesNone (run.each_session number is).steps
+
+-- each slot that was opened got one reply, or it was withdrawn
+abbrev pub EachSlotEnds : List ℕ → Histories → Type 0
+EachSlotEnds short h = (n : ℕ) (entry : ReplyEntry) → Contains h.book entry → entry.event ≡ slot.Opened n → GotOneReply h short n ⊎ WasWithdrawn h n
+
 -- ---- the laws
 abbrev pub RunsAreAccounted : Type 0
 RunsAreAccounted = (sessions : ℕ) (heads : List AppHead) (short : List ℕ) (h : Histories) → IsRunWith sessions heads short h → EachLooper h IsAccounted
@@ -51,6 +68,12 @@ RunsGoByRule = (sessions : ℕ) (heads : List AppHead) (short : List ℕ) (h : H
 abbrev pub RunsAnswer : Type 0
 RunsAnswer = (sessions : ℕ) (heads : List AppHead) (short : List ℕ) (h : Histories) → IsRunWith sessions heads short h → EachGotOneReply short h
 
--- the last one, by what the diaries tell of a slot
+abbrev pub RunsMissNone : Type 0
+RunsMissNone = (sessions : ℕ) (heads : List AppHead) (short : List ℕ) (h : Histories) (run : IsRunWith sessions heads short h) → NoneIsMissing sessions heads short h run
+
+abbrev pub RunsEndSlots : Type 0
+RunsEndSlots = (sessions : ℕ) (heads : List AppHead) (short : List ℕ) (h : Histories) → IsRunWith sessions heads short h → EachSlotEnds short h
+
+-- that each accepted waiting send got one reply, by what the diaries tell of a slot
 abbrev pub TalliesTellReplies : Type 0
 TalliesTellReplies = LoopersTally → LoopersSendUp → LoopersPay → MainTallies → SessionsTally → LoopersSendSo → MainAsksSo → SessionsAskSo → RunsAnswer

@@ -47,3 +47,41 @@ pub fn each_waiting_send_got_one_reply()
     main_asks_so();
     sessions_ask_so();
 }
+
+/// No fill and no cancel of a run is missing: main, each looper and each session saw the reply book for no step without
+/// an entry. So each slot that one of them was to fill or to cancel it filled or cancelled itself.
+pub fn no_fill_is_missing()
+    ensures { headline.RunsMissNone }
+{
+    ak_diary::accepted_is_dispatched_then_left();
+    ak_diary::each_is_dispatched_by_rule();
+    ak_desk::the_list_tells_the_handlers();
+    ak_desk::an_entry_tells_its_reply();
+    loopers_tally();
+    loopers_send_up();
+    loopers_pay();
+    main_tallies();
+    sessions_tally();
+    loopers_send_so();
+    main_asks_so();
+    sessions_ask_so();
+}
+
+/// Each slot that was opened comes to one end: it got one reply; or it was withdrawn, which is that its opener cancelled
+/// it, nobody filled it, and no port accepted an item that owes it.
+pub fn each_slot_comes_to_one_end()
+    ensures { headline.RunsEndSlots }
+{
+    ak_diary::accepted_is_dispatched_then_left();
+    ak_diary::each_is_dispatched_by_rule();
+    ak_desk::the_list_tells_the_handlers();
+    ak_desk::an_entry_tells_its_reply();
+    loopers_tally();
+    loopers_send_up();
+    loopers_pay();
+    main_tallies();
+    sessions_tally();
+    loopers_send_so();
+    main_asks_so();
+    sessions_ask_so();
+}

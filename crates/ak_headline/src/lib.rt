@@ -8,7 +8,10 @@
 mod laws;
 mod tallies;
 
-pub use laws::{each_waiting_send_got_one_reply, runs_are_accounted, runs_go_by_rule};
+pub use laws::{
+    each_slot_comes_to_one_end, each_waiting_send_got_one_reply, no_fill_is_missing,
+    runs_are_accounted, runs_go_by_rule,
+};
 pub use tallies::{
     loopers_pay, loopers_send_so, loopers_send_up, loopers_tally, main_asks_so, main_tallies,
     sessions_ask_so, sessions_tally,
