@@ -116,8 +116,13 @@ counted_from : (k : ℕ) (xs : List EntryData) → counted_all k xs ≡ dispatch
 counted_from k [] = omega arith
 counted_from k (x ∷ xs) = omega (arith, counted_from (counted k x.plain.event) xs, counted_from (counted 0 x.plain.event) xs, counted_more k x.plain.event)
 
+-- a list with a dispatch at that position has as many as stand up to it, and those behind it
+pub dispatches_behind : (before : List EntryData) (entry : EntryData) (behind : List EntryData) (position : ℕ) (route : EntryRoute) (words : List AnswerWord) (quit : Bool)
+    → entry.plain.event ≡ event.Dispatched position route words quit → position ≡ dispatches before → dispatches (before ++ entry ∷ behind) ≡ suc position + dispatches behind
+dispatches_behind before entry behind position route words quit is at =
+    let one : counted (dispatches before) entry.plain.event ≡ dispatches before + 1 = ap (counted (dispatches before)) is in
+    omega (arith, counted_parts 0 before (entry ∷ behind), counted_from (counted (dispatches before) entry.plain.event) behind, one, at)
+
 pub last_dispatch : (before : List EntryData) (entry : EntryData) (behind : List EntryData) (position : ℕ) (route : EntryRoute) (words : List AnswerWord) (quit : Bool)
     → entry.plain.event ≡ event.Dispatched position route words quit → position ≡ dispatches before → dispatches behind ≡ 0 → dispatches (before ++ entry ∷ behind) ≡ suc position
-last_dispatch before entry behind position route words quit is at none =
-    let one : counted (dispatches before) entry.plain.event ≡ dispatches before + 1 = ap (counted (dispatches before)) is in
-    omega (arith, counted_parts 0 before (entry ∷ behind), counted_from (counted (dispatches before) entry.plain.event) behind, one, at, none)
+last_dispatch before entry behind position route words quit is at none = omega (arith, dispatches_behind before entry behind position route words quit is at, none)

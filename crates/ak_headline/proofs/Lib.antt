@@ -12,6 +12,7 @@ pub mod Lists
 pub mod Loopers
 pub mod LoopersSeeing
 pub mod LoopersTold
+pub mod MemoryTold
 pub mod Missing
 pub mod Once
 pub mod OneReply

@@ -54,10 +54,10 @@ use Rattle.ak_headline.proofs.SendsTold.{IsOwnEntry, all_own}
 use Rattle.ak_headline.proofs.SentOn.{Goes, comes_goes, entry_is_of, on, stays}
 
 -- ---- memory
-short_left : (xs ys : List Step) → ran_short xs ≡ true → ran_short (xs ++ ys) ≡ true
+pub short_left : (xs ys : List Step) → ran_short xs ≡ true → ran_short (xs ++ ys) ≡ true
 short_left xs ys e = list_any-append is_lack xs ys ∙ ap (λ b. b || ran_short ys) e
 
-short_right : (xs ys : List Step) → ran_short ys ≡ true → ran_short (xs ++ ys) ≡ true
+pub short_right : (xs ys : List Step) → ran_short ys ≡ true → ran_short (xs ++ ys) ≡ true
 short_right xs ys e = list_any-append is_lack xs ys ∙ ap (λ b. ran_short xs || b) e ∙ or_true (ran_short xs)
 
 -- ---- what the entry of a dispatch tells that has a reply
@@ -231,7 +231,7 @@ module _ (l : LooperFacts) (desk : List EntryData) (short : Bool) where
   IsLast work =
       (so_far turn : List Step) (d : IsDispatch l so_far turn) (stands : StandsIn desk d.noted) → work ≡ so_far ++ turn → ran_short turn ≡ true → (short ≡ true) × (dispatches stands.0 ≡ 0)
 
-  turn_works : (so_far turn : List Step) → IsTurn l so_far turn → is_closing so_far ≡ false
+  pub turn_works : (so_far turn : List Step) → IsTurn l so_far turn → is_closing so_far ≡ false
   turn_works so_far turn does = ⊎_elim (λ (t : IsTake l so_far turn). t.works) (λ (d : IsDispatch l so_far turn). d.works) does
 
   -- a turn before another one found memory
@@ -264,13 +264,13 @@ module _ (l : LooperFacts) (steps : List Step) (port : List PortEntry) (desk : L
   stands_so : AllStand l desk (ran_short steps) steps
   stands_so x there = All-contains (StandsIn desk) (noted by_number (thread_of l) desk) x (noted_stands by_number (thread_of l) desk) (subst (λ (k : List (Noted EntryData)). Contains k x) (sym has.desk_told) there)
 
-  stands_in_work : AllStand l desk (ran_short steps) work
+  pub stands_in_work : AllStand l desk (ran_short steps) work
   stands_in_work x there =
       stands_so x
       (subst (λ (k : List (Noted EntryData)). Contains k x) (sym (ap (desk_entries l.number) has.legal.is ∙ flat_map-append (desk_entry l.number) work has.legal.end))
       (Contains-append_left (desk_entries l.number work) (desk_entries l.number has.legal.end) x there))
 
-  last_in_work : IsLast l desk (ran_short steps) work
+  pub last_in_work : IsLast l desk (ran_short steps) work
   last_in_work so_far turn d stands is short =
       let told : noted by_number (thread_of l) desk ≡ desk_entries l.number so_far ++ d.noted ∷ [] =
       has.desk_told ∙ work_entries l steps port desk has ∙ ap (desk_entries l.number) is ∙ flat_map-append (desk_entry l.number) so_far turn

@@ -106,7 +106,7 @@ route_form position went.Skipped words quit looper e = absurd (cc e)
 route_form position went.Dropped words quit looper e = absurd (cc e)
 route_form position went.NotUnderstood words quit looper e = absurd (cc e)
 
-is_short : (short : List ℕ) (k : ℕ) → list_any (λ number. number == k) short ≡ true → Contains short k
+pub is_short : (short : List ℕ) (k : ℕ) → list_any (λ number. number == k) short ≡ true → Contains short k
 is_short short k e =
     let any = Any-from_list_any (λ number. number == k) short e in
     let same : any.1 ≡ k = eqb-true any.1 k any.4 in

@@ -1,15 +1,18 @@
 -- What holds of every run that ended, whatever the schedule: clause by clause.
-use Rattle.std.specs.Prelude.{◌≡◌, ◌<◌, ◌⊎◌, ℕ, suc, Bool, List, [], ◌∷◌, ◌++◌, length, Contains}
+use Rattle.std.specs.Prelude.{◌≡◌, ◌<◌, ◌⊎◌, ◌||◌, ℕ, suc, Bool, true, false, List, [], ◌∷◌, ◌++◌, length, Contains}
 use Rattle.ak_flatten.specs.Item.{ItemData}
 use Rattle.ak_roster.specs.declared.head.AppHead.{AppHead}
 use Rattle.ak_port.specs.declared.reply_entry.ReplyEntry.{ReplyEntry}
 use Rattle.ak_port.specs.declared.reply_entry.ReplyEvent.TheVariants as slot
 use Rattle.ak_port.specs.PortCalls.{PortData}
 use Rattle.ak_action.specs.declared.answer.AnswerWord.{AnswerWord}
+use Rattle.ak_desk.specs.declared.entry.DeskEvent.{DeskEvent}
 use Rattle.ak_desk.specs.declared.entry.DeskEvent.TheVariants as desk_event
 use Rattle.ak_desk.specs.declared.entry.EntryRoute.{EntryRoute}
 use Rattle.ak_desk.specs.Desk.{DeskData}
+use Rattle.ak_desk.specs.Dispatch.{ran_out}
 use Rattle.ak_desk.specs.Entry.{EntryData}
+use Rattle.ak_desk.specs.Machine.{dispatches, gives_up}
 use Rattle.ak_diary.specs.declared.histories.Histories.{Histories}
 use Rattle.ak_diary.specs.Diary.{IsDiary}
 use Rattle.ak_diary.specs.Laws.{IsAccountedFor, IsDispatchedSo}
@@ -58,6 +61,18 @@ pub record NoneIsMissing (sessions : ℕ) (heads : List AppHead) (short : List �
 abbrev pub EachSlotEnds : List ℕ → Histories → Type 0
 EachSlotEnds short h = (n : ℕ) (entry : ReplyEntry) → Contains h.book entry → entry.event ≡ slot.Opened n → GotOneReply h short n ⊎ WasWithdrawn h n
 
+-- ---- want of memory
+-- the dispatch was given up, or its last word tells that memory ran out
+abbrev pub tells_want : DeskEvent → Bool
+tells_want (desk_event.Dispatched position r words quit) = gives_up (desk_event.Dispatched position r words quit) || ran_out words
+tells_want (desk_event.Edited edit answer) = false
+
+-- a dispatch whose entry tells so is the last one of its desk, and its looper is among those that found no memory
+abbrev pub TellsWantOfMemory : List ℕ → ℕ → PortData → DeskData → Type 0
+TellsWantOfMemory short number port desk =
+    (before : List EntryData) (entry : EntryData) (behind : List EntryData) → desk.entries ≡ before ++ entry ∷ behind → tells_want entry.plain.event ≡ true
+    → Contains short number × (dispatches behind ≡ 0)
+
 -- ---- the laws
 abbrev pub RunsAreAccounted : Type 0
 RunsAreAccounted = (sessions : ℕ) (heads : List AppHead) (short : List ℕ) (h : Histories) → IsRunWith sessions heads short h → EachLooper h IsAccounted
@@ -67,6 +82,9 @@ RunsGoByRule = (sessions : ℕ) (heads : List AppHead) (short : List ℕ) (h : H
 
 abbrev pub RunsAnswer : Type 0
 RunsAnswer = (sessions : ℕ) (heads : List AppHead) (short : List ℕ) (h : Histories) → IsRunWith sessions heads short h → EachGotOneReply short h
+
+abbrev pub RunsTellWantOfMemory : Type 0
+RunsTellWantOfMemory = (sessions : ℕ) (heads : List AppHead) (short : List ℕ) (h : Histories) → IsRunWith sessions heads short h → EachLooper h (TellsWantOfMemory short)
 
 abbrev pub RunsMissNone : Type 0
 RunsMissNone = (sessions : ℕ) (heads : List AppHead) (short : List ℕ) (h : Histories) (run : IsRunWith sessions heads short h) → NoneIsMissing sessions heads short h run

@@ -22,6 +22,14 @@ pub fn runs_go_by_rule()
     ak_diary::each_is_dispatched_by_rule();
 }
 
+/// Want of memory is told: where a looper gave a dispatch up, or the last word of one tells that memory ran out, the
+/// looper is among those that found no memory, and dispatched nothing more.
+pub fn want_of_memory_is_told()
+    ensures { headline.RunsTellWantOfMemory }
+{
+    ak_diary::each_is_dispatched_by_rule();
+}
+
 /// By what the diaries tell of each slot, each accepted waiting send got one reply.
 fn tallies_tell_replies()
     ensures { headline.TalliesTellReplies }

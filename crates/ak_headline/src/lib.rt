@@ -10,7 +10,7 @@ mod tallies;
 
 pub use laws::{
     each_slot_comes_to_one_end, each_waiting_send_got_one_reply, no_fill_is_missing,
-    runs_are_accounted, runs_go_by_rule,
+    runs_are_accounted, runs_go_by_rule, want_of_memory_is_told,
 };
 pub use tallies::{
     loopers_pay, loopers_send_so, loopers_send_up, loopers_tally, main_asks_so, main_tallies,
