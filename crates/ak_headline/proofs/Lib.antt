@@ -28,4 +28,5 @@ pub mod SentOn
 pub mod Shares
 pub mod Sums
 pub mod Wanting
+pub mod WithMemory
 pub mod Written

@@ -1,5 +1,5 @@
 -- Where an entry tells want of memory, the diary of its looper tells it too, and nothing was dispatched behind it.
-use Rattle.std.proofs.Common.{◌≡◌, ℕ, suc, ◌+◌, ◌==◌, Bool, true, false, List, [], ◌∷◌, ◌++◌, map, Contains, refl, sym, ap, ◌∙◌, subst, append_assoc, arith, ⊎_elim}
+use Rattle.std.proofs.Common.{◌≡◌, ℕ, suc, ◌+◌, ◌==◌, Bool, true, false, List, [], ◌∷◌, ◌++◌, map, Contains, Some, option_map, slice_get, refl, sym, ap, ◌∙◌, subst, append_assoc, arith, ⊎_elim}
 use Rattle.std.specs.Prelude.{◌||◌}
 use Rattle.std.proofs.lemmas.Bool.{false≢true}
 use Rattle.std.proofs.lemmas.Grind.{flat_map-append}
@@ -9,6 +9,8 @@ use Rattle.ak_base.specs.Thread.{looper_thread}
 use Rattle.ak_flatten.specs.declared.item.Taken.{Taken}
 use Rattle.ak_turn.specs.Noted.{Noted, StandsIn, entry_of}
 use Rattle.ak_roster.specs.declared.head.AppHead.{AppHead}
+use Rattle.ak_port.specs.declared.port_entry.PortEntry.{PortEntry}
+use Rattle.ak_port.specs.PortCalls.{PortData}
 use Rattle.ak_route.specs.declared.outcome.Route.{Route}
 use Rattle.ak_route.specs.declared.outcome.Route.TheVariants as route
 use Rattle.ak_action.specs.declared.answer.Answer.{Answer}
@@ -20,20 +22,20 @@ use Rattle.ak_desk.specs.declared.entry.DeskEvent.TheVariants as event
 use Rattle.ak_desk.specs.declared.entry.EntryRoute.{EntryRoute}
 use Rattle.ak_desk.specs.declared.entry.EntryRoute.TheVariants as went
 use Rattle.ak_desk.specs.declared.made.Made.{Made}
-use Rattle.ak_desk.specs.Desk.{dispatched_entry, given_up_entry}
+use Rattle.ak_desk.specs.Desk.{DeskData, dispatched_entry, given_up_entry}
 use Rattle.ak_desk.specs.Dispatch.{entry_route, ran_out}
 use Rattle.ak_desk.specs.Entry.{EntryData}
-use Rattle.ak_desk.specs.Machine.{dispatches, gives_up}
+use Rattle.ak_desk.specs.Machine.{IsHistory, dispatches, gives_up}
 use Rattle.ak_desk.specs.Place.{routed_of}
 use Rattle.ak_desk.specs.Shared.{by_number}
 use Rattle.ak_diary.specs.declared.histories.Histories.{Histories}
 use Rattle.ak_diary.specs.Diary.{Works, begun, went_on}
-use Rattle.ak_diary.specs.Laws.{EachIsDispatchedByRule}
+use Rattle.ak_diary.specs.Laws.{EachIsDispatchedByRule, IsDispatchedSo, WasGivenUp, WentByRule}
 use Rattle.ak_diary.specs.Looper.{LooperFacts}
 use Rattle.ak_diary.specs.Looper as loopers
 use Rattle.ak_diary.specs.Step.{Step, at_desk, desk_entries, desk_entry, ran_short}
 use Rattle.ak_diary.specs.Turns.{Carried, ComesTo, GivenUp, IsDispatch, IsTake, lacked_if}
-use Rattle.ak_headline.specs.Headline.{RunsTellWantOfMemory, TellsWantOfMemory, tells_want}
+use Rattle.ak_headline.specs.Headline.{RunsTellWantOfMemory, TellsWantOfMemory, WentWithMemory, tells_want}
 use Rattle.ak_headline.specs.Run.{HasLooper, desk_list, port_list}
 use Rattle.ak_headline.proofs.Asking.{none_in, only_in}
 use Rattle.ak_headline.proofs.LastTurn.{dispatches_behind, short_closes}
@@ -44,6 +46,7 @@ use Rattle.ak_headline.proofs.Paying.{last_in_work, short_left, short_right, sta
 use Rattle.ak_headline.proofs.Replies.{is_short}
 use Rattle.ak_headline.proofs.Senders.{parted_in}
 use Rattle.ak_headline.proofs.SendsTold.{IsOwnEntry, all_own, contains_kept}
+use Rattle.ak_headline.proofs.WithMemory.{with_memory}
 
 -- ---- what a dispatch came to, by its entry
 pub record ComesSo (taken : Taken) (made : Made) (x : Noted EntryData) : Type 0 where
@@ -90,6 +93,10 @@ module _ (opening : DeskState) (taken : Taken) (asked : List Want) (heard : List
 
   comes_so : ComesTo opening taken asked heard made x → ComesSo taken made x
   comes_so comes = ⊎_elim (λ (c : Carried opening taken asked heard made x). carried_so c) (λ (c : GivenUp opening taken asked heard made x). given_up_so c) comes
+
+or_false : (a b : Bool) → (a || b) ≡ false → (a ≡ false) × (b ≡ false)
+or_false true b is = absurd (false≢true (sym is))
+or_false false b is = (refl, is)
 
 -- ---- its turn
 module _ (l : LooperFacts) where
@@ -222,11 +229,49 @@ module _ (law : EachIsDispatchedByRule) (heads : List AppHead) (short : List ℕ
   pub is_told : Contains short k × (dispatches behind ≡ 0)
   is_told = (is_short short k (sym has.short_is ∙ last.0), omega (arith, here, at_turn, same_position, last.1))
 
+-- ---- each other dispatch
+none_told : (position : ℕ) (r : EntryRoute) (words : List AnswerWord) (quit : Bool) → tells_want (event.Dispatched position r words quit) ≡ false → (gives_up (event.Dispatched position r words quit) ≡ false) × (ran_out words ≡ false)
+none_told position r words quit is = or_false (gives_up (event.Dispatched position r words quit)) (ran_out words) is
+
+went_so : (opening : DeskState) (l : LooperFacts) (port : List PortEntry) (before : List EntryData) (entry : EntryData) (position : ℕ) (r : EntryRoute) (words : List AnswerWord) (quit : Bool) → l.desk ≡ opening
+    → tells_want (event.Dispatched position r words quit) ≡ false → IsDispatchedSo l port before entry position r words quit → WentWithMemory opening before entry r words quit
+went_so opening l port before entry position r words quit is none so =
+    let told = none_told position r words quit none in
+    let goes : WentByRule so.meets so.item r words quit so.leaves =
+    ⊎_elim (λ (goes : WentByRule so.meets so.item r words quit so.leaves). goes)
+    (λ (given_up : WasGivenUp so.meets r words quit so.leaves).
+    absurd (false≢true (sym told.0 ∙ ap (λ (k : EntryRoute). gives_up (event.Dispatched position k words quit)) given_up.route))) so.goes in
+    record {
+      item = so.item;
+      item_is = so.item_is;
+      meets = so.meets;
+      leaves = so.leaves;
+      leads_there = subst (λ (s : DeskState). IsHistory s before so.meets) is so.leads_there;
+      leads_on = subst (λ (s : DeskState). IsHistory s (before ++ entry ∷ []) so.leaves) is so.leads_on;
+      route = goes.route;
+      dispatch = with_memory so.meets so.item words quit so.leaves goes.comes told.1;
+    }
+
 -- ---- of all
+module _ (law : EachIsDispatchedByRule) (heads : List AppHead) (short : List ℕ) (h : Histories) (k : ℕ) (has : HasLooper heads short h k) (port : PortData) (desk : DeskData)
+    (at_desk : slice_get h.desks.items k ≡ Some desk) where
+  desk_is : desk_list h k ≡ desk.entries
+  desk_is = desk_there h k desk at_desk
+
+  opening_is : has.facts.desk ≡ desk.opening
+  opening_is = let both : Some desk.opening ≡ Some has.facts.desk = sym (ap (λ o. option_map (λ (d : DeskData). d.opening) o) at_desk) ∙ has.opened in cc both
+
+  one_tells : TellsWantOfMemory short k port desk
+  one_tells = record {
+    told = λ before entry behind there tells. is_told law heads short h k has before entry behind (desk_is ∙ there) tells;
+    others = λ before entry behind position r words quit there is none.
+        went_so desk.opening has.facts (port_list h k) before entry position r words quit opening_is (ap tells_want (sym is) ∙ none)
+        (law has.facts has.steps (port_list h k) (desk_list h k) has.diary before entry behind position r words quit (desk_is ∙ there) is);
+  }
+
 pub runs_tell_want_of_memory : EachIsDispatchedByRule → RunsTellWantOfMemory
 runs_tell_want_of_memory law sessions heads short h run =
     each_at (TellsWantOfMemory short) 0 h.ports.items h.desks.items run.histories.each
-    (λ k port desk at_port at_desk before entry behind there tells.
+    (λ k port desk at_port at_desk.
     let same : k ≡ 0 + k = omega arith in
-    subst (λ (m : ℕ). Contains short m × (dispatches behind ≡ 0)) same
-    (is_told law heads short h k (run.loopers k (slice_get_within h.ports.items k port at_port)) before entry behind (desk_there h k desk at_desk ∙ there) tells))
+    subst (λ (m : ℕ). TellsWantOfMemory short m port desk) same (one_tells law heads short h k (run.loopers k (slice_get_within h.ports.items k port at_port)) port desk at_desk))

@@ -1,18 +1,20 @@
 -- What holds of every run that ended, whatever the schedule: clause by clause.
-use Rattle.std.specs.Prelude.{◌≡◌, ◌<◌, ◌⊎◌, ◌||◌, ℕ, suc, Bool, true, false, List, [], ◌∷◌, ◌++◌, length, Contains}
+use Rattle.std.specs.Prelude.{◌≡◌, ◌<◌, ◌⊎◌, ◌||◌, ℕ, suc, Bool, true, false, List, [], ◌∷◌, ◌++◌, length, Contains, None, Some}
 use Rattle.ak_flatten.specs.Item.{ItemData}
 use Rattle.ak_roster.specs.declared.head.AppHead.{AppHead}
 use Rattle.ak_port.specs.declared.reply_entry.ReplyEntry.{ReplyEntry}
 use Rattle.ak_port.specs.declared.reply_entry.ReplyEvent.TheVariants as slot
 use Rattle.ak_port.specs.PortCalls.{PortData}
 use Rattle.ak_action.specs.declared.answer.AnswerWord.{AnswerWord}
+use Rattle.ak_action.specs.declared.state.DeskState.{DeskState}
 use Rattle.ak_desk.specs.declared.entry.DeskEvent.{DeskEvent}
 use Rattle.ak_desk.specs.declared.entry.DeskEvent.TheVariants as desk_event
 use Rattle.ak_desk.specs.declared.entry.EntryRoute.{EntryRoute}
 use Rattle.ak_desk.specs.Desk.{DeskData}
-use Rattle.ak_desk.specs.Dispatch.{ran_out}
+use Rattle.ak_desk.specs.Dispatch.{entry_route, ran_out}
 use Rattle.ak_desk.specs.Entry.{EntryData}
-use Rattle.ak_desk.specs.Machine.{dispatches, gives_up}
+use Rattle.ak_desk.specs.Machine.{Dispatches, IsHistory, dispatches, gives_up}
+use Rattle.ak_desk.specs.Place.{routed_of}
 use Rattle.ak_diary.specs.declared.histories.Histories.{Histories}
 use Rattle.ak_diary.specs.Diary.{IsDiary}
 use Rattle.ak_diary.specs.Laws.{IsAccountedFor, IsDispatchedSo}
@@ -67,11 +69,30 @@ abbrev pub tells_want : DeskEvent → Bool
 tells_want (desk_event.Dispatched position r words quit) = gives_up (desk_event.Dispatched position r words quit) || ran_out words
 tells_want (desk_event.Edited edit answer) = false
 
--- a dispatch whose entry tells so is the last one of its desk, and its looper is among those that found no memory
-abbrev pub TellsWantOfMemory : List ℕ → ℕ → PortData → DeskData → Type 0
-TellsWantOfMemory short number port desk =
-    (before : List EntryData) (entry : EntryData) (behind : List EntryData) → desk.entries ≡ before ++ entry ∷ behind → tells_want entry.plain.event ≡ true
-    → Contains short number × (dispatches behind ≡ 0)
+-- the message comes to that with memory at every place
+pub record DispatchesWithMemory (meets : DeskState) (item : ItemData) (words : List AnswerWord) (quit : Bool) (leaves : DeskState) : Type 0 where
+  pub comes : Dispatches meets item words quit leaves
+  pub memory : comes.memory ≡ None
+
+-- the entry's message, for the looper's handlers at that moment
+pub record WentWithMemory (opening : DeskState) (before : List EntryData) (entry : EntryData) (r : EntryRoute) (words : List AnswerWord) (quit : Bool) : Type 0 where
+  pub item : ItemData
+  pub item_is : entry.item ≡ Some item
+  pub meets : DeskState
+  pub leaves : DeskState
+  pub leads_there : IsHistory opening before meets
+  pub leads_on : IsHistory opening (before ++ entry ∷ []) leaves
+  pub route : r ≡ entry_route meets (routed_of meets item).route
+  pub dispatch : DispatchesWithMemory meets item words quit leaves
+
+-- a dispatch whose entry tells want of memory is the last one of its desk, and its looper is among those that found no memory; each other
+-- one went as the rules say with memory at every place
+pub record TellsWantOfMemory (short : List ℕ) (number : ℕ) (port : PortData) (desk : DeskData) : Type 0 where
+  pub told : (before : List EntryData) (entry : EntryData) (behind : List EntryData) → desk.entries ≡ before ++ entry ∷ behind → tells_want entry.plain.event ≡ true
+      → Contains short number × (dispatches behind ≡ 0)
+  pub others : (before : List EntryData) (entry : EntryData) (behind : List EntryData) (position : ℕ) (r : EntryRoute) (words : List AnswerWord) (quit : Bool)
+      → desk.entries ≡ before ++ entry ∷ behind → entry.plain.event ≡ desk_event.Dispatched position r words quit → tells_want entry.plain.event ≡ false
+      → WentWithMemory desk.opening before entry r words quit
 
 -- ---- the laws
 abbrev pub RunsAreAccounted : Type 0

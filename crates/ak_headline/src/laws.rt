@@ -23,7 +23,8 @@ pub fn runs_go_by_rule()
 }
 
 /// Want of memory is told: where a looper gave a dispatch up, or the last word of one tells that memory ran out, the
-/// looper is among those that found no memory, and dispatched nothing more.
+/// looper is among those that found no memory, and dispatched nothing more. Each other dispatch is what the rules make
+/// of its message with memory at every place.
 pub fn want_of_memory_is_told()
     ensures { headline.RunsTellWantOfMemory }
 {
@@ -56,8 +57,8 @@ pub fn each_waiting_send_got_one_reply()
     sessions_ask_so();
 }
 
-/// No fill and no cancel of a run is missing: main, each looper and each session saw the reply book for no step without
-/// an entry. So each slot that one of them was to fill or to cancel it filled or cancelled itself.
+/// No fill and no cancel of a run is missing: the diaries of main, of each looper and of each session have no sight of
+/// the reply book without an entry. So each slot that one of them was to fill or to cancel it filled or cancelled itself.
 pub fn no_fill_is_missing()
     ensures { headline.RunsMissNone }
 {
