@@ -74,7 +74,7 @@ pub record DispatchesWithMemory (meets : DeskState) (item : ItemData) (words : L
   pub comes : Dispatches meets item words quit leaves
   pub memory : comes.memory ≡ None
 
--- the entry's message, for the looper's handlers at that moment
+-- the entry's message went where the rules send it, and came to what they make of it, with the handlers as the list before it leads to them
 pub record WentWithMemory (opening : DeskState) (before : List EntryData) (entry : EntryData) (r : EntryRoute) (words : List AnswerWord) (quit : Bool) : Type 0 where
   pub item : ItemData
   pub item_is : entry.item ≡ Some item
