@@ -44,18 +44,19 @@ fn an_input_may_be_refused(rt: HostRuntime) -> Result<(), Fail> {
 }
 
 // ---- how long it may be
-// So many bytes, of which those behind the input are a line that says nothing.
-fn long_input(alloc: Global, length: usize) -> Result<Bytes, Fail> {
-    let blanks = " ".repeat(alloc, length.saturating_sub(INPUT.len()))?;
-    Ok(bytes_of(alloc, &[INPUT.as_bytes(), blanks.as_bytes()])?)
+// So many bytes, of which those behind the lines are one that says nothing.
+fn long_input(alloc: Global, lines: &str, length: usize) -> Result<Bytes, Fail> {
+    let comment = "#".repeat(alloc, length.saturating_sub(lines.len()))?;
+    Ok(bytes_of(alloc, &[lines.as_bytes(), comment.as_bytes()])?)
 }
 
-// The length, and the read that fails, of 4,096 bytes each.
-static LENGTHS: [(usize, u64); 4] = [
-    (1_048_576, 0),
-    (1_048_577, 0),
-    (1_048_577, 200),
-    (1_050_000, 0),
+// The lines, the length, and the read that fails, of 4,096 bytes each. The last input is one line.
+static LENGTHS: [(&str, usize, u64); 5] = [
+    (INPUT, 1_048_576, 0),
+    (INPUT, 1_048_577, 0),
+    (INPUT, 1_048_577, 200),
+    (INPUT, 1_050_000, 0),
+    ("", 1_048_577, 0),
 ];
 
 const LONG: &str = "launch team 1
@@ -67,6 +68,8 @@ read fault
 = 3 read fault, 4096 left, no run
 refused line 10: input too long
 = 2 refused, 1423 left, no run
+refused line 1: input too long
+= 2 refused, 0 left, no run
 ";
 
 fn told_of_lengths<R: Threads + Wait + Copy + Send + 'static>(
@@ -74,8 +77,8 @@ fn told_of_lengths<R: Threads + Wait + Copy + Send + 'static>(
     alloc: Global,
 ) -> Result<Bytes, Fail> {
     let mut out = Bytes::new(alloc);
-    for (length, read) in &LENGTHS {
-        let input = long_input(alloc, *length)?;
+    for (lines, length, read) in &LENGTHS {
+        let input = long_input(alloc, *lines, *length)?;
         tell_case(&mut out, rt, alloc, Case { read: *read, ..RUN }, input)?;
     }
     Ok(out)
