@@ -18,6 +18,7 @@ pub mod Posts
 pub mod ReadingAgain
 pub mod Refusing
 pub mod Saying
+pub mod Splitting
 pub mod Stages
 pub mod Stepping
 pub mod Taking

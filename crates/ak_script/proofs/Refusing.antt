@@ -1,6 +1,6 @@
 -- An input is the text of a script, or has a first refusal; the one is read of it, and the other told.
-use Rattle.std.proofs.Common.{◌≡◌, inl, inr, ◌≤◌, ◌<◌, ℕ, Bool, true, false, if◌then◌else◌, List, [], ◌∷◌, ◌++◌, length, Option, Some, None, Result, Ok, Err, refl, ap, sym, subst, ◌∙◌, append_assoc, arith}
-use Rattle.std.specs.Prelude.{IfErr, nat_le, ◌-◌, suc, slice_get, option_map}
+use Rattle.std.proofs.Common.{◌≡◌, ◌⊎◌, inl, inr, ◌≤◌, ◌<◌, ℕ, Bool, true, false, if◌then◌else◌, List, [], ◌∷◌, ◌++◌, length, Option, Some, None, Result, Ok, Err, refl, ap, sym, subst, ◌∙◌, append_assoc, arith}
+use Rattle.std.specs.Prelude.{IfErr, IfOk, nat_le, ◌-◌, suc, slice_get, option_map}
 use Rattle.std.proofs.lemmas.Grind.{common_steps}
 use Rattle.std.proofs.lemmas.List.{append-nil}
 use Rattle.ak_base.specs.declared.ending.RefusalKind.{RefusalKind}
@@ -29,13 +29,15 @@ use Rattle.ak_script.specs.declared.part.Part.TheVariants as part
 use Rattle.ak_script.specs.declared.script.Script.{Script}
 use Rattle.ak_script.specs.Answers.{Answers, IsTold}
 use Rattle.ak_script.specs.Faulty.{StatementFaultsAreTold, SessionFaultsAreTold}
+use Rattle.ak_script.specs.InputLines.{AreLinesOf}
 use Rattle.ak_script.specs.Pass.{SoFar, nothing_said, refused_at, line_said, lines_said, no_words, block_fault, ended, first_pass}
-use Rattle.ak_script.specs.Refusals.{Place, first_place, described_place, statement_place, block_place, Lead, IsLineFault, MayEnd, described_lines_of, statements_of, ArePassed, ScriptOf, IsTooLong, IsFirstLineFault, HasNoWords, EndTooEarly, FirstFault, FirstRefusal, IsRefusalOf, ScriptsAreRead, FirstRefusalIsTold}
+use Rattle.ak_script.specs.Refusals.{Place, first_place, described_place, statement_place, block_place, Lead, IsLineFault, MayEnd, described_lines_of, statements_of, ArePassed, ScriptOf, IsTooLong, IsFirstLineFault, IsWithoutWords, EndTooEarly, FirstFault, FirstRefusal, IsRefusalOf, ScriptsAreRead, FirstRefusalIsTold, OneOfBoth, NeverBoth, OneScript, OneFirstRefusal}
 use Rattle.ak_script.specs.Says.{StatementsAreRead, SessionLinesAreRead}
 use Rattle.ak_script.specs.Script.{ScriptData, with_apps, second_pass, script_in, unless_long, script_of}
 use Rattle.ak_script.specs.Seen.{script_seen}
 use Rattle.ak_script.specs.Statement.{StatementData}
 use Rattle.ak_script.proofs.Leading.{complete_ends, lead_said, open_ends, read_there, state_at}
+use Rattle.ak_script.proofs.Splitting.{lines_are_split}
 use Rattle.ak_script.proofs.Stages.{lines_said-append}
 use Rattle.ak_script.proofs.Stepping.{Step, goes_on, not_both, stops}
 use Rattle.ak_script.proofs.InBlocks.{step}
@@ -175,7 +177,7 @@ line_refused laws read number kind f =
     ∙ stop_there (state_at f.place) f.line f.rest (refused_at f.line.number kind) told
     ∙ err_of (refused_at f.line.number kind) (refused_at number kind) (refusal_of number f.line.number kind kind f.number_is refl))
 
-words_refused : Laws → (read : InputLines) (number : ℕ) (kind : RefusalKind) → HasNoWords read number kind → first_pass read ≡ Err (refused_at number kind)
+words_refused : Laws → (read : InputLines) (number : ℕ) (kind : RefusalKind) → IsWithoutWords read number kind → first_pass read ≡ Err (refused_at number kind)
 words_refused laws read number kind f =
     pass_on read (state_at f.place) (lead_of laws read.lines f.place f.lead)
     ∙ ap (λ (o : Option LineFault). then_read (or_refused (no_words o) (state_at f.place)) (ended read.lines)) f.fault
@@ -237,6 +239,10 @@ second_alone ds number kind p (inr (inl u)) =
 second_alone ds number kind p (inr (inr f)) = f
 
 -- ---- what an input is
+-- its lines have a first fault
+faulty : (input : List ℕ) (number : ℕ) (kind : RefusalKind) → length input ≤ input_limit → FirstFault (lines_of input) number kind → FirstRefusal input number kind
+faulty input number kind fits f = inr (record { fits = fits; read = lines_of input; lines_are = (lines_are_split input (lines_of input)).0 refl; fault = f })
+
 data Answer (input : List ℕ) : Type 0 where
   is_script : (s : ScriptData) → ScriptOf input s → Answer input
   is_refused : (r : Refusal) → FirstRefusal input r.line r.kind → Answer input
@@ -244,10 +250,10 @@ data Answer (input : List ℕ) : Type 0 where
 passed_answer : Laws → (input : List ℕ) → length input ≤ input_limit → (p : Place) → ArePassed (lines_of input) p → (o : Result (List AppText) Refusal) → description (described_lines_of p) ≡ o → Answer input
 passed_answer laws input fits p passed (Ok apps) e =
     is_script (record { apps = apps; statements = statements_of p })
-    (record { fits = fits; place = p; passed = passed; apps_are = (laws.described (described_lines_of p) apps).0 e; statements_are = refl })
+    (record { fits = fits; read = lines_of input; lines_are = (lines_are_split input (lines_of input)).0 refl; place = p; passed = passed; apps_are = (laws.described (described_lines_of p) apps).0 e; statements_are = refl })
 passed_answer laws input fits p passed (Err r) e =
     let fault = second_alone (described_lines_of p) r.line r.kind (passed_there (lines_of input).lines p passed.lead passed.may_end) ((laws.first_fault (described_lines_of p) r).0 e) in
-    is_refused r (inr (fits, inr (inr (inr (record { place = p; passed = passed; fault = fault })))))
+    is_refused r (faulty input r.line r.kind fits (inr (inr (inr (record { place = p; passed = passed; fault = fault })))))
 
 end_answer : Laws → (input : List ℕ) → length input ≤ input_limit → (p : Place) → Lead (lines_of input).lines p → (lines_of input).fault ≡ None → Ending p → Answer input
 end_answer laws input fits p lead none (may_end ends) =
@@ -255,29 +261,27 @@ end_answer laws input fits p lead none (may_end ends) =
 end_answer laws input fits p lead none (may_not_end open_place) =
     let e = ends_open (lines_of input).lines p lead open_place in
     is_refused (refused_at (number_behind e.last) refusal.Unfinished)
-    (inr (
-      fits,
-      inr (inr (inl (record {
-        have_words = none;
-        place = p;
-        lead = lead;
-        open_place = open_place;
-        last = e.last;
-        last_is = e.last_is;
-        number_is = refl;
-        kind_is = refl;
-      }))),
-    ))
+    (faulty input (number_behind e.last) refusal.Unfinished fits
+    (inr (inr (inl (record {
+      have_words = none;
+      place = p;
+      lead = lead;
+      open_place = open_place;
+      last = e.last;
+      last_is = e.last_is;
+      number_is = refl;
+      kind_is = refl;
+    })))))
 
 words_answer : Laws → (input : List ℕ) → length input ≤ input_limit → (p : Place) → Lead (lines_of input).lines p → (o : Option LineFault) → (lines_of input).fault ≡ o → Answer input
 words_answer laws input fits p lead None is = end_answer laws input fits p lead is (ending p)
-words_answer laws input fits p lead (Some f) is = is_refused (refused_at f.line f.kind) (inr (fits, inr (inl (record { place = p; lead = lead; fault = is }))))
+words_answer laws input fits p lead (Some f) is = is_refused (refused_at f.line f.kind) (faulty input f.line f.kind fits (inr (inl (record { place = p; lead = lead; fault = is }))))
 
 walk_answer : Laws → (input : List ℕ) → length input ≤ input_limit → Walk (lines_of input).lines → Answer input
 walk_answer laws input fits (walked p lead) = words_answer laws input fits p lead (lines_of input).fault refl
 walk_answer laws input fits (stopped front line rest p kind all lead fault) =
     is_refused (refused_at line.number kind)
-    (inr (fits, inl (record { front = front; line = line; rest = rest; all = all; place = p; lead = lead; fault = fault; number_is = refl })))
+    (faulty input line.number kind fits (inl (record { front = front; line = line; rest = rest; all = all; place = p; lead = lead; fault = fault; number_is = refl })))
 
 within : (input : List ℕ) → nat_le (length input) input_limit ≡ true → length input ≤ input_limit
 within input is = grind (arith, common_steps)
@@ -302,9 +306,9 @@ is_beyond input long =
     let is : nat_le (length input) input_limit ≡ false = grind (arith, common_steps) in
     ap (λ (b : Bool). if b then None else Some (line_at input_limit input)) is
 
-whole_of : (input : List ℕ) → length input ≤ input_limit → script_of input ≡ script_in (lines_of input)
+whole_of : (input : List ℕ) (read : InputLines) → length input ≤ input_limit → AreLinesOf input read → script_of input ≡ script_in read
 unfolding script_of
-whole_of input fits = ap (λ (o : Option ℕ). unless_long o (lines_of input)) (is_within input fits)
+whole_of input read fits are = ap (λ (o : Option ℕ). unless_long o (lines_of input)) (is_within input fits) ∙ ap script_in ((lines_are_split input read).1 are)
 
 long_refused : (input : List ℕ) (number : ℕ) (kind : RefusalKind) → IsTooLong input number kind → script_of input ≡ Err (refused_at number kind)
 unfolding script_of
@@ -317,7 +321,7 @@ long_refused input number kind l =
 
 script_read : Laws → (input : List ℕ) (s : ScriptData) → ScriptOf input s → script_of input ≡ Ok s
 script_read laws input s is =
-    whole_of input is.fits ∙ in_passed laws (lines_of input) is.place is.passed
+    whole_of input is.read is.fits is.lines_are ∙ in_passed laws is.read is.place is.passed
     ∙ ap (λ (r : Result (List AppText) Refusal). then_read r (with_apps (statements_of is.place))) ((laws.described (described_lines_of is.place) s.apps).1 is.apps_are)
     ∙ ap (λ (xs : List StatementData). script_with xs) (sym is.statements_are)
   where
@@ -326,7 +330,7 @@ script_read laws input s is =
 
 refusal_told : Laws → (input : List ℕ) (number : ℕ) (kind : RefusalKind) → FirstRefusal input number kind → script_of input ≡ Err (refused_at number kind)
 refusal_told laws input number kind (inl l) = long_refused input number kind l
-refusal_told laws input number kind (inr f) = whole_of input f.0 ∙ first_refused laws (lines_of input) number kind f.1
+refusal_told laws input number kind (inr f) = whole_of input f.read f.fits f.lines_are ∙ first_refused laws f.read number kind f.fault
 
 same_script : (o : Result ScriptData Refusal) (s t : ScriptData) → o ≡ Ok s → o ≡ Ok t → s ≡ t
 same_script o s t e f = cc
@@ -351,6 +355,24 @@ scripts_are_read laws input s = (λ e. script_by laws input s e (answer laws inp
 pub first_refusal_is_told : Laws → FirstRefusalIsTold
 first_refusal_is_told laws input r = (λ e. refusal_by laws input r e (answer laws input), refusal_told laws input r.line r.kind)
 
+one_by : (input : List ℕ) → Answer input → ((s : ScriptData) × ScriptOf input s) ⊎ ((r : Refusal) × FirstRefusal input r.line r.kind)
+one_by input (is_script s is) = inl (s, is)
+one_by input (is_refused r f) = inr (r, f)
+
+pub one_of_both : Laws → OneOfBoth
+one_of_both laws input = one_by input (answer laws input)
+
+pub never_both : Laws → NeverBoth
+never_both laws input s r is f = script_or_not (script_of input) s r (script_read laws input s is) (refusal_told laws input r.line r.kind f)
+
+pub one_script : Laws → OneScript
+one_script laws input s other is was = same_script (script_of input) s other (script_read laws input s is) (script_read laws input other was)
+
+pub one_first_refusal : Laws → OneFirstRefusal
+one_first_refusal laws input number other kind another f g =
+    let same = same_refusal (script_of input) (refused_at number kind) (refused_at other another) (refusal_told laws input number kind f) (refusal_told laws input other another g) in
+    (ap (λ (r : Refusal). r.line) same, ap (λ (r : Refusal). r.kind) same)
+
 -- ---- what is answered
 refusal_answered : FirstRefusalIsTold → (input : List ℕ) (e : ScriptFault) → IsTold e (script_of input) → IsRefusalOf input e
 refusal_answered law input (answers.Refused number kind) told = (law input (refused_at number kind)).0 told
@@ -360,6 +382,6 @@ pub answered : FirstRefusalIsTold → (input : List ℕ) (result : Result Script
 answered law input (Ok script) told = tt
 answered law input (Err e) told = refusal_answered law input e told
 
-pub whole_read : (input : List ℕ) (read : InputLines) → (too_long input ≡ None) × (lines_of input ≡ read) → script_of input ≡ script_in read
-unfolding script_of
-whole_read input read split = ap (λ (o : Option ℕ). unless_long o (lines_of input)) split.0 ∙ ap script_in split.1
+pub said_of : ScriptsAreRead → (input : List ℕ) (result : Result Script ScriptFault) → Answers script_seen result (script_of input) → IfOk result (λ script. ScriptOf input (script_seen script))
+said_of law input (Ok script) told = (law input (script_seen script)).0 told
+said_of law input (Err e) told = tt

@@ -5,6 +5,7 @@ pub mod Faults
 pub mod Faulty
 pub mod Forms
 pub mod Generated
+pub mod InputLines
 pub mod Laws
 pub mod Limits
 pub mod Messages

@@ -5,7 +5,7 @@ use Rattle.ak_base.specs.declared.ending.RefusalKind.TheVariants as refusal
 use Rattle.ak_message.specs.declared.line.Line.{Line}
 use Rattle.ak_message.specs.declared.lines.InputLines.{InputLines}
 use Rattle.ak_message.specs.Limits.{input_limit}
-use Rattle.ak_message.specs.Lines.{line_at, lines_of}
+use Rattle.ak_message.specs.Lines.{line_at}
 use Rattle.ak_describe.specs.Describes as descriptions
 use Rattle.ak_describe.specs.Describes.{Describes, Follow}
 use Rattle.ak_describe.specs.Laws.{IsPassed}
@@ -16,6 +16,7 @@ use Rattle.ak_script.specs.declared.fault.ScriptFault.{ScriptFault}
 use Rattle.ak_script.specs.declared.fault.ScriptFault.TheVariants as answer
 use Rattle.ak_script.specs.Blocks.{Block, closed}
 use Rattle.ak_script.specs.Faulty.{Key, kit_key, script_key, launch_key, hey_key, post_key, lock_key, together_key, session_key, end_key, IsStatementKey, IsSessionKey, AreOfForm, Opens, IsUnknown, IsBad, IsBadHey, IsOver}
+use Rattle.ak_script.specs.InputLines.{AreLinesOf}
 use Rattle.ak_script.specs.Limits.{session_limit, statement_limit}
 use Rattle.ak_script.specs.SaysLines.{IsAlone, SayLines, SaySessions, SayAll}
 use Rattle.ak_script.specs.Script.{ScriptData, script_of}
@@ -185,8 +186,10 @@ pub record ArePassed (read : InputLines) (p : Place) : Type 0 where
 -- an input that is not too long, whose lines describe the applications and say the statements
 pub record ScriptOf (input : List ℕ) (s : ScriptData) : Type 0 where
   pub fits : length input ≤ input_limit
+  pub read : InputLines
+  pub lines_are : AreLinesOf input read
   pub place : Place
-  pub passed : ArePassed (lines_of input) place
+  pub passed : ArePassed read place
   pub apps_are : Describes (described_lines_of place) s.apps
   pub statements_are : s.statements ≡ statements_of place
 
@@ -208,7 +211,7 @@ pub record IsFirstLineFault (read : InputLines) (number : ℕ) (kind : RefusalKi
   pub number_is : number ≡ line.number
 
 -- a line has no words, and nothing is wrong with the lines before it
-pub record HasNoWords (read : InputLines) (number : ℕ) (kind : RefusalKind) : Type 0 where
+pub record IsWithoutWords (read : InputLines) (number : ℕ) (kind : RefusalKind) : Type 0 where
   pub place : Place
   pub lead : Lead read.lines place
   pub fault : read.fault ≡ Some (record { line = number; kind = kind })
@@ -232,10 +235,17 @@ pub record IsSecondFault (read : InputLines) (number : ℕ) (kind : RefusalKind)
 
 abbrev pub FirstFault : InputLines → ℕ → RefusalKind → Type 0
 FirstFault read number kind =
-    IsFirstLineFault read number kind ⊎ (HasNoWords read number kind ⊎ (EndTooEarly read number kind ⊎ IsSecondFault read number kind))
+    IsFirstLineFault read number kind ⊎ (IsWithoutWords read number kind ⊎ (EndTooEarly read number kind ⊎ IsSecondFault read number kind))
+
+-- an input that is not too long, whose lines have this first fault
+pub record IsFaulty (input : List ℕ) (number : ℕ) (kind : RefusalKind) : Type 0 where
+  pub fits : length input ≤ input_limit
+  pub read : InputLines
+  pub lines_are : AreLinesOf input read
+  pub fault : FirstFault read number kind
 
 abbrev pub FirstRefusal : List ℕ → ℕ → RefusalKind → Type 0
-FirstRefusal input number kind = IsTooLong input number kind ⊎ ((length input ≤ input_limit) × FirstFault (lines_of input) number kind)
+FirstRefusal input number kind = IsTooLong input number kind ⊎ IsFaulty input number kind
 
 -- a fault that is answered is the first refusal
 abbrev pub IsRefusalOf : List ℕ → ScriptFault → Type 0
@@ -250,3 +260,18 @@ ScriptsAreRead = (input : List ℕ) (s : ScriptData) → (script_of input ≡ Ok
 -- exactly its first refusal is told of it
 abbrev pub FirstRefusalIsTold : Type 0
 FirstRefusalIsTold = (input : List ℕ) (r : Refusal) → (script_of input ≡ Err r) ↔ FirstRefusal input r.line r.kind
+
+-- an input is the text of a script, or has a first refusal, and not both; the script is one, and so is the refusal
+abbrev pub OneOfBoth : Type 0
+OneOfBoth = (input : List ℕ) → ((s : ScriptData) × ScriptOf input s) ⊎ ((r : Refusal) × FirstRefusal input r.line r.kind)
+
+abbrev pub NeverBoth : Type 0
+NeverBoth = (input : List ℕ) (s : ScriptData) (r : Refusal) → ScriptOf input s → FirstRefusal input r.line r.kind → ⊥
+
+abbrev pub OneScript : Type 0
+OneScript = (input : List ℕ) (s other : ScriptData) → ScriptOf input s → ScriptOf input other → s ≡ other
+
+abbrev pub OneFirstRefusal : Type 0
+OneFirstRefusal =
+    (input : List ℕ) (number other : ℕ) (kind another : RefusalKind) → FirstRefusal input number kind → FirstRefusal input other another
+    → (number ≡ other) × (kind ≡ another)

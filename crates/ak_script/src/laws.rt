@@ -1,8 +1,9 @@
 //! What holds of all inputs.
 
 ghost use Rattle.ak_script.specs.Faulty.{FirstBadIsTold, LongHeysAreLimits, SessionFaultsAreTold, StatementFaultsAreTold};
+ghost use Rattle.ak_script.specs.InputLines.{LinesAreSplit};
 ghost use Rattle.ak_script.specs.Laws.{NotBoth, ScriptOrRefusal, ScriptsAreWhole};
-ghost use Rattle.ak_script.specs.Refusals.{FirstRefusalIsTold, ScriptsAreRead};
+ghost use Rattle.ak_script.specs.Refusals.{FirstRefusalIsTold, NeverBoth, OneFirstRefusal, OneOfBoth, OneScript, ScriptsAreRead};
 ghost use Rattle.ak_script.specs.Says.{BadHeysAreTold, BadHeysInSessionsAreTold, SessionLinesAreRead, StatementsAreRead};
 ghost use Rattle.ak_script.specs.SaysLines.{LinesAreRead};
 
@@ -63,6 +64,26 @@ pub fn statement_faults_are_told()
     ensures in_sessions { SessionFaultsAreTold }
 {
     hey_lines_are_read();
+}
+
+/// An input is split into exactly its lines, up to the first one without words: each piece between two LFs that says
+/// something, with its number, and its words with the blanks between them.
+pub fn lines_are_split()
+    ensures { LinesAreSplit }
+{}
+
+/// An input is the text of a script, or has a first refusal, and not both; the script is one, and so is the refusal.
+pub fn one_script_or_refusal()
+    ensures either { OneOfBoth }
+    ensures not_both { NeverBoth }
+    ensures one_script { OneScript }
+    ensures one_refusal { OneFirstRefusal }
+{
+    descriptions_are_read();
+    passes_make_descriptions();
+    statements_are_read();
+    session_lines_are_read();
+    statement_faults_are_told();
 }
 
 /// Exactly the script that an input is the text of is read of it, and exactly its first refusal is told.

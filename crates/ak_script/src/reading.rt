@@ -31,7 +31,6 @@ use std::alloc::Global;
 /// block, that is `Unfinished`. Where the first pass finds nothing, the second one goes over the names in the
 /// descriptions: `UnknownName`, `ChainLoop` or `AskOrder`. An input in which no line says anything is the empty
 /// script. Answers `NoMemory` where memory ran out.
-#[tactic(auto, unfolding(crate::specs::Script::script_of))]
 pub fn read_script(alloc: Global, input: &[u8]) -> Result<Script, ScriptFault>
     ensures answer { Answers script_seen result (reads.script_of input.now) }
     ensures said { IfOk result (λ script. ScriptOf input.now (script_seen script)) }
@@ -39,6 +38,15 @@ pub fn read_script(alloc: Global, input: &[u8]) -> Result<Script, ScriptFault>
     ensures whole { IfOk result (λ script. AreWholeApps script.apps.items) }
 {
     scripts_are_read();
+    read_input(alloc, input)
+}
+
+// The same, as it is read.
+#[tactic(auto, unfolding(crate::specs::Script::script_of))]
+fn read_input(alloc: Global, input: &[u8]) -> Result<Script, ScriptFault>
+    ensures answer { Answers script_seen result (reads.script_of input.now) }
+    ensures whole { IfOk result (λ script. AreWholeApps script.apps.items) }
+{
     let read = split_lines(alloc, input)?;
     script_in(alloc, &read)
 }

@@ -1,11 +1,9 @@
--- What is answered is the first refusal of the input.
-use Rattle.std.proofs.Common.{sym, subst}
-use Rattle.ak_script.specs.Answers.{Answers}
-use Rattle.ak_script.specs.Seen.{script_seen}
-use Rattle.ak_script.proofs.Refusing.{answered, whole_read}
+-- What is answered is the script that the input is the text of, or its first refusal.
+use Rattle.ak_script.proofs.Refusing.{answered, said_of}
 use Rattle.ak_script.proofs.reading.read_script.Goals as goal
 
+pub returns-clause-said : goal.returns-clause-said
+returns-clause-said c = said_of c.scripts_are_read.ensures.said c.args.input.now c.read_input.result c.read_input.ensures.answer
+
 pub returns-clause-refused : goal.returns-clause-refused
-returns-clause-refused c =
-    answered c.scripts_are_read.ensures.refused c.args.input.now c.script_in.result
-    (subst (Answers script_seen c.script_in.result) (sym (whole_read c.args.input.now c.in_ok-read.read c.in_ok-read.ensures)) c.script_in.ensures.answer)
+returns-clause-refused c = answered c.scripts_are_read.ensures.refused c.args.input.now c.read_input.result c.read_input.ensures.answer
