@@ -175,7 +175,7 @@ verb_of_key together_key is = absurd is
 verb_of_key session_key is = absurd is
 verb_of_key end_key is = absurd is
 
-in_statement : (key : Key) → IsSessionKey key → IsStatementKey key
+pub in_statement : (key : Key) → IsSessionKey key → IsStatementKey key
 in_statement hey_key is = tt
 in_statement post_key is = tt
 in_statement lock_key is = tt

@@ -16,9 +16,10 @@ use Rattle.ak_script.specs.Says.{SaysSessionLine, StatementsAreRead, SessionLine
 use Rattle.ak_script.specs.SaysLines.{IsBlock}
 use Rattle.ak_script.specs.Statement.{SessionLineData, SessionData, StatementData, lines_of_sessions, lines_in}
 use Rattle.ak_script.proofs.Counting.{lines_in-append, lines_of_sessions-append, line_counts, one_session, not_bare}
+use Rattle.ak_script.proofs.Faulting.{in_statement}
 use Rattle.ak_script.proofs.InOrder.{behind_is, ends_is}
 use Rattle.ak_script.proofs.Stages.{block_of, alone_is}
-use Rattle.ak_script.proofs.Stepping.{Step, close_open, counted, described_step, first_step, goes_on, has_room, in_statement, lifted, line_form, lines_more, no_end, no_room, no_session, no_start, not_both, say_more, some_words, statement_step, stops, two_ways}
+use Rattle.ak_script.proofs.Stepping.{Step, close_open, counted, described_step, first_step, goes_on, has_room, lifted, line_form, lines_more, no_end, no_room, no_session, no_start, not_both, say_more, some_words, statement_step, stops, two_ways}
 
 -- ---- what has come of a block
 bare_is : (begun : Option (List SessionLineData)) → is_bare begun ≡ true → begun ≡ Some []

@@ -183,17 +183,6 @@ room_there p together_key is room = absurd is
 room_there p session_key is room = absurd is
 room_there p end_key is room = absurd is
 
-pub in_statement : (key : Key) → IsSessionKey key → IsStatementKey key
-in_statement hey_key is = tt
-in_statement post_key is = tt
-in_statement lock_key is = tt
-in_statement launch_key is = absurd is
-in_statement kit_key is = absurd is
-in_statement script_key is = absurd is
-in_statement together_key is = absurd is
-in_statement session_key is = absurd is
-in_statement end_key is = absurd is
-
 pub no_room : (n limit : ℕ) → nat_lt n limit ≡ false → ¬ (n < limit)
 no_room n limit is lt = grind (arith, common_steps)
 

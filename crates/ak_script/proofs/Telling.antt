@@ -25,10 +25,11 @@ use Rattle.ak_script.specs.Refusals.{Place, first_place, described_place, statem
 use Rattle.ak_script.specs.Says.{StatementsAreRead, SessionLinesAreRead}
 use Rattle.ak_script.specs.SaysLines.{behind_script}
 use Rattle.ak_script.specs.Statement.{SessionLineData, SessionData, StatementData, lines_of_sessions, lines_in}
+use Rattle.ak_script.proofs.Faulting.{in_statement}
 use Rattle.ak_script.proofs.InOrder.{behind_is}
 use Rattle.ak_script.proofs.Leading.{complete_ends, describing, fits_there, one_more, script_unread, open_ends, read_there, state_at}
 use Rattle.ak_script.proofs.Stages.{inside}
-use Rattle.ak_script.proofs.Stepping.{in_statement, no_end, no_room_again, no_session, no_start, no_together, not_both, room_there, same_state, told_kind, says_form, says_line, two_ways}
+use Rattle.ak_script.proofs.Stepping.{no_end, no_room_again, no_session, no_start, no_together, not_both, room_there, same_state, told_kind, says_form, says_line, two_ways}
 use Rattle.ak_script.proofs.InBlocks.{line_there, not_bare_again}
 
 -- ---- what is read of a line
