@@ -77,12 +77,12 @@ texts_again [] (text ∷ texts) read say few = absurd say
 texts_again (word ∷ words) [] read say few = absurd say
 
 -- ---- arguments
-record Arguments (words texts : List (List ℕ)) : Type 0 where
-  quoted : List (List ℕ)
-  parts : words ≡ codes "args" ∷ quoted
-  some : quoted ≢ []
-  say : SayTexts quoted texts
-  few : length texts ≤ value_limit
+pub record Arguments (words texts : List (List ℕ)) : Type 0 where
+  pub quoted : List (List ℕ)
+  pub parts : words ≡ codes "args" ∷ quoted
+  pub some : quoted ≢ []
+  pub say : SayTexts quoted texts
+  pub few : length texts ≤ value_limit
 
 no_texts : 0 ≤ value_limit
 no_texts = omega arith
@@ -93,7 +93,7 @@ some_are words texts e = by_end (ends words) refl e where
   by_end true is f = absurd cc
   by_end false is f = (λ empty. let ended : ends words ≡ true = ap ends empty in absurd cc, texts_are words [] texts no_texts f)
 
-arguments_are : (words texts : List (List ℕ)) → arguments_at words ≡ Some (Within texts) → Arguments words texts
+pub arguments_are : (words texts : List (List ℕ)) → arguments_at words ≡ Some (Within texts) → Arguments words texts
 unfolding arguments_at
 arguments_are words texts e =
     let b = bind_is (behind words (codes "args")) some_texts (Within texts) e in
@@ -115,7 +115,7 @@ unfolding arguments_at
 arguments_again quoted texts some say few = some_again quoted texts some say few
 
 -- ---- what is launched
-named_is : (word : List ℕ) (w : AppWord) → launch_word word ≡ Some w → SaysLaunched word w
+pub named_is : (word : List ℕ) (w : AppWord) → launch_word word ≡ Some w → SaysLaunched word w
 named_is word w e = by_path (is_path word) refl e where
   by_signature : (b : Bool) → is_signature word ≡ b → (if b then Some (app.Signature word) else None) ≡ Some w → SaysLaunched word w
   by_signature true t f = let same : app.Signature word ≡ w = cc in subst (SaysLaunched word) same (refl, t)
@@ -186,7 +186,7 @@ signature_no_path word is = by_test (is_path word) refl where
       absurd (front word signs begins)
   by_test false path = path
 
-named_again : (word : List ℕ) (w : AppWord) → SaysLaunched word w → launch_word word ≡ Some w
+pub named_again : (word : List ℕ) (w : AppWord) → SaysLaunched word w → launch_word word ≡ Some w
 named_again word (app.Path path) p =
     ap (λ (b : Bool). if b then Some (app.Path word) else if is_signature word then Some (app.Signature word) else None) p.1 ∙ ap (λ (v : List ℕ). some_app (app.Path v)) p.0
   where
@@ -210,7 +210,7 @@ kept_again word texts m is short =
     launched_with : MessageData → Result LaunchData RefusalKind
     launched_with n = Ok (record { word = word; arguments = Some n })
 
-launched_again : (word : AppWord) (rest : List (List ℕ)) (o : Option MessageData) → SayWhatIsTold rest o → launched word rest ≡ Ok (record { word = word; arguments = o })
+pub launched_again : (word : AppWord) (rest : List (List ℕ)) (o : Option MessageData) → SayWhatIsTold rest o → launched word rest ≡ Ok (record { word = word; arguments = o })
 launched_again word rest None told = ap (launched word) told
 launched_again word rest (Some m) told =
     ap (launched word) told.parts

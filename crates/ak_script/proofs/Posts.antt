@@ -51,7 +51,7 @@ no_target key part (target.Token token) rest differs says absent =
     ap (λ (ws : List (List ℕ)). behind (ws ++ rest) key) says.1 ∙ ap (λ (b : Bool). where_true b (says.0 ∷ rest)) differs
 
 -- a message begins with a code
-no_message : (key : List ℕ) (words : List (List ℕ)) (m : Limited MessageData) → code_from key ≡ None → read_message words ≡ Some m → behind words key ≡ None
+pub no_message : (key : List ℕ) (words : List (List ℕ)) (m : Limited MessageData) → code_from key ≡ None → read_message words ≡ Some m → behind words key ≡ None
 unfolding message_of
 no_message key [] m none e = refl
 no_message key (word ∷ words) m none e = by_key (bytes_eq word key) refl where
@@ -63,19 +63,19 @@ no_message key (word ∷ words) m none e = by_key (bytes_eq word key) refl where
       absurd cc
   by_key false is = refl
 
-looper_no_code : code_from (codes "looper") ≡ None
+pub looper_no_code : code_from (codes "looper") ≡ None
 unfolding code_from
 looper_no_code = refl
 
-token_no_code : code_from (codes "token") ≡ None
+pub token_no_code : code_from (codes "token") ≡ None
 unfolding code_from
 token_no_code = refl
 
-dropped_no_code : code_from (codes "dropped") ≡ None
+pub dropped_no_code : code_from (codes "dropped") ≡ None
 unfolding code_from
 dropped_no_code = refl
 
-wait_no_code : code_from (codes "wait") ≡ None
+pub wait_no_code : code_from (codes "wait") ≡ None
 unfolding code_from
 wait_no_code = refl
 
@@ -84,18 +84,18 @@ target_is : (words : List (List ℕ)) (given : Option ℕ) → SayNumber (codes 
 target_is words None says = says
 target_is words (Some token) says = says
 
-record Ways (words : List (List ℕ)) (way : Way) (rest : List (List ℕ)) : Type 0 where
-  place : List (List ℕ)
-  for_whom : List (List ℕ)
-  drops : List (List ℕ)
-  waits : List (List ℕ)
-  parts : words ≡ place ++ (for_whom ++ (drops ++ (waits ++ rest)))
-  place_says : SayPlace place way.looper
-  target_says : SayTarget for_whom way.target
-  dropped_says : SayFlag (codes "dropped") drops way.dropped
-  waits_says : SayFlag (codes "wait") waits way.waits
+pub record Ways (words : List (List ℕ)) (way : Way) (rest : List (List ℕ)) : Type 0 where
+  pub place : List (List ℕ)
+  pub for_whom : List (List ℕ)
+  pub drops : List (List ℕ)
+  pub waits : List (List ℕ)
+  pub parts : words ≡ place ++ (for_whom ++ (drops ++ (waits ++ rest)))
+  pub place_says : SayPlace place way.looper
+  pub target_says : SayTarget for_whom way.target
+  pub dropped_says : SayFlag (codes "dropped") drops way.dropped
+  pub waits_says : SayFlag (codes "wait") waits way.waits
 
-ways_are : (words : List (List ℕ)) (x : Way × List (List ℕ)) → way_at words ≡ Some x → Ways words x.0 x.1
+pub ways_are : (words : List (List ℕ)) (x : Way × List (List ℕ)) → way_at words ≡ Some x → Ways words x.0 x.1
 unfolding way_at
 ways_are words x e =
     let l = bind_is (looper_at words) _ x e in
@@ -152,7 +152,7 @@ post_takes words x e =
     some_message l = Some l
 
 -- ---- and back
-way_again : (place for_whom drops waits message : List (List ℕ)) (way : Way) → SayPlace place way.looper → SayTarget for_whom way.target → SayFlag (codes "dropped") drops way.dropped → SayFlag (codes "wait") waits way.waits
+pub way_again : (place for_whom drops waits message : List (List ℕ)) (way : Way) → SayPlace place way.looper → SayTarget for_whom way.target → SayFlag (codes "dropped") drops way.dropped → SayFlag (codes "wait") waits way.waits
     → behind message (codes "looper") ≡ None → behind message (codes "token") ≡ None → behind message (codes "dropped") ≡ None → behind message (codes "wait") ≡ None
     → way_at (place ++ (for_whom ++ (drops ++ (waits ++ message)))) ≡ Some (way, message)
 unfolding way_at

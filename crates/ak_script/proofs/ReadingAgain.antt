@@ -64,7 +64,7 @@ line_again law d xs sessions ls x line says room =
     read_to : SoFar → Result SoFar Refusal
     read_to s = Ok s
 
-lines_again : SessionLinesAreRead → (d : List Line) (xs : List StatementData) (sessions : List SessionData) (lines : List Line) (ls more : List SessionLineData) → SayLines lines more
+pub lines_again : SessionLinesAreRead → (d : List Line) (xs : List StatementData) (sessions : List SessionData) (lines : List Line) (ls more : List SessionLineData) → SayLines lines more
     → lines_in xs + lines_of_sessions (with_begun sessions (Some (ls ++ more))) ≤ statement_limit
     → lines_said (inside d xs (record { sessions = sessions; begun = Some ls })) lines ≡ Ok (inside d xs (record { sessions = sessions; begun = Some (ls ++ more) }))
 unfolding lines_said
@@ -88,16 +88,16 @@ lines_again law d xs sessions (line ∷ lines) ls [] say room = absurd say
 
 -- ---- one session behind another
 -- the block behind these sessions more
-abbrev after : Block → List SessionData → Block
+abbrev pub after : Block → List SessionData → Block
 after b [] = b
 after b (s ∷ more) = after (record { sessions = closed b; begun = Some s.lines }) more
 
-all_after : (b : Block) (more : List SessionData) → closed (after b more) ≡ closed b ++ more
+pub all_after : (b : Block) (more : List SessionData) → closed (after b more) ≡ closed b ++ more
 all_after b [] = sym (append-nil (closed b))
 all_after b (s ∷ more) = all_after (record { sessions = closed b; begun = Some s.lines }) more ∙ append_assoc (closed b) (s ∷ []) more
 
 -- `session` alone
-session_again : (d : List Line) (xs : List StatementData) (b : Block) (line : Line) → IsAlone line (codes "session") → is_bare b.begun ≡ false → length (closed b) < session_limit
+pub session_again : (d : List Line) (xs : List StatementData) (b : Block) (line : Line) → IsAlone line (codes "session") → is_bare b.begun ≡ false → length (closed b) < session_limit
     → line_said (inside d xs b) line ≡ Ok (inside d xs (session_begun b))
 unfolding line_said
 session_again d xs b line alone line_there room =
@@ -129,11 +129,11 @@ one_session_again law d xs b lines s say line_there few room =
     (one_said say.opens (inside d xs b) (inside d xs (session_begun b)) (session_again d xs b say.opens say.session_is line_there few))
     (lines_again law d xs (closed b) say.rest [] s.lines say.lines_are room)
 
-none_said : (s : SoFar) → lines_said s [] ≡ Ok s
+pub none_said : (s : SoFar) → lines_said s [] ≡ Ok s
 unfolding lines_said
 none_said s = refl
 
-sessions_again : SessionLinesAreRead → (d : List Line) (xs : List StatementData) (b : Block) (lines : List Line) (more : List SessionData) → SaySessions lines more → is_bare b.begun ≡ false → length (closed b ++ more) ≤ session_limit
+pub sessions_again : SessionLinesAreRead → (d : List Line) (xs : List StatementData) (b : Block) (lines : List Line) (more : List SessionData) → SaySessions lines more → is_bare b.begun ≡ false → length (closed b ++ more) ≤ session_limit
     → lines_in xs + lines_of_sessions (closed b ++ more) ≤ statement_limit
     → lines_said (inside d xs b) lines ≡ Ok (inside d xs (after b more))
 sessions_again law d xs b lines [] say line_there few room = ap (λ (ls : List Line). lines_said (inside d xs b) ls) say ∙ none_said (inside d xs b)
@@ -157,7 +157,7 @@ line_after : (b : Block) (lines : List Line) (more : List SessionData) → SaySe
 line_after b lines [] say line_there = line_there
 line_after b lines (s ∷ more) say line_there = line_after (record { sessions = closed b; begun = Some s.lines }) say.1 more say.4 (a_line s.lines say.3.some)
 
-line_at_last : (lines : List Line) (all : List SessionData) → SaySessions lines all → 1 ≤ length all → has_line (after new_block all).begun ≡ true
+pub line_at_last : (lines : List Line) (all : List SessionData) → SaySessions lines all → 1 ≤ length all → has_line (after new_block all).begun ≡ true
 line_at_last lines [] say some = absurd (omega (arith, some))
 line_at_last lines (s ∷ more) say some = line_after (record { sessions = []; begun = Some s.lines }) say.1 more say.4 (a_line s.lines say.3.some)
 
@@ -177,7 +177,7 @@ end_again d xs b line alone line_there =
     read_to : SoFar → Result SoFar Refusal
     read_to s = Ok s
 
-together_again : (d : List Line) (xs : List StatementData) (line : Line) → IsAlone line (codes "together") → line_said (behind_script d xs) line ≡ Ok (inside d xs new_block)
+pub together_again : (d : List Line) (xs : List StatementData) (line : Line) → IsAlone line (codes "together") → line_said (behind_script d xs) line ≡ Ok (inside d xs new_block)
 unfolding line_said
 together_again d xs line alone =
     let count : lines_in xs ≡ lines_in xs + lines_of_sessions (closed new_block) = omega arith in

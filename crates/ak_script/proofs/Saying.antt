@@ -28,7 +28,7 @@ word_of verb.Hey = codes "hey"
 word_of verb.Post = codes "post"
 word_of verb.Lock = codes "lock"
 
-verb_is : (word : List ℕ) (v : Verb) → verb_of word ≡ Some v → word ≡ word_of v
+pub verb_is : (word : List ℕ) (v : Verb) → verb_of word ≡ Some v → word ≡ word_of v
 verb_is word v e = by_launch (bytes_eq word (codes "launch")) refl e where
   is : (key : List ℕ) → bytes_eq word key ≡ true → word ≡ key
   is key t = (bytes_eq-Decides word key).0 t
@@ -85,7 +85,7 @@ takes law [] x e = absurd cc
 takes law (word ∷ words) x e = taken law word words x (verb_of word.bytes) refl e
 
 -- ---- and again: words whose first one is a key
-by_verb : (words : List Word) (rest : List (List ℕ)) (v : Verb) (key : List ℕ) → verb_of key ≡ Some v → texts words ≡ key ∷ rest
+pub by_verb : (words : List Word) (rest : List (List ℕ)) (v : Verb) (key : List ℕ) → verb_of key ≡ Some v → texts words ≡ key ∷ rest
     → statement_of words ≡ said_by (Some v) words rest
 unfolding statement_of
 by_verb [] rest v key is at = absurd cc
@@ -140,7 +140,7 @@ unfolding session_line_of
 takes_in law [] x e = absurd cc
 takes_in law (word ∷ words) x e = taken_in law word words x (verb_of word.bytes) refl e
 
-by_verb_in : (words : List Word) (rest : List (List ℕ)) (v : Verb) (key : List ℕ) → verb_of key ≡ Some v → texts words ≡ key ∷ rest
+pub by_verb_in : (words : List Word) (rest : List (List ℕ)) (v : Verb) (key : List ℕ) → verb_of key ≡ Some v → texts words ≡ key ∷ rest
     → session_line_of words ≡ said_in_session (Some v) words rest
 unfolding session_line_of
 by_verb_in [] rest v key is at = absurd cc

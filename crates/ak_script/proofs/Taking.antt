@@ -145,7 +145,7 @@ abbrev pub Further : List Line → List Line → SoFar → Type 0
 Further d lines t = (g : Stage) (xs : List StatementData) → Fits g → lines_said (state d xs g) lines ≡ Ok t → Taken d xs g lines t
 
 -- ---- a line outside of blocks
-one_line : (x : StatementData) (lines : List Line) → IsSingle x → IsOne lines x → SayOne lines x
+pub one_line : (x : StatementData) (lines : List Line) → IsSingle x → IsOne lines x → SayOne lines x
 one_line (launch_statement s) lines single one = one
 one_line (hey_statement s) lines single one = one
 one_line (post_statement s) lines single one = one

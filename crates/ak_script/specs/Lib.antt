@@ -2,12 +2,15 @@ pub mod Answers
 pub mod Blocks
 pub mod Facts
 pub mod Faults
+pub mod Faulty
 pub mod Forms
 pub mod Generated
+pub mod InputLines
 pub mod Laws
 pub mod Limits
 pub mod Messages
 pub mod Pass
+pub mod Refusals
 pub mod Says
 pub mod SaysLines
 pub mod Script

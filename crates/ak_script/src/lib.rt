@@ -26,8 +26,9 @@ pub use amount::count_lines;
 pub use fault::ScriptFault;
 pub use generating::{GENERATED_LIMIT, generated, generated_counts};
 pub use laws::{
-    bad_heys_are_told, lines_are_read, scripts_are_whole, scripts_or_refusals,
-    session_lines_are_read, statements_are_read,
+    bad_heys_are_told, hey_faults_are_told, lines_are_read, lines_are_split, one_script_or_refusal,
+    scripts_are_read, scripts_are_whole, scripts_or_refusals, session_lines_are_read,
+    statement_faults_are_told, statements_are_read,
 };
 pub use reading::read_script;
 pub use script::{STATEMENT_LIMIT, Script};

@@ -1,17 +1,19 @@
 //! Reads a script in two passes.
 
-ghost use Rattle.std.specs.Prelude.{◌≡◌, ◌≤◌, None, IfOk};
+ghost use Rattle.std.specs.Prelude.{◌≡◌, ◌≤◌, None, IfOk, IfErr};
 ghost use Rattle.ak_describe.specs.Read.{end_fault};
 ghost use Rattle.ak_describe.specs.Whole.{AreWholeApps};
 ghost use Rattle.ak_script.specs.Answers.{Answers};
 ghost use Rattle.ak_script.specs.Limits.{statement_limit};
 ghost use Rattle.ak_script.specs.Pass as pass;
+ghost use Rattle.ak_script.specs.Refusals.{IsRefusalOf, ScriptOf};
 ghost use Rattle.ak_script.specs.Script as reads;
 ghost use Rattle.ak_script.specs.Seen.{script_seen, so_far_of};
 ghost use Rattle.ak_script.specs.Statement.{lines_in};
 ghost use Rattle.ak_script.specs.StatementSeen.{statements_seen};
 
 use crate::fault::{ScriptFault, refused};
+use crate::laws::scripts_are_read;
 use crate::script::Script;
 use crate::so_far::ScriptSoFar;
 use ak_describe::descriptions_are_whole;
@@ -29,8 +31,19 @@ use std::alloc::Global;
 /// block, that is `Unfinished`. Where the first pass finds nothing, the second one goes over the names in the
 /// descriptions: `UnknownName`, `ChainLoop` or `AskOrder`. An input in which no line says anything is the empty
 /// script. Answers `NoMemory` where memory ran out.
-#[tactic(auto, unfolding(crate::specs::Script::script_of))]
 pub fn read_script(alloc: Global, input: &[u8]) -> Result<Script, ScriptFault>
+    ensures answer { Answers script_seen result (reads.script_of input.now) }
+    ensures said { IfOk result (λ script. ScriptOf input.now (script_seen script)) }
+    ensures refused { IfErr result (IsRefusalOf input.now) }
+    ensures whole { IfOk result (λ script. AreWholeApps script.apps.items) }
+{
+    scripts_are_read();
+    read_input(alloc, input)
+}
+
+// The same, as it is read.
+#[tactic(auto, unfolding(crate::specs::Script::script_of))]
+fn read_input(alloc: Global, input: &[u8]) -> Result<Script, ScriptFault>
     ensures answer { Answers script_seen result (reads.script_of input.now) }
     ensures whole { IfOk result (λ script. AreWholeApps script.apps.items) }
 {
