@@ -1,5 +1,7 @@
 -- All entries of a run, as one list.
-use Rattle.std.specs.Prelude.{ℕ, suc, Bool, nat_lt, ◌==◌, ◌||◌, ◌&&◌, List, [], ◌∷◌, ◌++◌, map, if◌then◌else◌}
+use Rattle.std.specs.Prelude.{ℕ, suc, Bool, List, [], ◌∷◌, ◌++◌, map}
+use Rattle.std.specs.List.Sorted.{IsSortedBy, IsStableBy}
+use Rattle.std.specs.Ordering.{is_lt, nat_cmp, on, then_cmp}
 use Rattle.ak_roster.specs.declared.entry.RosterEntry.{RosterEntry}
 use Rattle.ak_port.specs.declared.port_entry.PortEntry.{PortEntry}
 use Rattle.ak_port.specs.declared.reply_entry.ReplyEntry.{ReplyEntry}
@@ -27,33 +29,36 @@ abbrev pub desk_entry : ObjectName → DeskEntry → Entry
 desk_entry name entry = record { stamp = entry.stamp; by = entry.by; object = name; event = event.Desk entry.event }
 
 -- ---- those of all objects, one object after the other
-abbrev pub ports_from : ℕ → List PortData → List Entry
-ports_from number [] = []
-ports_from number (port ∷ ports) = map (λ (entry : PortEntry). port_entry (object.Port number) entry) port.entries ++ ports_from (suc number) ports
+-- of each thing in a list, by its number from that one on
+abbrev pub each_from : {T : Type 0} → (ℕ → T → List Entry) → ℕ → List T → List Entry
+each_from list number [] = []
+each_from list number (thing ∷ things) = list number thing ++ each_from list (suc number) things
 
-abbrev pub desks_from : ℕ → List DeskData → List Entry
-desks_from number [] = []
-desks_from number (desk ∷ desks) = map (λ (entry : EntryData). desk_entry (object.Desk number) entry.plain) desk.entries ++ desks_from (suc number) desks
+abbrev pub port_entries : ℕ → PortData → List Entry
+port_entries number port = map (λ (entry : PortEntry). port_entry (object.Port number) entry) port.entries
+
+abbrev pub desk_entries : ℕ → DeskData → List Entry
+desk_entries number desk = map (λ (entry : EntryData). desk_entry (object.Desk number) entry.plain) desk.entries
 
 -- the roster, the reply book, the ports and the desks
 abbrev pub entries_of : Histories → List Entry
 entries_of h =
-    map roster_entry h.roster.items ++ (map (λ (entry : ReplyEntry). book_entry object.Book entry) h.book ++ (ports_from 0 h.ports.items ++ desks_from 0 h.desks.items))
+    map roster_entry h.roster.items
+    ++ (map (λ (entry : ReplyEntry). book_entry object.Book entry) h.book ++ (each_from port_entries 0 h.ports.items ++ each_from desk_entries 0 h.desks.items))
 
 -- ---- in order
--- by the stamp, and of one stamp by the thread
+abbrev pub stamp_of : Entry → ℕ
+stamp_of entry = entry.stamp
+
+abbrev pub thread_of : Entry → ℕ
+thread_of entry = entry.by.0
+
+-- by the stamp, and then by the thread
 abbrev pub is_before : Entry → Entry → Bool
-is_before a b = nat_lt a.stamp b.stamp || ((a.stamp == b.stamp) && nat_lt a.by.0 b.by.0)
+is_before a b = is_lt (then_cmp (on stamp_of nat_cmp) (on thread_of nat_cmp) a b)
 
--- before the first one that is not before it
-abbrev pub placed : Entry → List Entry → List Entry
-placed entry [] = entry ∷ []
-placed entry (first ∷ entries) = if is_before first entry then first ∷ placed entry entries else entry ∷ first ∷ entries
-
-abbrev pub in_order : List Entry → List Entry
-in_order [] = []
-in_order (entry ∷ entries) = placed entry (in_order entries)
-
--- all that was done at the objects of a run
-abbrev pub merged : Histories → List Entry
-merged h = in_order (entries_of h)
+-- All that was done at the objects of a run: no entry stands behind one that it is before; and of each stamp and each thread there are just those
+-- that the objects have, in the same order
+pub record IsMerged (h : Histories) (entries : List Entry) : Type 0 where
+  pub ordered : IsSortedBy is_before entries
+  pub each : IsStableBy is_before (entries_of h) entries

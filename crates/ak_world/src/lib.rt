@@ -3,6 +3,6 @@
 #![tactic(auto)]
 
 mod listing;
-mod merge;
+mod merging;
 
-pub use merge::merge;
+pub use merging::merge;

@@ -1,6 +1,6 @@
 //! The entries of each object, as the journal names them.
 ghost use Rattle.std.specs.Prelude.{◌≡◌, ◌++◌, map, IfOk, OnOk};
-ghost use Rattle.ak_world.specs.Merged.{desks_from, ports_from, roster_entry};
+ghost use Rattle.ak_world.specs.Merged.{desk_entries, each_from, port_entries, roster_entry};
 
 use ak_base::NoMemory;
 use ak_desk::{Desk, DeskEntry};
@@ -108,7 +108,7 @@ fn list_roster(entry: RosterEntry) -> Entry
 
 /// Adds those of the ports, which are numbered from 0 on.
 pub(crate) fn put_ports(ports: &[PortBook], out: &mut Vec<Entry>) -> Result<(), NoMemory>
-    ensures { OnOk result (out.new.items ≡ out.old.items ++ ports_from 0 ports.now) }
+    ensures { OnOk result (out.new.items ≡ out.old.items ++ each_from port_entries 0 ports.now) }
 {
     for (place, port) in ports.iter().enumerate() {
         put_book(ObjectName::Port(number_of(place)?), port, out)?;
@@ -118,7 +118,7 @@ pub(crate) fn put_ports(ports: &[PortBook], out: &mut Vec<Entry>) -> Result<(), 
 
 /// Adds those of the desks, which are numbered from 0 on.
 pub(crate) fn put_desks(desks: &[Desk], out: &mut Vec<Entry>) -> Result<(), NoMemory>
-    ensures { OnOk result (out.new.items ≡ out.old.items ++ desks_from 0 desks.now) }
+    ensures { OnOk result (out.new.items ≡ out.old.items ++ each_from desk_entries 0 desks.now) }
 {
     for (place, desk) in desks.iter().enumerate() {
         put_book(ObjectName::Desk(number_of(place)?), desk, out)?;

@@ -1,6 +1,6 @@
 //! All entries of a run, in one list.
 ghost use Rattle.std.specs.Prelude.{◌≡◌, IfOk};
-ghost use Rattle.ak_world.specs.Merged.{entries_of, merged};
+ghost use Rattle.ak_world.specs.Merged.{IsMerged, entries_of};
 
 use crate::listing::{put_book, put_desks, put_ports, put_roster};
 use ak_base::NoMemory;
@@ -13,7 +13,7 @@ use std::alloc::Global;
 /// book, the ports and the desks have them. Each is a copy. `NoMemory` where memory ran out. In time as many steps as there
 /// are entries, times the logarithm of the number of objects.
 pub fn merge(alloc: Global, histories: &Histories) -> Result<Vec<Entry>, NoMemory>
-    ensures { IfOk result (λ entries. entries.items ≡ merged histories.now) }
+    ensures { IfOk result (λ entries. IsMerged histories.now entries.items) }
 {
     let mut entries = all_entries(alloc, histories)?;
     entries.sort_by_key(|entry: &Entry| (entry.stamp, entry.by.0))?;
