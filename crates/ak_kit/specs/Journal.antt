@@ -9,7 +9,7 @@ use Rattle.ak_outside.specs.Sink.{AppendsPart}
 use Rattle.ak_diary.specs.declared.histories.Histories.{Histories}
 use Rattle.ak_journal.specs.declared.entry.Entry.{Entry}
 use Rattle.ak_journal.specs.Line.{entry_line}
-use Rattle.ak_world.specs.Merged.{merged}
+use Rattle.ak_world.specs.Merged.{IsMerged}
 use Rattle.ak_play.specs.declared.run_end.Lines.{Lines}
 use Rattle.ak_play.specs.declared.run_end.Lines.TheVariants as lines
 use Rattle.ak_play.specs.declared.run_end.RunEnd.{RunEnd}
@@ -25,18 +25,22 @@ abbrev pub head_line : List ℕ
 head_line = codes "journal" ++ 10 ∷ []
 
 -- all entries of the run, by their stamps
-abbrev pub journal_text : Histories → List ℕ
-journal_text h = head_line ++ entries_text (merged h)
+abbrev pub journal_text : List Entry → List ℕ
+journal_text entries = head_line ++ entries_text entries
 
--- nothing of it, or the first lines
+-- of all entries of the run, in one list, that holds
+abbrev pub OfMerged : Histories → (List Entry → Type 0) → Type 0
+OfMerged h Holds = (entries : List Entry) × IsMerged h entries × Holds entries
+
+-- nothing of the journal, or the first lines
 abbrev pub IsJournalFront : Histories → Option (List ℕ) → Option (List ℕ) → Type 0
-IsJournalFront h old new = Appends old new [] ⊎ ((count : ℕ) × Appends old new (head_line ++ entries_text (take count (merged h))))
+IsJournalFront h old new = Appends old new [] ⊎ OfMerged h (λ entries. (count : ℕ) × Appends old new (head_line ++ entries_text (take count entries)))
 
 -- ---- how much of it was written
 -- all; a front, where a write failed; or the first lines, where memory ran out
 abbrev pub HasJournaled : Histories → Lines → Option (List ℕ) → Option (List ℕ) → Type 0
-HasJournaled h lines.Whole old new = Appends old new (journal_text h)
-HasJournaled h lines.Cut old new = AppendsPart old new (journal_text h)
+HasJournaled h lines.Whole old new = OfMerged h (λ entries. Appends old new (journal_text entries))
+HasJournaled h lines.Cut old new = OfMerged h (λ entries. AppendsPart old new (journal_text entries))
 HasJournaled h lines.Lacking old new = IsJournalFront h old new
 
 -- so much of the lines of these entries

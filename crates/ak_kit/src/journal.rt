@@ -1,5 +1,5 @@
 //! The journal of a run: behind the lines of its outcomes the line `journal`, and then a line for each entry of each object.
-ghost use Rattle.std.specs.Prelude.{◌≡◌, ◌≤◌, ◌++◌, IsSomeAnd, IfSome, OnOk};
+ghost use Rattle.std.specs.Prelude.{◌≡◌, ◌≤◌, ◌++◌, ◌∷◌, [], IsSomeAnd, IfSome, OnOk};
 ghost use Rattle.ak_play.specs.Play.{IsPlayEnding};
 ghost use Rattle.ak_kit.specs.Untold.{lines_told};
 ghost use Rattle.ak_kit.specs.Journal.{FailedSo, HasJournaled, HasWrittenEntries, TellsJournal, at_a_write, entries_text, without_memory};
