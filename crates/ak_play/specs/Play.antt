@@ -1,5 +1,5 @@
 -- A script that was carried out: what main and the sessions did for its statements, and what was written of them.
-use Rattle.std.specs.Prelude.{◌≡◌, ◌≢◌, ◌≤◌, ◌<◌, ◌+◌, ◌⊎◌, ℕ, Bool, true, false, List, [], ◌∷◌, ◌++◌, length, slice_get, take, All, IfSome, IsSomeAnd, Option, None, Some}
+use Rattle.std.specs.Prelude.{◌≡◌, ◌≢◌, ◌≤◌, ◌<◌, ◌+◌, ◌⊎◌, ℕ, true, false, List, [], ◌∷◌, ◌++◌, length, slice_get, take, All, IfSome, IsSomeAnd, Option, None, Some}
 use Rattle.std.specs.List.{flat_map}
 use Rattle.std.specs.Io.KnownBytes.{Appends}
 use Rattle.ak_base.specs.declared.ending.Ending.{Ending}
@@ -93,14 +93,14 @@ pub record IsCutText (before last : List Told) (old new : Option (List ℕ)) : T
   pub short : part < length (told_line line)
   pub written : Appends old new (text_of before ++ (text_of front ++ take part (told_line line)))
 
--- of the last lines, which are those of one statement, the first ones were written
+-- of the last lines, which are those of one statement, the first ones were written, and not all
 pub record IsFrontText (before last : List Told) (old new : Option (List ℕ)) : Type 0 where
   pub lines : ℕ
-  pub most : lines ≤ length last
+  pub not_all : lines < length last
   pub written : Appends old new (text_of before ++ text_of (take lines last))
 
 -- By what became of the lines: all were written, and no write failed; one failed, and none stands behind that line; or no write failed, and the
--- first ones of the last statement were written, behind all that come before. Failed says that a write failed, Kept that none did
+-- first ones of the last statement alone were written, behind all that come before. Failed says that a write failed, Kept that none did
 abbrev pub AreWritten : Lines → Type 0 → Type 0 → List Told → List Told → Option (List ℕ) → Option (List ℕ) → Type 0
 AreWritten lines.Whole Failed Kept before last old new = Appends old new (text_of before ++ text_of last) × Kept
 AreWritten lines.Cut Failed Kept before last old new = IsCutText before last old new × Failed
