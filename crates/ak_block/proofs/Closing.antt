@@ -13,6 +13,7 @@ use Rattle.ak_lines.specs.Blocks.{AreLines}
 use Rattle.ak_lines.specs.Carried.{HasCarriedOut, IsCutAt, all_steps}
 use Rattle.ak_lines.specs.declared.job.SessionEnd.{SessionEnd}
 use Rattle.ak_lines.specs.declared.job.SessionJob.{SessionJob}
+use Rattle.ak_session.specs.Stands.{Stands}
 use Rattle.ak_run.specs.declared.run.Run.{Run}
 use Rattle.ak_run.specs.Doing.{Does}
 use Rattle.ak_run.specs.Sessions.{MayClose, Told, sessions_of}
@@ -33,9 +34,9 @@ abbrev pub part_in : SessionEnd → SessionPart
 part_in end = record { outcomes = end.outcomes.items; tolds = end.tolds.items; short = end.short }
 
 -- so it is carried, where the run has it closed with that
-carried_with : (lines : SessionLines) (job : SessionJob) (end : SessionEnd) (t : Run) (number place : ℕ) → job.lines.lines.items ≡ lines.lines.items → (came : HasCarriedOut job end) → number ≡ place + 1 → slice_get (sessions_of t) place ≡ Some (job.session, Some end.session)
-    → IsCarriedIn came.heads t number lines (part_in end)
-carried_with lines job end t number place same came number_is there = record {
+carried_with : (lines : SessionLines) (job : SessionJob) (end : SessionEnd) (t : Run) (time number place : ℕ) → job.lines.lines.items ≡ lines.lines.items → job.session.hands.clock.time ≡ time → (came : HasCarriedOut job end) → number ≡ place + 1 → slice_get (sessions_of t) place ≡ Some (job.session, Some end.session)
+    → IsCarriedIn came.heads t time number lines (part_in end)
+carried_with lines job end t time number place same begins came number_is there = record {
   did = record {
     blocks = came.blocks;
     are = subst (λ (ls : List SessionLine). AreLines came.heads [] ls end.outcomes.items end.tolds.items came.blocks) same came.are;
@@ -50,7 +51,8 @@ carried_with lines job end t number place same came number_is there = record {
   closed = end.session;
   there = there;
   keeps = came.keeps;
-  stands = came.stands;
+  begins = begins;
+  stands = subst (λ (start : ℕ). Stands came.heads start (all_steps came.blocks ++ came.stopped) end.session) begins came.stands;
 }
 
 same_heads : (given : Option (List AppHead)) (heads kept : List AppHead) → given ≡ Some heads → given ≡ Some kept → kept ≡ heads
@@ -59,10 +61,10 @@ same_heads given heads kept a b =
     let same : kept ≡ heads = cc both in
     same
 
-carried_in : (heads : List AppHead) (lines : SessionLines) (job : SessionJob) (end : SessionEnd) (t : Run) (number place : ℕ) → IsJobFor heads number lines job → HasCarriedOut job end → number ≡ place + 1 → slice_get (sessions_of t) place ≡ Some (job.session, Some end.session)
-    → IsCarriedIn heads t number lines (part_in end)
-carried_in heads lines job end t number place is came number_is there =
-    subst (λ (hs : List AppHead). IsCarriedIn hs t number lines (part_in end)) (same_heads job.session.roster_seat.opening heads came.heads is.heads_are came.heads_are) (carried_with lines job end t number place is.lines_are came number_is there)
+carried_in : (heads : List AppHead) (lines : SessionLines) (job : SessionJob) (end : SessionEnd) (t : Run) (time number place : ℕ) → IsJobFor heads time number lines job → HasCarriedOut job end → number ≡ place + 1 → slice_get (sessions_of t) place ≡ Some (job.session, Some end.session)
+    → IsCarriedIn heads t time number lines (part_in end)
+carried_in heads lines job end t time number place is came number_is there =
+    subst (λ (hs : List AppHead). IsCarriedIn hs t time number lines (part_in end)) (same_heads job.session.roster_seat.opening heads came.heads is.heads_are came.heads_are) (carried_with lines job end t time number place is.lines_are is.begins came number_is there)
 
 carried_push : (P : ℕ → SessionLines → SessionPart → Type 0) (from : ℕ) (done : List SessionLines) (parts : List SessionPart) (lines : SessionLines) (part : SessionPart) → AreCarried P from done parts → P (from + length done) lines part → AreCarried P from (done ++ lines ∷ []) (parts ++ part ∷ [])
 carried_push P from [] [] lines part are is = (subst (λ (n : ℕ). P n lines part) (omega arith) is, tt)
@@ -70,22 +72,22 @@ carried_push P from (x ∷ done) (y ∷ parts) lines part are is = (are.0, carri
 carried_push P from _ _ lines part are is = absurd are
 
 -- ---- the next one
-record Next (heads : List AppHead) (before : List Told) (from : ℕ) (sessions : List SessionLines) (r : Run) (end : SessionEnd) (rest : List SessionEnd) : Type 0 where
+record Next (heads : List AppHead) (before : List Told) (time from : ℕ) (sessions : List SessionLines) (r : Run) (end : SessionEnd) (rest : List SessionEnd) : Type 0 where
   lines : SessionLines
   todo : List SessionLines
   all : sessions ≡ lines ∷ todo
   job : SessionJob
   jobs : List SessionJob
-  is : IsJobFor heads from lines job
-  are : AreJobsFor heads (from + 1) todo jobs
+  is : IsJobFor heads time from lines job
+  are : AreJobsFor heads time (from + 1) todo jobs
   one : HasCarriedOut job end
   came : CameOfAll jobs rest
   from_is : from ≡ length before + 1
   stand : sessions_of r ≡ before ++ opened_for job ∷ map opened_for jobs
 
-next_of : (heads : List AppHead) (before : List Told) (from : ℕ) (sessions : List SessionLines) (jobs : List SessionJob) (r : Run) (end : SessionEnd) (rest : List SessionEnd) → from ≡ length before + 1 → AreJobsFor heads from sessions jobs → CameOfAll jobs (end ∷ rest)
-    → sessions_of r ≡ before ++ map opened_for jobs → Next heads before from sessions r end rest
-next_of heads before from (x ∷ sessions) (j ∷ jobs) r end rest from_is are came stand = record {
+next_of : (heads : List AppHead) (before : List Told) (time from : ℕ) (sessions : List SessionLines) (jobs : List SessionJob) (r : Run) (end : SessionEnd) (rest : List SessionEnd) → from ≡ length before + 1 → AreJobsFor heads time from sessions jobs → CameOfAll jobs (end ∷ rest)
+    → sessions_of r ≡ before ++ map opened_for jobs → Next heads before time from sessions r end rest
+next_of heads before time from (x ∷ sessions) (j ∷ jobs) r end rest from_is are came stand = record {
   lines = x;
   todo = sessions;
   all = refl;
@@ -98,15 +100,15 @@ next_of heads before from (x ∷ sessions) (j ∷ jobs) r end rest from_is are c
   from_is = from_is;
   stand = stand;
 }
-next_of heads before from [] [] r end rest from_is are came stand = absurd came
-next_of heads before from [] (j ∷ jobs) r end rest from_is are came stand = absurd are
-next_of heads before from (x ∷ sessions) [] r end rest from_is are came stand = absurd are
+next_of heads before time from [] [] r end rest from_is are came stand = absurd came
+next_of heads before time from [] (j ∷ jobs) r end rest from_is are came stand = absurd are
+next_of heads before time from (x ∷ sessions) [] r end rest from_is are came stand = absurd are
 
-module _ (heads : List AppHead) (before : List Told) (from : ℕ) (sessions : List SessionLines) (r : Run) (end : SessionEnd) (rest : List SessionEnd) where
-  next_open : AreOpen heads before from sessions r (end ∷ rest) → Next heads before from sessions r end rest
-  next_open are = next_of heads before from sessions are.jobs r end rest are.from_is are.are are.came are.stand
+module _ (heads : List AppHead) (before : List Told) (time from : ℕ) (sessions : List SessionLines) (r : Run) (end : SessionEnd) (rest : List SessionEnd) where
+  next_open : AreOpen heads before time from sessions r (end ∷ rest) → Next heads before time from sessions r end rest
+  next_open are = next_of heads before time from sessions are.jobs r end rest are.from_is are.are are.came are.stand
 
-  module _ (next : Next heads before from sessions r end rest) where
+  module _ (next : Next heads before time from sessions r end rest) where
     abbrev told : Told
     told = (next.job.session, Some end.session)
 
@@ -129,7 +131,7 @@ module _ (heads : List AppHead) (before : List Told) (from : ℕ) (sessions : Li
           closed may_close_next ∙ ap (λ (l : List Told). set l (length before) told) next.stand ∙ set-append_seam before (opened_for next.job) (map opened_for next.jobs) told
           ∙ sym (append_assoc before (told ∷ []) (map opened_for next.jobs))
 
-      open_then : AreOpen heads (before ++ told ∷ []) (from + 1) next.todo s rest
+      open_then : AreOpen heads (before ++ told ∷ []) time (from + 1) next.todo s rest
       open_then = record {
         from_is = omega (arith, next.from_is, length-append before (told ∷ []));
         jobs = next.jobs;
@@ -138,23 +140,23 @@ module _ (heads : List AppHead) (before : List Told) (from : ℕ) (sessions : Li
         stand = stand_closed;
       }
 
-  pub may_close : AreOpen heads before from sessions r (end ∷ rest) → MayClose r end.session
+  pub may_close : AreOpen heads before time from sessions r (end ∷ rest) → MayClose r end.session
   may_close are = may_close_next (next_open are)
 
 -- ---- all of them
-pub record ClosedSoFar (heads : List AppHead) (before : List Told) (from : ℕ) (sessions : List SessionLines) (r s : Run) (rest : List SessionEnd) (heard : List Heard) : Type 0 where
+pub record ClosedSoFar (heads : List AppHead) (before : List Told) (time from : ℕ) (sessions : List SessionLines) (r s : Run) (rest : List SessionEnd) (heard : List Heard) : Type 0 where
   pub done : List SessionLines
   pub todo : List SessionLines
   pub all : sessions ≡ done ++ todo
   pub closed : List Told
   pub count : length closed ≡ length done
   pub each_closed : list_all (λ (told : Told). is_some told.1) closed ≡ true
-  pub are_open : AreOpen heads (before ++ closed) (from + length done) todo s rest
-  pub carried : (t : Run) → StartsWith (sessions_of t) (before ++ closed) → AreCarried (IsCarriedIn heads t) from done (map part_of heard)
+  pub are_open : AreOpen heads (before ++ closed) time (from + length done) todo s rest
+  pub carried : (t : Run) → StartsWith (sessions_of t) (before ++ closed) → AreCarried (IsCarriedIn heads t time) from done (map part_of heard)
   pub does : Does [] r s
 
-module _ (heads : List AppHead) (before : List Told) (from : ℕ) (sessions : List SessionLines) (r : Run) where
-  pub none_closed : (ends : List SessionEnd) → AreOpen heads before from sessions r ends → ClosedSoFar heads before from sessions r r ends []
+module _ (heads : List AppHead) (before : List Told) (time from : ℕ) (sessions : List SessionLines) (r : Run) where
+  pub none_closed : (ends : List SessionEnd) → AreOpen heads before time from sessions r ends → ClosedSoFar heads before time from sessions r r ends []
   none_closed ends are = record {
     done = [];
     todo = sessions;
@@ -162,15 +164,15 @@ module _ (heads : List AppHead) (before : List Told) (from : ℕ) (sessions : Li
     closed = [];
     count = refl;
     each_closed = refl;
-    are_open = subst (λ (l : List Told). AreOpen heads l (from + 0) sessions r ends) (sym (append-nil before)) (subst (λ (n : ℕ). AreOpen heads before n sessions r ends) (omega arith) are);
+    are_open = subst (λ (l : List Told). AreOpen heads l time (from + 0) sessions r ends) (sym (append-nil before)) (subst (λ (n : ℕ). AreOpen heads before time n sessions r ends) (omega arith) are);
     carried = λ t on. tt;
     does = nothing_done r;
   }
 
   -- one more
-  module _ (s : Run) (end : SessionEnd) (rest : List SessionEnd) (heard : List Heard) (so_far : ClosedSoFar heads before from sessions r s (end ∷ rest) heard) (t : Run) (closed : (may : MayClose s end.session) → sessions_of t ≡ set (sessions_of s) may.place (may.opened, Some end.session)) where
-    next : Next heads (before ++ so_far.closed) (from + length so_far.done) so_far.todo s end rest
-    next = next_open heads (before ++ so_far.closed) (from + length so_far.done) so_far.todo s end rest so_far.are_open
+  module _ (s : Run) (end : SessionEnd) (rest : List SessionEnd) (heard : List Heard) (so_far : ClosedSoFar heads before time from sessions r s (end ∷ rest) heard) (t : Run) (closed : (may : MayClose s end.session) → sessions_of t ≡ set (sessions_of s) may.place (may.opened, Some end.session)) where
+    next : Next heads (before ++ so_far.closed) time (from + length so_far.done) so_far.todo s end rest
+    next = next_open heads (before ++ so_far.closed) time (from + length so_far.done) so_far.todo s end rest so_far.are_open
 
     abbrev now_closed : Told
     now_closed = (next.job.session, Some end.session)
@@ -178,8 +180,8 @@ module _ (heads : List AppHead) (before : List Told) (from : ℕ) (sessions : Li
     one_behind : before ++ (so_far.closed ++ now_closed ∷ []) ≡ (before ++ so_far.closed) ++ now_closed ∷ []
     one_behind = sym (append_assoc before so_far.closed (now_closed ∷ []))
 
-    open_now : AreOpen heads ((before ++ so_far.closed) ++ now_closed ∷ []) (from + length so_far.done + 1) next.todo t rest
-    open_now = open_then heads (before ++ so_far.closed) (from + length so_far.done) so_far.todo s end rest next t closed
+    open_now : AreOpen heads ((before ++ so_far.closed) ++ now_closed ∷ []) time (from + length so_far.done + 1) next.todo t rest
+    open_now = open_then heads (before ++ so_far.closed) time (from + length so_far.done) so_far.todo s end rest next t closed
 
     module _ (u : Run) (on : StartsWith (sessions_of u) (before ++ (so_far.closed ++ now_closed ∷ []))) where
       whole_on : sessions_of u ≡ (before ++ so_far.closed) ++ now_closed ∷ on.0
@@ -188,12 +190,12 @@ module _ (heads : List AppHead) (before : List Told) (from : ℕ) (sessions : Li
       there_now : slice_get (sessions_of u) (length (before ++ so_far.closed)) ≡ Some now_closed
       there_now = ap (λ (l : List Told). slice_get l (length (before ++ so_far.closed))) whole_on ∙ at_seam (before ++ so_far.closed) now_closed on.0
 
-      carried_now : AreCarried (IsCarriedIn heads u) from (so_far.done ++ next.lines ∷ []) (map part_of heard ++ part_in end ∷ [])
+      carried_now : AreCarried (IsCarriedIn heads u time) from (so_far.done ++ next.lines ∷ []) (map part_of heard ++ part_in end ∷ [])
       carried_now =
-          carried_push (IsCarriedIn heads u) from so_far.done (map part_of heard) next.lines (part_in end) (so_far.carried u (now_closed ∷ on.0, whole_on))
-          (carried_in heads next.lines next.job end u (from + length so_far.done) (length (before ++ so_far.closed)) next.is next.one next.from_is there_now)
+          carried_push (IsCarriedIn heads u time) from so_far.done (map part_of heard) next.lines (part_in end) (so_far.carried u (now_closed ∷ on.0, whole_on))
+          (carried_in heads next.lines next.job end u time (from + length so_far.done) (length (before ++ so_far.closed)) next.is next.one next.from_is there_now)
 
-    pub closed_push : (h : Heard) (more : List Heard) → part_of h ≡ part_in end → more ≡ heard ++ h ∷ [] → Does [] s t → ClosedSoFar heads before from sessions r t rest more
+    pub closed_push : (h : Heard) (more : List Heard) → part_of h ≡ part_in end → more ≡ heard ++ h ∷ [] → Does [] s t → ClosedSoFar heads before time from sessions r t rest more
     closed_push h more part is does = record {
       done = so_far.done ++ next.lines ∷ [];
       todo = next.todo;
@@ -202,24 +204,24 @@ module _ (heads : List AppHead) (before : List Told) (from : ℕ) (sessions : Li
       count = omega (arith, so_far.count, length-append so_far.closed (now_closed ∷ []), length-append so_far.done (next.lines ∷ []));
       each_closed = list_all-append (λ (told : Told). is_some told.1) so_far.closed (now_closed ∷ []) ∙ ap (λ (b : Bool). b && true) so_far.each_closed;
       are_open =
-          subst (λ (l : List Told). AreOpen heads l (from + length (so_far.done ++ next.lines ∷ [])) next.todo t rest) (sym one_behind)
-          (subst (λ (n : ℕ). AreOpen heads ((before ++ so_far.closed) ++ now_closed ∷ []) n next.todo t rest) (omega (arith, length-append so_far.done (next.lines ∷ []))) open_now);
+          subst (λ (l : List Told). AreOpen heads l time (from + length (so_far.done ++ next.lines ∷ [])) next.todo t rest) (sym one_behind)
+          (subst (λ (n : ℕ). AreOpen heads ((before ++ so_far.closed) ++ now_closed ∷ []) time n next.todo t rest) (omega (arith, length-append so_far.done (next.lines ∷ []))) open_now);
       carried = λ u on.
-          subst (AreCarried (IsCarriedIn heads u) from (so_far.done ++ next.lines ∷ []))
+          subst (AreCarried (IsCarriedIn heads u time) from (so_far.done ++ next.lines ∷ []))
           (sym (ap (map part_of) is ∙ map-append part_of heard (h ∷ []) ∙ ap (λ (p : SessionPart). map part_of heard ++ p ∷ []) part)) (carried_now u on);
       does = nothing_then r s t so_far.does does;
     }
 
   -- the last one was closed
-  none_left : (n : ℕ) (todo : List SessionLines) (jobs : List SessionJob) → AreJobsFor heads n todo jobs → CameOfAll jobs [] → (todo ≡ []) × (jobs ≡ [])
-  none_left n [] [] are came = (refl, refl)
-  none_left n (x ∷ todo) [] are came = absurd are
-  none_left n [] (j ∷ jobs) are came = absurd are
-  none_left n (x ∷ todo) (j ∷ jobs) are came = absurd came
+  none_left : (time n : ℕ) (todo : List SessionLines) (jobs : List SessionJob) → AreJobsFor heads time n todo jobs → CameOfAll jobs [] → (todo ≡ []) × (jobs ≡ [])
+  none_left time n [] [] are came = (refl, refl)
+  none_left time n (x ∷ todo) [] are came = absurd are
+  none_left time n [] (j ∷ jobs) are came = absurd are
+  none_left time n (x ∷ todo) (j ∷ jobs) are came = absurd came
 
-  pub all_closed_now : (s : Run) (heard : List Heard) → ClosedSoFar heads before from sessions r s [] heard → HasClosedAll heads before from sessions r s heard
+  pub all_closed_now : (s : Run) (heard : List Heard) → ClosedSoFar heads before time from sessions r s [] heard → HasClosedAll heads before time from sessions r s heard
   all_closed_now s heard so_far =
-      let left = none_left (from + length so_far.done) so_far.todo so_far.are_open.jobs so_far.are_open.are so_far.are_open.came in
+      let left = none_left time (from + length so_far.done) so_far.todo so_far.are_open.jobs so_far.are_open.are so_far.are_open.came in
       let all : sessions ≡ so_far.done = so_far.all ∙ ap (λ (l : List SessionLines). so_far.done ++ l) left.0 ∙ append-nil so_far.done in
       let stand : sessions_of s ≡ before ++ so_far.closed = so_far.are_open.stand ∙ ap (λ (js : List SessionJob). (before ++ so_far.closed) ++ map opened_for js) left.1 ∙ append-nil (before ++ so_far.closed) in
       record {
@@ -227,6 +229,6 @@ module _ (heads : List AppHead) (before : List Told) (from : ℕ) (sessions : Li
         sessions_are = stand;
         count = so_far.count ∙ ap length (sym all);
         each_closed = so_far.each_closed;
-        carried = subst (λ (l : List SessionLines). AreCarried (IsCarriedIn heads s) from l (map part_of heard)) (sym all) (so_far.carried s ([], stand ∙ sym (append-nil (before ++ so_far.closed))));
+        carried = subst (λ (l : List SessionLines). AreCarried (IsCarriedIn heads s time) from l (map part_of heard)) (sym all) (so_far.carried s ([], stand ∙ sym (append-nil (before ++ so_far.closed))));
         does = so_far.does;
       }

@@ -20,7 +20,7 @@ module _ (heads : List AppHead) (sessions : List SessionLines) (i : ℕ) (most :
   number_now = count_now heads (take i sessions) r s jobs so_far ∙ ap (λ (n : ℕ). session_count r + n) (length-take-le i sessions most)
 
   pub jobs_now : length jobs ≡ i
-  jobs_now = jobs_count heads (session_count r + 1) (take i sessions) jobs so_far.are ∙ length-take-le i sessions most
+  jobs_now = jobs_count heads r.hands.clock.time (session_count r + 1) (take i sessions) jobs so_far.are ∙ length-take-le i sessions most
 
   -- the next one too
   pub next_started : (lines : SessionLines) (job : SessionJob) (t : Run) → i < length sessions → lines ≡ get_or sessions i lines → HasOpened heads lines (Ok job) s t → AreStarted heads (take (i + 1) sessions) r t (jobs ++ job ∷ [])

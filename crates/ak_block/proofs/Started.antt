@@ -29,21 +29,25 @@ nothing_done r = so_nothing r r (does_same IsNone r r refl refl refl refl refl)
 pub nothing_then : (r s t : Run) → Does [] r s → Does [] s t → Does [] r t
 nothing_then r s t one two = so_nothing r t (does_so_then IsNone IsNone IsNone r s t (λ xs ys x y. ap (λ (l : List Step). l ++ ys) x ∙ y) (record { steps = []; so = refl; does = one }) (record { steps = []; so = refl; does = two }))
 
--- ---- jobs
-jobs_push : (heads : List AppHead) (from : ℕ) (first : List SessionLines) (jobs : List SessionJob) (lines : SessionLines) (job : SessionJob) → AreJobsFor heads from first jobs → IsJobFor heads (from + length first) lines job
-    → AreJobsFor heads from (first ++ lines ∷ []) (jobs ++ job ∷ [])
-jobs_push heads from [] [] lines job are is = (subst (λ (n : ℕ). IsJobFor heads n lines job) (omega arith) is, tt)
-jobs_push heads from (x ∷ first) (j ∷ jobs) lines job are is = (are.0, jobs_push heads (from + 1) first jobs lines job are.1 (subst (λ (n : ℕ). IsJobFor heads n lines job) (omega arith) is))
-jobs_push heads from _ _ lines job are is = absurd are
+-- so its time is as before
+pub same_time : (r s : Run) → Does [] r s → s.hands.clock.time ≡ r.hands.clock.time
+same_time r s d = sym d.goes.in_time.time_is
 
-pub jobs_count : (heads : List AppHead) (from : ℕ) (first : List SessionLines) (jobs : List SessionJob) → AreJobsFor heads from first jobs → length jobs ≡ length first
-jobs_count heads from [] [] are = refl
-jobs_count heads from (x ∷ first) (j ∷ jobs) are = ap suc (jobs_count heads (from + 1) first jobs are.1)
-jobs_count heads from _ _ are = absurd are
+-- ---- jobs
+jobs_push : (heads : List AppHead) (time from : ℕ) (first : List SessionLines) (jobs : List SessionJob) (lines : SessionLines) (job : SessionJob) → AreJobsFor heads time from first jobs → IsJobFor heads time (from + length first) lines job
+    → AreJobsFor heads time from (first ++ lines ∷ []) (jobs ++ job ∷ [])
+jobs_push heads time from [] [] lines job are is = (subst (λ (n : ℕ). IsJobFor heads time n lines job) (omega arith) is, tt)
+jobs_push heads time from (x ∷ first) (j ∷ jobs) lines job are is = (are.0, jobs_push heads time (from + 1) first jobs lines job are.1 (subst (λ (n : ℕ). IsJobFor heads time n lines job) (omega arith) is))
+jobs_push heads time from _ _ lines job are is = absurd are
+
+pub jobs_count : (heads : List AppHead) (time from : ℕ) (first : List SessionLines) (jobs : List SessionJob) → AreJobsFor heads time from first jobs → length jobs ≡ length first
+jobs_count heads time from [] [] are = refl
+jobs_count heads time from (x ∷ first) (j ∷ jobs) are = ap suc (jobs_count heads time (from + 1) first jobs are.1)
+jobs_count heads time from _ _ are = absurd are
 
 -- these were opened, and main did nothing
 pub record AreStarted (heads : List AppHead) (first : List SessionLines) (r s : Run) (jobs : List SessionJob) : Type 0 where
-  pub are : AreJobsFor heads (session_count r + 1) first jobs
+  pub are : AreJobsFor heads r.hands.clock.time (session_count r + 1) first jobs
   pub opened : sessions_of s ≡ sessions_of r ++ map opened_for jobs
   pub does : Does [] r s
 
@@ -52,11 +56,12 @@ none_started heads r = record { are = tt; opened = sym (append-nil (sessions_of 
 
 module _ (heads : List AppHead) (first : List SessionLines) (r s : Run) (jobs : List SessionJob) (so_far : AreStarted heads first r s jobs) where
   pub count_now : session_count s ≡ session_count r + length first
-  count_now = ap length so_far.opened ∙ length-append (sessions_of r) (map opened_for jobs) ∙ ap (λ (n : ℕ). session_count r + n) (length-map jobs opened_for ∙ jobs_count heads (session_count r + 1) first jobs so_far.are)
+  count_now = ap length so_far.opened ∙ length-append (sessions_of r) (map opened_for jobs) ∙ ap (λ (n : ℕ). session_count r + n) (length-map jobs opened_for ∙ jobs_count heads r.hands.clock.time (session_count r + 1) first jobs so_far.are)
 
   pub started_push : (lines : SessionLines) (job : SessionJob) (t : Run) → HasOpened heads lines (Ok job) s t → AreStarted heads (first ++ lines ∷ []) r t (jobs ++ job ∷ [])
   started_push lines job t opened = record {
-    are = jobs_push heads (session_count r + 1) first jobs lines job so_far.are (subst (λ (n : ℕ). IsJobFor heads n lines job) (omega (arith, count_now)) opened.0);
+    are = jobs_push heads r.hands.clock.time (session_count r + 1) first jobs lines job so_far.are
+        (subst (λ (time : ℕ). IsJobFor heads time (session_count r + 1 + length first) lines job) (same_time r s so_far.does) (subst (λ (n : ℕ). IsJobFor heads s.hands.clock.time n lines job) (omega (arith, count_now)) opened.0));
     opened =
         opened.1 ∙ ap (λ (l : List Told). l ++ opened_for job ∷ []) so_far.opened ∙ append_assoc (sessions_of r) (map opened_for jobs) (opened_for job ∷ [])
         ∙ ap (λ (l : List Told). sessions_of r ++ l) (sym (map-append opened_for jobs (job ∷ [])));

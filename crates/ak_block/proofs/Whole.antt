@@ -16,17 +16,17 @@ use Rattle.ak_block.proofs.Ends.{came_count}
 use Rattle.ak_block.proofs.Started.{jobs_count, nothing_then}
 
 module _ (heads : List AppHead) (sessions : List SessionLines) (result : Result (Unit {0}) Cut) (r s : Run) (ends : List SessionEnd) (ran : HasRunSessions heads sessions result r s ends) where
-  pub all_open : AreOpen heads (sessions_of r) (session_count r + 1) ran.first s ends
+  pub all_open : AreOpen heads (sessions_of r) r.hands.clock.time (session_count r + 1) ran.first s ends
   all_open = record { from_is = refl; jobs = ran.jobs; are = ran.are; came = ran.came; stand = ran.opened }
 
   -- there are at most as many ends
   pub ends_fit : length ends ≤ length sessions
-  ends_fit = omega (arith, came_count ran.jobs ends ran.came, jobs_count heads (session_count r + 1) ran.first ran.jobs ran.are, ap (λ (l : List SessionLines). length l) ran.all, length-append ran.first ran.rest)
+  ends_fit = omega (arith, came_count ran.jobs ends ran.came, jobs_count heads r.hands.clock.time (session_count r + 1) ran.first ran.jobs ran.are, ap (λ (l : List SessionLines). length l) ran.all, length-append ran.first ran.rest)
 
   abbrev is_closed : Told → Bool
   is_closed told = is_some told.1
 
-  pub block_run : (t : Run) (heard : List Heard) → HasClosedAll heads (sessions_of r) (session_count r + 1) ran.first s t heard → HasRunBlock heads sessions result r t heard
+  pub block_run : (t : Run) (heard : List Heard) → HasClosedAll heads (sessions_of r) r.hands.clock.time (session_count r + 1) ran.first s t heard → HasRunBlock heads sessions result r t heard
   block_run t heard kept = record {
     first = ran.first;
     rest = ran.rest;

@@ -31,8 +31,8 @@ pub record DidLines (heads : List AppHead) (lines : SessionLines) (part : Sessio
   pub cut : part.short ≡ true → IsCutAt heads lines.lines.items (length part.outcomes) (all_steps blocks) stopped
 
 -- ---- while the run goes on
--- the run has it closed, as it stood by these steps
-pub record IsCarriedIn (heads : List AppHead) (r : Run) (number : ℕ) (lines : SessionLines) (part : SessionPart) : Type 0 where
+-- the run has it closed, as it stood by these steps; its clock began at that time
+pub record IsCarriedIn (heads : List AppHead) (r : Run) (time number : ℕ) (lines : SessionLines) (part : SessionPart) : Type 0 where
   pub did : DidLines heads lines part
   pub place : ℕ
   pub number_is : number ≡ place + 1
@@ -40,7 +40,8 @@ pub record IsCarriedIn (heads : List AppHead) (r : Run) (number : ℕ) (lines : 
   pub closed : Session
   pub there : slice_get (sessions_of r) place ≡ Some (opened, Some closed)
   pub keeps : KeepsSession opened closed
-  pub stands : Stands heads opened.hands.clock.time (all_steps did.blocks ++ did.stopped) closed
+  pub begins : opened.hands.clock.time ≡ time
+  pub stands : Stands heads time (all_steps did.blocks ++ did.stopped) closed
 
 -- sessions whose numbers go on from that one; Carried tells of one of them what its thread did
 module _ (Carried : ℕ → SessionLines → SessionPart → Type 0) where

@@ -101,10 +101,10 @@ fn run_sessions<W: Spawner, R: Threads + Wait + Copy + Send + 'static>(
 // Closes the sessions, and keeps what each came to.
 fn close_all(run: &mut Run, ends: Vec<SessionEnd>, heard: &mut Vec<Heard>)
     requires running { IsRunning run.old }
-    requires opened { (heads : List AppHead) × (before : List Told) × (from : ℕ) × (sessions : List SessionLines) × AreOpen heads before from sessions run.old ends.items }
+    requires opened { (heads : List AppHead) × (before : List Told) × (time : ℕ) × (from : ℕ) × (sessions : List SessionLines) × AreOpen heads before time from sessions run.old ends.items }
     requires none { heard.old.items ≡ [] }
     requires room { length ends.items ≤ vec_capacity heard.old }
-    ensures kept { (heads : List AppHead) (before : List Told) (from : ℕ) (sessions : List SessionLines) → AreOpen heads before from sessions run.old ends.items → HasClosedAll heads before from sessions run.old run.new heard.new.items }
+    ensures kept { (heads : List AppHead) (before : List Told) (time from : ℕ) (sessions : List SessionLines) → AreOpen heads before time from sessions run.old ends.items → HasClosedAll heads before time from sessions run.old run.new heard.new.items }
     ensures running { IsRunning run.new }
     ensures apps { run.new.apps ≡ run.old.apps }
 {

@@ -13,6 +13,8 @@ use Rattle.ak_script.specs.declared.script.Script.{Script}
 use Rattle.ak_script.specs.Generated.{generated_limit}
 use Rattle.ak_script.specs.Script.{ScriptData, script_of}
 use Rattle.ak_script.specs.Seen.{script_seen}
+use Rattle.ak_play.specs.declared.run_end.Lines.{Lines}
+use Rattle.ak_play.specs.declared.run_end.Lines.TheVariants as lines
 use Rattle.ak_play.specs.declared.run_end.RunEnd.{RunEnd}
 use Rattle.ak_play.specs.Play.{IsPlay}
 use Rattle.ak_kit.specs.declared.words.Command.{Command}
@@ -23,6 +25,10 @@ use Rattle.ak_kit.specs.Summary.{summary}
 -- ---- the commands
 abbrev pub run_words : List (List ℕ)
 run_words = codes "run" ∷ []
+
+-- with its journal
+abbrev pub journal_words : List (List ℕ)
+journal_words = codes "run" ∷ codes "-j" ∷ []
 
 abbrev pub read_words : List (List ℕ)
 read_words = codes "read" ∷ []
@@ -35,9 +41,13 @@ gen_words n = codes "gen" ∷ decimal n ∷ []
 abbrev pub IsGen : List (List ℕ) → Type 0
 IsGen words = (n : ℕ) × (1 ≤ n) × (n ≤ generated_limit) × (words ≡ gen_words n)
 
+-- a command that carries an input out
+abbrev pub RunsInput : List (List ℕ) → Type 0
+RunsInput words = (words ≡ run_words) ⊎ (words ≡ journal_words)
+
 -- a command that reads an input
 abbrev pub ReadsInput : List (List ℕ) → Type 0
-ReadsInput words = (words ≡ run_words) ⊎ (words ≡ read_words)
+ReadsInput words = RunsInput words ⊎ (words ≡ read_words)
 
 abbrev pub IsCommand : List (List ℕ) → Type 0
 IsCommand words = ReadsInput words ⊎ IsGen words
@@ -45,6 +55,7 @@ IsCommand words = ReadsInput words ⊎ IsGen words
 -- the words say that command
 abbrev pub SaysCommand : List (List ℕ) → Command → Type 0
 SaysCommand words command.Run = words ≡ run_words
+SaysCommand words command.Journal = words ≡ journal_words
 SaysCommand words command.Read = words ≡ read_words
 SaysCommand words (command.Gen n) = (1 ≤ n) × (n ≤ generated_limit) × (words ≡ gen_words n)
 
@@ -66,7 +77,7 @@ status_of ending.NoMemory = 6
 -- the line that is written at the end
 abbrev pub closing_line : Ending → List ℕ
 closing_line ending.Done = []
-closing_line ending.Usage = codes "usage: kit run | read | gen N" ++ 10 ∷ []
+closing_line ending.Usage = codes "usage: kit run [-j] | read | gen N" ++ 10 ∷ []
 closing_line (ending.Refused line why) = codes "refused line " ++ decimal line ++ codes ": " ++ text_of why ++ 10 ∷ []
 closing_line ending.ReadFault = codes "read fault" ++ 10 ∷ []
 closing_line ending.WriteFault = []
@@ -153,6 +164,12 @@ abbrev pub Closes : Ending → Option (List ℕ) → Option (List ℕ) → ℕ �
 Closes end old new faults faults' =
     (n : ℕ) × Appends old new (take n (closing_line end)) × (n < length (closing_line end) → Rose faults faults') × (length (closing_line end) ≤ n → faults' ≡ faults)
 
+-- Behind lines of which that became: the closing line, but where a write failed, behind which nothing is written
+abbrev pub ClosesBehind : Lines → Ending → Option (List ℕ) → Option (List ℕ) → ℕ → ℕ → Type 0
+ClosesBehind lines.Whole end old new faults faults' = Closes end old new faults faults'
+ClosesBehind lines.Cut end old new faults faults' = Appends old new [] × (faults' ≡ faults)
+ClosesBehind lines.Lacking end old new faults faults' = Closes end old new faults faults'
+
 -- the line was written, or a front of it where the sink failed; without memory for it the closing line alone
 abbrev pub TellsLine : List ℕ → Ending → Option (List ℕ) → Option (List ℕ) → ℕ → ℕ → Type 0
 TellsLine line ending.Done old new faults faults' = Appends old new line
@@ -171,15 +188,15 @@ Tells ending.ReadFault left left' old new faults faults' = Closes ending.ReadFau
 Tells ending.ThreadFault left left' old new faults faults' = Closes ending.ThreadFault old new faults faults'
 Tells ending.NoMemory left left' old new faults faults' = Closes ending.NoMemory old new faults faults'
 
--- the lines of the run's statements, those of a block session by session, and behind them the closing line. The sink failed so often before
--- and after all, and so often between
+-- the lines of the run's statements, those of a block session by session, and behind them the closing line, but where a write failed. The sink
+-- failed so often before and after all, and so often between
 pub record PlaysAndCloses (run : RunEnd) (end : Ending) (old new : Option (List ℕ)) (faults faults' : ℕ) : Type 0 where
   pub between : Option (List ℕ)
   pub faults_between : ℕ
   pub first : faults ≤ faults_between
   pub second : faults_between ≤ faults'
   pub play : IsPlay run.script.apps.items run.script.statements.items end run old between (Rose faults faults_between) (faults_between ≡ faults)
-  pub closes : Closes end between new faults_between faults'
+  pub closes : ClosesBehind run.lines end between new faults_between faults'
 
 -- ---- the script of a number
 

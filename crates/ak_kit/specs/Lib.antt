@@ -1,3 +1,5 @@
 pub mod Gen
+pub mod Journal
 pub mod Kit
 pub mod Summary
+pub mod Untold

@@ -1,12 +1,12 @@
 //! The closing line, and the end of the program.
-ghost use Rattle.std.specs.Prelude.{◌≡◌, ◌≤◌, ◌⊎◌, [], None, IfOk};
+ghost use Rattle.std.specs.Prelude.{◌≡◌, ◌≤◌, ◌⊎◌, [], None, Some, IfOk};
 ghost use Rattle.ak_outside.specs.Faults.{Rose};
 ghost use Rattle.ak_kit.specs.Kit as kit;
 
 use crate::kit_end::{KitEnd, status_of};
 use ak_base::{Bytes, Ending, NoMemory, RefusalKind, print_uint};
 use ak_outside::{Sink, write_all};
-use ak_play::RunEnd;
+use ak_play::{Lines, RunEnd};
 use std::alloc::Global;
 
 // The closing line of an ending that is no refusal.
@@ -16,7 +16,7 @@ fn closing_line(ending: Ending) -> &'static [u8]
 {
     match ending {
         Ending::Done | Ending::WriteFault => b"",
-        Ending::Usage => b"usage: kit run | read | gen N\n",
+        Ending::Usage => b"usage: kit run [-j] | read | gen N\n",
         Ending::ReadFault => b"read fault\n",
         Ending::ThreadFault => b"thread fault\n",
         Ending::NoMemory => b"no memory\n",
@@ -66,6 +66,36 @@ pub(crate) fn close<K: Sink>(sink: &mut K, ending: Ending, run: Option<RunEnd>) 
     ensures kept { kit.closing_line ending ≡ [] → K.faults sink.new ≡ K.faults sink.old }
 {
     end_with(sink, ending, closing_line(ending), run)
+}
+
+/// Ends the program so, with nothing written.
+pub(crate) fn end_at_once(ending: Ending, run: RunEnd) -> KitEnd
+    ensures status { result.status ≡ kit.status_of ending }
+    ensures ending { result.ending ≡ ending }
+    ensures run { result.run ≡ Some run }
+{
+    KitEnd {
+        status: status_of(ending),
+        ending,
+        run: Some(run),
+    }
+}
+
+/// Ends the program behind the lines of that run. Where a write failed, nothing more is written.
+pub(crate) fn close_run<K: Sink>(sink: &mut K, ending: Ending, run: RunEnd) -> KitEnd
+    requires { kit.IsNoRefusal ending }
+    ensures status { result.status ≡ kit.status_of ending }
+    ensures ending { result.ending ≡ ending }
+    ensures run { result.run ≡ Some run }
+    ensures line { kit.ClosesBehind run.lines ending (K.written sink.old) (K.written sink.new) (K.faults sink.old) (K.faults sink.new) }
+    ensures never_falls { K.faults sink.old ≤ K.faults sink.new }
+    ensures kept { kit.closing_line ending ≡ [] → K.faults sink.new ≡ K.faults sink.old }
+{
+    if run.lines == Lines::Cut {
+        end_at_once(ending, run)
+    } else {
+        close(sink, ending, Some(run))
+    }
 }
 
 /// Writes the line, and ends the program.

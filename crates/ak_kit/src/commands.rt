@@ -6,10 +6,12 @@ ghost use Rattle.ak_headline.specs.Headline.{EachGotOneReply, EachLooper, IsAcco
 ghost use Rattle.ak_play.specs.Play.{IsPlayEnding, IsRunOf};
 ghost use Rattle.ak_run.specs.Opened.{WereOpened};
 ghost use Rattle.ak_script.specs.Seen.{script_seen};
+ghost use Rattle.ak_kit.specs.Journal.{JournalsAndCloses};
 ghost use Rattle.ak_kit.specs.Kit as kit;
 ghost use Rattle.ak_kit.specs.Summary.{summary};
 
-use crate::closing::{close, end_with_line};
+use crate::closing::{close, close_run, end_with_line};
+use crate::journal::end_with_journal;
 use crate::kit_end::KitEnd;
 use crate::summary::summary;
 use ak_base::{Ending, NoMemory};
@@ -20,13 +22,21 @@ use std::alloc::Global;
 use std::sync::Wait;
 use std::thread::Threads;
 
-/// Carries out the script.
+/// Carries out the script. With `journal` its journal is written behind its lines.
 pub(crate) fn play<
     K: Sink,
     W: Spawner,
     G: Gate + 'static,
     R: Threads + Wait + Copy + Send + 'static,
->(alloc: Global, rt: &R, script: Script, sink: &mut K, spawner: &mut W, gate: &G) -> KitEnd
+>(
+    alloc: Global,
+    rt: &R,
+    script: Script,
+    journal: bool,
+    sink: &mut K,
+    spawner: &mut W,
+    gate: &G,
+) -> KitEnd
     ensures status { result.status ≡ kit.status_of result.ending }
     ensures ending { IsPlayEnding result.ending }
     ensures no_run { IfNone result.run (result.ending ≡ Ending.NoMemory) }
@@ -39,7 +49,8 @@ pub(crate) fn play<
     ensures dispatched { IfSome result.run (λ run. EachLooper run.histories IsByRule) }
     ensures answered { IfSome result.run (λ run. EachGotOneReply run.short.loopers run.histories) }
 
-    ensures play { IfSome result.run (λ run. kit.PlaysAndCloses run result.ending (K.written sink.old) (K.written sink.new) (K.faults sink.old) (K.faults sink.new)) }
+    ensures play { journal ≡ false → IfSome result.run (λ run. kit.PlaysAndCloses run result.ending (K.written sink.old) (K.written sink.new) (K.faults sink.old) (K.faults sink.new)) }
+    ensures journal { journal ≡ true → IfSome result.run (λ run. JournalsAndCloses run result.ending (K.written sink.old) (K.written sink.new) (K.faults sink.old) (K.faults sink.new)) }
     ensures closing { IfNone result.run (kit.Closes result.ending (K.written sink.old) (K.written sink.new) (K.faults sink.old) (K.faults sink.new)) }
 
     ensures write_fault { result.ending ≡ Ending.WriteFault → Rose (K.faults sink.old) (K.faults sink.new) }
@@ -50,7 +61,11 @@ pub(crate) fn play<
     ensures spawner_never_falls { W.faults spawner.old ≤ W.faults spawner.new }
 {
     let (run, ending) = run_script(alloc, rt, script, sink, spawner, gate);
-    close(sink, ending, run)
+    match run {
+        Some(run) if journal => end_with_journal(alloc, run, ending, sink),
+        Some(run) => close_run(sink, ending, run),
+        None => close(sink, ending, None),
+    }
 }
 
 /// Writes the line that tells how much the script describes, and how many statements it has.

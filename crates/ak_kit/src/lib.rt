@@ -11,6 +11,7 @@ mod commands;
 mod gen_line;
 mod generate;
 mod input;
+mod journal;
 mod kit_end;
 mod nowhere;
 mod read;

@@ -8,6 +8,7 @@ ghost use Rattle.ak_headline.specs.Headline.{EachGotOneReply, EachLooper, IsAcco
 ghost use Rattle.ak_play.specs.Play.{IsRunOf, IsShort};
 ghost use Rattle.ak_run.specs.Opened.{WereOpened};
 ghost use Rattle.ak_script.specs.Script.{ScriptData, script_of};
+ghost use Rattle.ak_kit.specs.Journal.{JournalsAndCloses};
 ghost use Rattle.ak_kit.specs.Kit as kit;
 
 use crate::closing::end_without_script;
@@ -20,14 +21,22 @@ use std::alloc::Global;
 use std::sync::Wait;
 use std::thread::Threads;
 
-/// Reads the source to its end, and carries out the script that the input is the text of.
+/// Reads the source to its end, and carries out the script that the input is the text of. With `journal` its journal is written behind its lines.
 pub(crate) fn kit_run<
     S: Source,
     K: Sink,
     W: Spawner,
     G: Gate + 'static,
     R: Threads + Wait + Copy + Send + 'static,
->(alloc: Global, rt: &R, source: &mut S, sink: &mut K, spawner: &mut W, gate: &G) -> KitEnd
+>(
+    alloc: Global,
+    rt: &R,
+    source: &mut S,
+    journal: bool,
+    sink: &mut K,
+    spawner: &mut W,
+    gate: &G,
+) -> KitEnd
     ensures status { result.status ≡ kit.status_of result.ending }
     ensures no_usage { result.ending ≢ Ending.Usage }
     ensures bounded { ConsumesAtMost 1048577 (S.left source.old) (S.left source.new) }
@@ -43,7 +52,8 @@ pub(crate) fn kit_run<
     ensures dispatched { IfSome result.run (λ run. EachLooper run.histories IsByRule) }
     ensures answered { IfSome result.run (λ run. EachGotOneReply run.short.loopers run.histories) }
 
-    ensures play { IfSome result.run (λ run. kit.PlaysAndCloses run result.ending (K.written sink.old) (K.written sink.new) (K.faults sink.old) (K.faults sink.new)) }
+    ensures play { journal ≡ false → IfSome result.run (λ run. kit.PlaysAndCloses run result.ending (K.written sink.old) (K.written sink.new) (K.faults sink.old) (K.faults sink.new)) }
+    ensures journal { journal ≡ true → IfSome result.run (λ run. JournalsAndCloses run result.ending (K.written sink.old) (K.written sink.new) (K.faults sink.old) (K.faults sink.new)) }
     ensures closing { IfNone result.run (kit.Closes result.ending (K.written sink.old) (K.written sink.new) (K.faults sink.old) (K.faults sink.new)) }
 
     ensures read_fault { result.ending ≡ Ending.ReadFault → Rose (S.faults source.old) (S.faults source.new) }
@@ -71,7 +81,7 @@ pub(crate) fn kit_run<
         → (result.ending ≡ Ending.Done) ⊎ (result.ending ≡ Ending.NoMemory) }
 {
     match script_from(alloc, source) {
-        Ok(script) => play(alloc, rt, script, sink, spawner, gate),
+        Ok(script) => play(alloc, rt, script, journal, sink, spawner, gate),
         Err(ending) => end_without_script(alloc, sink, ending),
     }
 }

@@ -9,6 +9,7 @@ ghost use Rattle.ak_run.specs.Opened.{WereOpened};
 ghost use Rattle.ak_script.specs.Generated.{generated};
 ghost use Rattle.ak_script.specs.Script.{ScriptData, script_of};
 ghost use Rattle.ak_script.specs.Seen.{script_seen};
+ghost use Rattle.ak_kit.specs.Journal.{JournalsAndCloses};
 ghost use Rattle.ak_kit.specs.Kit as kit;
 
 use crate::closing::close;
@@ -25,17 +26,18 @@ use std::thread::Threads;
 
 /// The program: does what the words say. With `run` it reads the source to its end, and carries out the script that the
 /// input is the text of, with a thread for each looper and each session of a block. It writes to the sink the line of each
-/// statement, those of a block session by session; before it returns, the run is ended and its threads are joined. With
+/// statement, those of a block session by session; before it returns, the run is ended and its threads are joined. With `run -j`
+/// it writes the run's journal behind these lines: the line `journal`, and a line for each entry of each object, by their stamps. With
 /// `read` it does as `kit_read`. With `gen N` it reads nothing, makes the script of the number N as `generated` of
 /// `ak_script` does, carries it out with its lines written nowhere, and then writes one line: how many replies `'RPLY'` its
 /// block got, and how far each of the three loopers has counted. It writes a closing line where it ends otherwise than Done or
 /// WriteFault.
 ///
-/// `words` are those behind the program's name. Usage, with nothing read, exactly where they are neither `run` nor `read`
+/// `words` are those behind the program's name. Usage, with nothing read, exactly where they are neither `run` nor `run -j` nor `read`
 /// nor `gen` and the decimal of a number from 1 to 500. ReadFault, WriteFault and ThreadFault come only where the count of
 /// faults of the source, the sink or the spawner rose. Refused is the first refusal of the input. NoMemory may come in
 /// place of each ending but Usage; with a run it says that somebody in the run found no memory, or main none for the line
-/// of `gen`, and then the run says so of main. At most 1,048,577 bytes are read, one more than an input may have.
+/// of `gen` or for the journal, and then the run says so of main. At most 1,048,577 bytes are read, one more than an input may have.
 ///
 /// Of a source and a sink that tell nothing, the clauses on bytes say that there are such bytes.
 pub fn kit<
@@ -67,8 +69,8 @@ pub fn kit<
     ensures refused { (line : ℕ) (why : RefusalKind) → result.ending ≡ Ending.Refused line why
         → kit.SomeInput (kit.IsRefusedAt line why) (S.left source.old) (S.left source.new) }
 
-    // With `run`, the run is of the script that the input is the text of. Without a run, no script was carried out.
-    ensures script { words.now ≡ kit.run_words → IfSome result.run (λ run. kit.SomeInput (kit.IsTextOf run.script) (S.left source.old) (S.left source.new)) }
+    // With `run` and `run -j`, the run is of the script that the input is the text of. Without a run, no script was carried out.
+    ensures script { kit.RunsInput words.now → IfSome result.run (λ run. kit.SomeInput (kit.IsTextOf run.script) (S.left source.old) (S.left source.new)) }
     ensures no_run { words.now ≢ kit.read_words → IfNone result.run (kit.IsUnrun result.ending) }
     ensures starts_nothing { IfNone result.run (spawner.new ≡ spawner.old) }
 
@@ -81,6 +83,7 @@ pub fn kit<
 
     // What main and the sessions did for the statements, and what was written.
     ensures play { words.now ≡ kit.run_words → IfSome result.run (λ run. kit.PlaysAndCloses run result.ending (K.written sink.old) (K.written sink.new) (K.faults sink.old) (K.faults sink.new)) }
+    ensures journal { words.now ≡ kit.journal_words → IfSome result.run (λ run. JournalsAndCloses run result.ending (K.written sink.old) (K.written sink.new) (K.faults sink.old) (K.faults sink.new)) }
     ensures closing { words.now ≢ kit.read_words → IfNone result.run (kit.Closes result.ending (K.written sink.old) (K.written sink.new) (K.faults sink.old) (K.faults sink.new)) }
 
     // With `read` nothing is run, and the summary line is written.
@@ -114,7 +117,7 @@ pub fn kit<
         → S.left source.old ≡ Some input
         → kit.IsRefusedAt line why input
         → (result.ending ≡ Ending.Refused line why) ⊎ (result.ending ≡ Ending.NoMemory) }
-    ensures complete { words.now ≡ kit.run_words
+    ensures complete { kit.RunsInput words.now
         → Stayed (S.faults source.old) (S.faults source.new)
         → Stayed (K.faults sink.old) (K.faults sink.new)
         → Stayed (W.faults spawner.old) (W.faults spawner.new)
@@ -135,7 +138,8 @@ pub fn kit<
         → (result.ending ≡ Ending.Done) ⊎ (result.ending ≡ Ending.NoMemory) }
 {
     match command_of(words) {
-        Some(Command::Run) => kit_run(alloc, rt, source, sink, spawner, gate),
+        Some(Command::Run) => kit_run(alloc, rt, source, false, sink, spawner, gate),
+        Some(Command::Journal) => kit_run(alloc, rt, source, true, sink, spawner, gate),
         Some(Command::Read) => kit_read(alloc, source, sink),
         Some(Command::Gen(n)) => kit_gen(alloc, rt, n, sink, spawner, gate),
         None => close(sink, Ending::Usage, None),

@@ -12,6 +12,8 @@ use ak_script::GENERATED_LIMIT;
 pub(crate) enum Command {
     /// `run`: an input is carried out.
     Run,
+    /// `run -j`: it is carried out, and all that was done is told entry by entry.
+    Journal,
     /// `read`: an input is told of.
     Read,
     /// `gen N`: the script of that number is carried out and told of. A script is made of it.
@@ -27,14 +29,16 @@ pub(crate) fn command_of(words: &[Bytes]) -> Option<Command>
     let Some((word, behind)) = words.split_first() else {
         return None;
     };
-    let Some((number, rest)) = behind.split_first() else {
+    let Some((second, rest)) = behind.split_first() else {
         return plain_command(word.as_slice());
     };
-    if rest.is_empty() {
-        gen_command(word.as_slice(), number.as_slice())
-    } else {
-        None
+    if !rest.is_empty() {
+        return None;
     }
+    if says_journal(word.as_slice(), second.as_slice()) {
+        return Some(Command::Journal);
+    }
+    gen_command(word.as_slice(), second.as_slice())
 }
 
 fn is_word(word: &[u8], name: &[u8]) -> bool
@@ -56,6 +60,13 @@ fn plain_command(word: &[u8]) -> Option<Command>
         return Some(Command::Read);
     }
     None
+}
+
+// Whether they are `run -j`.
+fn says_journal(word: &[u8], flag: &[u8]) -> bool
+    ensures { IsTrue result ↔ (word.now ∷ flag.now ∷ [] ≡ kit.journal_words) }
+{
+    is_word(word, b"run") && is_word(flag, b"-j")
 }
 
 // The command that a word and a number say.

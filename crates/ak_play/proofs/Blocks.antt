@@ -1,6 +1,6 @@
 -- One statement: what it came to is its part.
 use Rattle.std.proofs.Common.{◌≡◌, ◌≤◌, ◌<◌, ◌+◌, inl, inr, ℕ, suc, List, [], ◌∷◌, ◌++◌, length, length-append, map, refl, sym, ap, ◌∙◌, subst, append-nil, arith}
-use Rattle.std.specs.Prelude.{Bool, true, false, Option, Result, Ok, Err, IsErrOf}
+use Rattle.std.specs.Prelude.{Option, Result, Ok, Err, IsErrOf}
 use Rattle.ak_describe.specs.Whole.{heads_of}
 use Rattle.ak_describe.specs.declared.described.AppText.{AppText}
 use Rattle.ak_diary.specs.Step.{Step}
@@ -20,30 +20,46 @@ use Rattle.ak_block.specs.declared.blocks.Cut.TheVariants as cut
 use Rattle.ak_block.specs.declared.blocks.Heard.{Heard}
 use Rattle.ak_block.specs.Carried.{AreCarried, HasSessionsMore, IsCarriedIn, SessionPart}
 use Rattle.ak_block.specs.Together.{HasCarriedAll, HasRunBlock, part_of}
+use Rattle.ak_play.specs.declared.run_end.Lines.{Lines}
+use Rattle.ak_play.specs.declared.run_end.Lines.TheVariants as lines
 use Rattle.ak_play.specs.declared.stop.Stop.{Stop}
 use Rattle.ak_play.specs.declared.stop.Stop.TheVariants as stop
+use Rattle.ak_play.specs.declared.stop.Untold.{Untold}
+use Rattle.ak_play.specs.declared.stop.Untold.TheVariants as untold
 use Rattle.ak_play.specs.Blocks.{IsAlone, IsBlock, IsLaunch}
 use Rattle.ak_play.specs.Gathered.{GatheredData, gathered_and, of_came, of_sessions}
 use Rattle.ak_play.specs.Parts.{IsMains, IsOfSessions, IsPart, Part, session_outcomes, session_tolds, short_in}
-use Rattle.ak_play.specs.Steps.{HasStepped, HasWritten, HasWrittenAll, IsThreadFault, StepsOn, StopsInside, StopsShort, is_lack}
+use Rattle.ak_play.specs.Play.{AreWritten}
+use Rattle.ak_play.specs.Steps.{HasStepped, HasWritten, HasWrittenAll, IsThreadFault, StepsOn, StopsBeforeLines, StopsInside, StopsShort, lines_told, stop_untold}
 use Rattle.ak_play.proofs.Doing.{nothing_so}
 use Rattle.ak_play.proofs.Playing.{Appends-nothing, no_sessions_more}
-use Rattle.ak_play.proofs.Texts.{left_of, one_written}
+use Rattle.ak_play.proofs.Texts.{one_written, written_as}
 
 -- ---- a statement of main's
-mains_part : (apps : List AppText) (C : ℕ → SessionLines → SessionPart → Type 0) (from : ℕ) (s : Statement) (part : Part) → IsAlone s → IsMains apps s part → IsPart C apps from s part
-mains_part apps C from (statement.Launch l) part alone is = is
-mains_part apps C from (statement.Hey h) part alone is = is
-mains_part apps C from (statement.Post p) part alone is = is
-mains_part apps C from (statement.Lock l) part alone is = is
-mains_part apps C from (statement.Together t) part alone is = absurd alone
+mains_part : (apps : List AppText) (C : ℕ → ℕ → SessionLines → SessionPart → Type 0) (time from : ℕ) (s : Statement) (part : Part) → IsAlone s → IsMains apps s part → IsPart C apps time from s part
+mains_part apps C time from (statement.Launch l) part alone is = is
+mains_part apps C time from (statement.Hey h) part alone is = is
+mains_part apps C time from (statement.Post p) part alone is = is
+mains_part apps C time from (statement.Lock l) part alone is = is
+mains_part apps C time from (statement.Together t) part alone is = absurd alone
+
+-- it has its part, and by what its lines were told that is how it ends
+abbrev pub stopped_by : Result (Unit {0}) Untold → Result (Unit {0}) Stop
+stopped_by (Ok x) = Ok x
+stopped_by (Err why) = Err (stop_untold why)
+
+on_by : (apps : List AppText) (s : Statement) (k k' : GatheredData) (r r' : Run) (old new : Option (List ℕ)) (Failed Kept : Type 0) (told : Result (Unit {0}) Untold) → StepsOn apps s k k' r r' (λ tolds. AreWritten (lines_told told) Failed Kept [] tolds old new)
+    → HasStepped apps s k k' r r' old new Failed Kept (stopped_by told)
+on_by apps s k k' r r' old new Failed Kept (Ok x) on = on
+on_by apps s k k' r r' old new Failed Kept (Err untold.WriteFault) on = on
+on_by apps s k k' r r' old new Failed Kept (Err untold.NoMemory) on = inr (inl (refl, on))
 
 module _ (apps : List AppText) (s : Statement) (alone : IsAlone s) (k : GatheredData) (r r' : Run) (old new : Option (List ℕ)) (Failed Kept : Type 0) (same : sessions_of r' ≡ sessions_of r) where
   -- it came to something
   main_on : (came : Came) (steps : List Step) → IsBlock apps s came.outcome came.told steps → Does steps r r' → {W : List Told → Type 0} → W (came.told ∷ []) → StepsOn apps s k (gathered_and k (of_came came)) r r' W
   main_on came steps is does written = record {
     part = part;
-    is = mains_part apps (IsCarriedIn (heads_of apps) r') (session_count r + 1) s part alone (record { outcome = came.outcome; told = came.told; is = is; outcomes_are = refl; tolds_are = refl; no_session = refl; none_short = refl });
+    is = mains_part apps (IsCarriedIn (heads_of apps) r') r.hands.clock.time (session_count r + 1) s part alone (record { outcome = came.outcome; told = came.told; is = is; outcomes_are = refl; tolds_are = refl; no_session = refl; none_short = refl });
     does = does;
     sessions = no_sessions_more r r' same;
     gathered = refl;
@@ -53,26 +69,24 @@ module _ (apps : List AppText) (s : Statement) (alone : IsAlone s) (k : Gathered
       part : Part
       part = record { steps = steps; sessions = 0; outcomes = came.outcome ∷ []; tolds = came.told ∷ []; short = [] }
 
-  pub main_stepped : (came : Came) (told : Result (Unit {0}) Stop) → DoesSo (IsBlock apps s came.outcome came.told) r r' → HasWritten told (told_line came.told) old new → (¬ (IsErrOf told stop.WriteFault) → Kept) → HasStepped apps s k (gathered_and k (of_came came)) r r' old new Failed Kept told
-  main_stepped came (Ok x) does written kept = main_on came does.steps does.so does.does (one_written (Ok x) came.told old new written, kept (λ bad. absurd (cc bad)))
-  main_stepped came (Err stop.WriteFault) does written kept = main_on came does.steps does.so does.does (one_written (Err stop.WriteFault) came.told old new written)
-  main_stepped came (Err (stop.ThreadFault lacks)) does written kept = absurd written
-  main_stepped came (Err stop.NoMemory) does written kept = inr (inl (main_on came does.steps does.so does.does (one_written (Err stop.NoMemory) came.told old new written, kept (λ bad. absurd (cc bad)))))
+  pub main_stepped : (came : Came) (told : Result (Unit {0}) Untold) → DoesSo (IsBlock apps s came.outcome came.told) r r' → HasWritten told (told_line came.told) old new → (IsErrOf told untold.WriteFault → Failed) → (¬ (IsErrOf told untold.WriteFault) → Kept)
+      → HasStepped apps s k (gathered_and k (of_came came)) r r' old new Failed Kept (stopped_by told)
+  main_stepped came told does written failed kept =
+      on_by apps s k (gathered_and k (of_came came)) r r' old new Failed Kept told (main_on came does.steps does.so does.does (written_as told Failed Kept (came.told ∷ []) old new failed kept (one_written told came.told old new written)))
 
 -- it came to nothing
 module _ (apps : List AppText) (s : Statement) (k k' : GatheredData) (r r' : Run) (given : Option (List ℕ)) (Failed Kept : Type 0) (same : sessions_of r' ≡ sessions_of r) (kept : k' ≡ k) (sink : Kept) where
   stops : (steps : List Step) → Does steps r r' → StopsShort k k' r r' given given Kept
   stops steps does = record { steps = steps; does = does; sessions = same; same = kept; written = Appends-nothing given; sink = sink }
 
-  pub stopped_short : (steps : List Step) → Does steps r r' → HasStepped apps s k k' r r' given given Failed Kept {A = Unit {0}} (Err stop.NoMemory)
-  stopped_short steps does = inl (stops steps does)
+  pub stopped_short : (steps : List Step) → Does steps r r' → HasStepped apps s k k' r r' given given Failed Kept {A = Unit {0}} (Err (stop.NoMemory lines.Whole))
+  stopped_short steps does = inl (refl, stops steps does)
 
-  pub main_stopped : (why : Stop) (steps : List Step) → Does steps r r' → (why ≡ stop.WriteFault → ⊥) → (why ≡ stop.ThreadFault true → ⊥) → (IsThreadFault {A = Came} (Err why) → IsLaunch s)
+  pub main_stopped : (why : Stop) (steps : List Step) → Does steps r r' → (why ≡ stop.WriteFault → ⊥) → StopsBeforeLines {A = Came} (Err why) → (IsThreadFault {A = Came} (Err why) → IsLaunch s)
       → HasStepped apps s k k' r r' given given Failed Kept {A = Unit {0}} (Err why)
-  main_stopped stop.WriteFault steps does not_written by_main launch = absurd (not_written refl)
-  main_stopped (stop.ThreadFault true) steps does not_written by_main launch = absurd (by_main refl)
-  main_stopped (stop.ThreadFault false) steps does not_written by_main launch = inl (launch tt, refl, stops steps does)
-  main_stopped stop.NoMemory steps does not_written by_main launch = inl (stops steps does)
+  main_stopped stop.WriteFault steps does not_written before launch = absurd (not_written refl)
+  main_stopped (stop.ThreadFault told) steps does not_written before launch = inl (launch tt, before, stops steps does)
+  main_stopped (stop.NoMemory told) steps does not_written before launch = inl (before, stops steps does)
 
 -- ---- a block
 pub as_many : (C : ℕ → SessionLines → SessionPart → Type 0) (from : ℕ) (all : List SessionLines) (parts : List SessionPart) → AreCarried C from all parts → length all ≡ length parts
@@ -94,11 +108,11 @@ module _ (apps : List AppText) (t : Together) (k : GatheredData) (r r' : Run) (h
   abbrev From : ℕ
   From = session_count r + 1
 
-  are_sessions : (sessions : List SessionLines) → HasCarriedAll (heads_of apps) sessions r r' heard → IsOfSessions (IsCarriedIn (heads_of apps) r') From sessions (part_so_far From heard)
+  are_sessions : (sessions : List SessionLines) → HasCarriedAll (heads_of apps) sessions r r' heard → IsOfSessions (IsCarriedIn (heads_of apps) r') r.hands.clock.time From sessions (part_so_far From heard)
   are_sessions sessions kept = record { parts = map part_of heard; carried = kept.carried; nothing = refl; count = refl; outcomes_are = refl; tolds_are = refl; short_are = refl }
 
   so_many : (sessions : List SessionLines) → HasCarriedAll (heads_of apps) sessions r r' heard → length sessions ≡ length (map part_of heard)
-  so_many sessions kept = as_many (IsCarriedIn (heads_of apps) r') From sessions (map part_of heard) kept.carried
+  so_many sessions kept = as_many (IsCarriedIn (heads_of apps) r' r.hands.clock.time) From sessions (map part_of heard) kept.carried
 
   more : (sessions : List SessionLines) → HasCarriedAll (heads_of apps) sessions r r' heard → HasSessionsMore (length (map part_of heard)) r r'
   more sessions kept = subst (λ (n : ℕ). HasSessionsMore n r r') (so_many sessions kept) kept.more
@@ -111,7 +125,7 @@ module _ (apps : List AppText) (t : Together) (k : GatheredData) (r r' : Run) (h
       let whole : first ≡ t.sessions.items = sym (all ∙ ap (λ (l : List SessionLines). first ++ l) none ∙ append-nil first) in
       record {
         part = part_so_far From heard;
-        is = subst (λ (l : List SessionLines). IsOfSessions (IsCarriedIn (heads_of apps) r') From l (part_so_far From heard)) whole (are_sessions first kept);
+        is = subst (λ (l : List SessionLines). IsOfSessions (IsCarriedIn (heads_of apps) r') r.hands.clock.time From l (part_so_far From heard)) whole (are_sessions first kept);
         does = kept.does;
         sessions = more first kept;
         gathered = refl;
@@ -129,27 +143,28 @@ module _ (apps : List AppText) (t : Together) (k : GatheredData) (r r' : Run) (h
     written = written;
   }
 
-  module _ (told : Result (Unit {0}) Stop) (written : HasWrittenAll told (session_tolds (map part_of heard)) old new) where
+  module _ (told : Result (Unit {0}) Untold) (written : HasWrittenAll told (session_tolds (map part_of heard)) old new) (failed : IsErrOf told untold.WriteFault → Failed) (kept : ¬ (IsErrOf told untold.WriteFault) → Kept) where
+    so_written : AreWritten (lines_told told) Failed Kept [] (session_tolds (map part_of heard)) old new
+    so_written = written_as told Failed Kept (session_tolds (map part_of heard)) old new failed kept written
+
+    written_so : (became : Lines) → became ≡ lines_told told → AreWritten became Failed Kept [] (session_tolds (map part_of heard)) old new
+    written_so became so = subst (λ (l : Lines). AreWritten l Failed Kept [] (session_tolds (map part_of heard)) old new) (sym so) so_written
+
     -- it was carried out whole
-    pub block_stepped : HasRunBlock (heads_of apps) t.sessions.items (Ok tt) r r' heard → (¬ (IsErrOf told stop.WriteFault) → Kept) → HasStepped apps (statement.Together t) k K' r r' old new Failed Kept told
-    block_stepped ran kept = by_told told written kept where
-      by_told : (told : Result (Unit {0}) Stop) → HasWrittenAll told (session_tolds (map part_of heard)) old new → (¬ (IsErrOf told stop.WriteFault) → Kept) → HasStepped apps (statement.Together t) k K' r r' old new Failed Kept told
-      by_told (Ok x) w k = block_on ran.rest ran.ends_with ran.first ran.all ran.kept (w, k (λ bad. absurd (cc bad)))
-      by_told (Err stop.WriteFault) w k = block_on ran.rest ran.ends_with ran.first ran.all ran.kept w
-      by_told (Err (stop.ThreadFault lacks)) w k = absurd w
-      by_told (Err stop.NoMemory) w k = inr (inl (block_on ran.rest ran.ends_with ran.first ran.all ran.kept (w, k (λ bad. absurd (cc bad)))))
+    pub block_stepped : HasRunBlock (heads_of apps) t.sessions.items (Ok tt) r r' heard → HasStepped apps (statement.Together t) k K' r r' old new Failed Kept (stopped_by told)
+    block_stepped ran = on_by apps (statement.Together t) k K' r r' old new Failed Kept told (block_on ran.rest ran.ends_with ran.first ran.all ran.kept so_written)
 
     -- it was cut, for want of memory
-    pub block_lacked : HasRunBlock (heads_of apps) t.sessions.items (Err cut.NoMemory) r r' heard → (IsErrOf told stop.WriteFault → Failed) → HasStepped apps (statement.Together t) k K' r r' old new Failed Kept {A = Unit {0}} (Err stop.NoMemory)
-    block_lacked ran failed =
+    pub block_lacked : (became : Lines) → became ≡ lines_told told → HasRunBlock (heads_of apps) t.sessions.items (Err cut.NoMemory) r r' heard → HasStepped apps (statement.Together t) k K' r r' old new Failed Kept {A = Unit {0}} (Err (stop.NoMemory became))
+    block_lacked became so ran =
         let not_all : length (map part_of heard) < length t.sessions.items = omega (arith, so_many ran.first ran.kept, ran.ends_with, ap length ran.all, length-append ran.first ran.rest) in
-        inr (inr (block_inside ran.first ran.rest ran.all ran.kept not_all (left_of told true Failed (session_tolds (map part_of heard)) old new (λ lacks. refl) failed written)))
+        inr (inr (block_inside ran.first ran.rest ran.all ran.kept not_all (written_so became so)))
 
     -- it was cut, as a thread could not be started
-    pub block_refused : (lacks : Bool) → lacks ≡ is_lack told → HasRunBlock (heads_of apps) t.sessions.items (Err cut.ThreadFault) r r' heard → (IsErrOf told stop.WriteFault → Failed) → HasStepped apps (statement.Together t) k K' r r' old new Failed Kept {A = Unit {0}} (Err (stop.ThreadFault lacks))
-    block_refused lacks so ran failed =
+    pub block_refused : (became : Lines) → became ≡ lines_told told → HasRunBlock (heads_of apps) t.sessions.items (Err cut.ThreadFault) r r' heard → HasStepped apps (statement.Together t) k K' r r' old new Failed Kept {A = Unit {0}} (Err (stop.ThreadFault became))
+    block_refused became so ran =
         let some : 1 ≤ length (map part_of heard) = omega (arith, so_many ran.first ran.kept, ran.ends_with) in
-        inr (block_inside ran.first ran.rest ran.all ran.kept some (left_of told lacks Failed (session_tolds (map part_of heard)) old new (λ lacking. so ∙ lacking) failed written))
+        inr (block_inside ran.first ran.rest ran.all ran.kept some (written_so became so))
 
 -- nothing was done
 pub nothing_done : (r r' : Run) → r' ≡ r → Does [] r r'

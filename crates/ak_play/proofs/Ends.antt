@@ -10,7 +10,7 @@ use Rattle.ak_roster.specs.declared.head.AppHead.{AppHead}
 use Rattle.ak_describe.specs.Whole.{heads_of}
 use Rattle.ak_describe.specs.declared.described.AppText.{AppText}
 use Rattle.ak_diary.specs.declared.histories.Histories.{Histories}
-use Rattle.ak_diary.specs.Step.{AreStamped, Step, desk_entries, desk_entry}
+use Rattle.ak_diary.specs.Step.{AreStamped, Step, desk_entries, desk_entry, time_of}
 use Rattle.ak_headline.specs.Headline.{EachGotOneReply}
 use Rattle.ak_headline.specs.Main.{IsMainDiary}
 use Rattle.ak_headline.specs.Run.{HasDone, IsRunWith, desk_list}
@@ -24,6 +24,8 @@ use Rattle.ak_block.specs.Carried.{IsCarriedIn, SessionPart}
 use Rattle.ak_lines.specs.Carried as carried
 use Rattle.ak_lines.specs.declared.outcome.Outcome.{Outcome}
 use Rattle.ak_print.specs.declared.told.Told.{Told}
+use Rattle.ak_play.specs.declared.run_end.Lines.{Lines}
+use Rattle.ak_play.specs.declared.run_end.Lines.TheVariants as lines
 use Rattle.ak_play.specs.declared.run_end.RunEnd.{RunEnd}
 use Rattle.ak_play.specs.declared.run_end.Short.{Short}
 use Rattle.ak_play.specs.declared.stop.Stop.{Stop}
@@ -31,13 +33,12 @@ use Rattle.ak_play.specs.declared.stop.Stop.TheVariants as stop
 use Rattle.ak_play.specs.declared.gathered.Gathered.{Gathered}
 use Rattle.ak_play.specs.Gathered.{GatheredData, gathered_seen}
 use Rattle.ak_play.specs.Parts.{IsCut, Part, all_outcomes, all_sessions, all_steps, all_tolds, sessions_in}
-use Rattle.ak_play.specs.Play.{AreReplies, IsPlay, IsShort, cut_outcomes, cut_tolds, first_tolds, last_tolds}
+use Rattle.ak_play.specs.Play.{AreReplies, AreWritten, IsPlay, IsShort, cut_outcomes, cut_tolds, first_tolds, last_tolds}
 use Rattle.ak_play.specs.Sessions.{HasCarried}
-use Rattle.ak_play.specs.Steps.{IsPlayedTo, any_short, ended_as, is_any, is_lack, stopped_as}
+use Rattle.ak_play.specs.Steps.{IsPlayedTo, any_short, ended_as, is_any, is_lack, lacks_a_line, lines_after, stopped_as}
 use Rattle.ak_play.proofs.Gathering.{gathered_is}
 use Rattle.ak_play.proofs.Lists.{all_front}
 use Rattle.ak_play.proofs.Parts.{parts_so, some_cut_so}
-use Rattle.ak_play.proofs.Playing.{written_at_end}
 use Rattle.ak_play.proofs.Replies.{replies}
 
 -- ---- who found no memory
@@ -75,73 +76,91 @@ module _ {A : Type 0} where
   done_not_short (Ok x) s false main any short done =
       ⊎_elim (λ (by_main : s.main ≡ true). let bad : true ≡ false = sym by_main ∙ main in absurd (cc bad)) (λ (some : (s.sessions ≢ []) ⊎ (s.loopers ≢ [])). no_threads s any some) short
   done_not_short (Err stop.WriteFault) s lacked main any short done = absurd (cc done)
-  done_not_short (Err (stop.ThreadFault lacking)) s lacked main any short done = absurd (cc done)
-  done_not_short (Err stop.NoMemory) s lacked main any short done = absurd (cc done)
+  done_not_short (Err (stop.ThreadFault told)) s lacked main any short done = absurd (cc done)
+  done_not_short (Err (stop.NoMemory told)) s lacked main any short done = absurd (cc done)
 
   lacking_is_short : (played : Result A Stop) (s : Short) (lacked : Bool) → s.main ≡ is_lack played → any_short s ≡ lacked → ended_as played lacked ≡ ending.NoMemory → IsShort s
   lacking_is_short (Ok x) s true main any end = inr (some_thread s any)
   lacking_is_short (Ok x) s false main any end = absurd (cc end)
   lacking_is_short (Err stop.WriteFault) s lacked main any end = absurd (cc end)
-  lacking_is_short (Err (stop.ThreadFault lacking)) s lacked main any end = absurd (cc end)
-  lacking_is_short (Err stop.NoMemory) s lacked main any end = inl main
+  lacking_is_short (Err (stop.ThreadFault told)) s lacked main any end = absurd (cc end)
+  lacking_is_short (Err (stop.NoMemory told)) s lacked main any end = inl main
 
   -- what is so where it was done
   done_so : (P : Type 0) (played : Result A Stop) (lacked : Bool) → (stopped_as played ≡ ending.Done → P) → ended_as played lacked ≡ ending.Done → P
   done_so P (Ok x) lacked whole done = whole refl
   done_so P (Err stop.WriteFault) lacked whole done = absurd (cc done)
-  done_so P (Err (stop.ThreadFault lacking)) lacked whole done = absurd (cc done)
-  done_so P (Err stop.NoMemory) lacked whole done = absurd (cc done)
+  done_so P (Err (stop.ThreadFault told)) lacked whole done = absurd (cc done)
+  done_so P (Err (stop.NoMemory told)) lacked whole done = absurd (cc done)
 
   -- so it is where main found memory, no write failed and each thread was started
   by_main : (P : Type 0) (played : Result A Stop) (lacked main : Bool) → main ≡ is_lack played → (stopped_as played ≡ ending.Done → P) → main ≡ false → ended_as played lacked ≢ ending.WriteFault → ended_as played lacked ≢ ending.ThreadFault → P
   by_main P (Ok x) lacked main is whole found no_write no_start = whole refl
   by_main P (Err stop.WriteFault) lacked main is whole found no_write no_start = absurd (no_write refl)
-  by_main P (Err (stop.ThreadFault lacking)) lacked main is whole found no_write no_start = absurd (no_start refl)
-  by_main P (Err stop.NoMemory) lacked main is whole found no_write no_start = let bad : true ≡ false = sym is ∙ found in absurd (cc bad)
+  by_main P (Err (stop.ThreadFault told)) lacked main is whole found no_write no_start = absurd (no_start refl)
+  by_main P (Err (stop.NoMemory told)) lacked main is whole found no_write no_start = let bad : true ≡ false = sym is ∙ found in absurd (cc bad)
 
   -- where main found none, that is how it ended, or a thread could not be started for a session of a block
   main_short : (P : Type 0) (played : Result A Stop) (lacked main : Bool) → main ≡ is_lack played → (stopped_as played ≡ ending.ThreadFault → is_lack played ≡ true → P) → main ≡ true → (ended_as played lacked ≡ ending.NoMemory) ⊎ ((ended_as played lacked ≡ ending.ThreadFault) × P)
   main_short P (Ok x) lacked main is inside lacks = let bad : false ≡ true = sym is ∙ lacks in absurd (cc bad)
   main_short P (Err stop.WriteFault) lacked main is inside lacks = let bad : false ≡ true = sym is ∙ lacks in absurd (cc bad)
-  main_short P (Err (stop.ThreadFault lacking)) lacked main is inside lacks = inr (refl, inside refl (sym is ∙ lacks))
-  main_short P (Err stop.NoMemory) lacked main is inside lacks = inl refl
+  main_short P (Err (stop.ThreadFault told)) lacked main is inside lacks = inr (refl, inside refl (sym is ∙ lacks))
+  main_short P (Err (stop.NoMemory told)) lacked main is inside lacks = inl refl
 
   -- a block that was cut where memory ran out
   lacking_before : (cut : Option Part) (Q : Part → Type 0) (played : Result A Stop) (lacked : Bool) → (stopped_as played ≡ ending.Done → cut ≡ None) → (stopped_as played ≡ ending.NoMemory → IfSome cut Q) → ended_as played lacked ≡ ending.NoMemory → IfSome cut Q
   lacking_before cut Q (Ok x) lacked none before end = subst (λ (c : Option Part). IfSome c Q) (sym (none refl)) tt
   lacking_before cut Q (Err stop.WriteFault) lacked none before end = absurd (cc end)
-  lacking_before cut Q (Err (stop.ThreadFault lacking)) lacked none before end = absurd (cc end)
-  lacking_before cut Q (Err stop.NoMemory) lacked none before end = before refl
+  lacking_before cut Q (Err (stop.ThreadFault told)) lacked none before end = absurd (cc end)
+  lacking_before cut Q (Err (stop.NoMemory told)) lacked none before end = before refl
 
-  -- it ended otherwise than at a write
-  no_write : (played : Result A Stop) (lacked : Bool) → ended_as played lacked ≢ ending.WriteFault → stopped_as played ≢ ending.WriteFault
-  no_write (Ok x) lacked other at_a_write = cc at_a_write
-  no_write (Err stop.WriteFault) lacked other at_a_write = other refl
-  no_write (Err (stop.ThreadFault lacking)) lacked other at_a_write = cc at_a_write
-  no_write (Err stop.NoMemory) lacked other at_a_write = cc at_a_write
+  -- what became of the lines: where it is done, at a write fault, and where a write failed or one is missing
+  done_whole : (played : Result A Stop) (lacked : Bool) → ended_as played lacked ≡ ending.Done → lines_after played ≡ lines.Whole
+  done_whole (Ok x) lacked done = refl
+  done_whole (Err stop.WriteFault) lacked done = absurd (cc done)
+  done_whole (Err (stop.ThreadFault told)) lacked done = absurd (cc done)
+  done_whole (Err (stop.NoMemory told)) lacked done = absurd (cc done)
+
+  write_cuts : (played : Result A Stop) (lacked : Bool) → ended_as played lacked ≡ ending.WriteFault → lines_after played ≡ lines.Cut
+  write_cuts (Ok x) true at_a_write = absurd (cc at_a_write)
+  write_cuts (Ok x) false at_a_write = absurd (cc at_a_write)
+  write_cuts (Err stop.WriteFault) lacked at_a_write = refl
+  write_cuts (Err (stop.ThreadFault told)) lacked at_a_write = absurd (cc at_a_write)
+  write_cuts (Err (stop.NoMemory told)) lacked at_a_write = absurd (cc at_a_write)
+
+  write_ends : (played : Result A Stop) (lacked : Bool) → stopped_as played ≡ ending.WriteFault → ended_as played lacked ≡ ending.WriteFault
+  write_ends (Ok x) lacked at_a_write = absurd (cc at_a_write)
+  write_ends (Err stop.WriteFault) lacked at_a_write = refl
+  write_ends (Err (stop.ThreadFault told)) lacked at_a_write = absurd (cc at_a_write)
+  write_ends (Err (stop.NoMemory told)) lacked at_a_write = absurd (cc at_a_write)
+
+  lacking_main : (played : Result A Stop) → lines_after played ≡ lines.Lacking → is_lack played ≡ true
+  lacking_main (Ok x) lacking = absurd (cc lacking)
+  lacking_main (Err stop.WriteFault) lacking = absurd (cc lacking)
+  lacking_main (Err (stop.ThreadFault told)) lacking = ap lacks_a_line lacking
+  lacking_main (Err (stop.NoMemory told)) lacking = refl
 
   -- a thread fault is one of what was carried out
   refused_before : (played : Result A Stop) (lacked : Bool) → ended_as played lacked ≡ ending.ThreadFault → stopped_as played ≡ ending.ThreadFault
   refused_before (Ok x) true refused = absurd (cc refused)
   refused_before (Ok x) false refused = absurd (cc refused)
   refused_before (Err stop.WriteFault) lacked refused = absurd (cc refused)
-  refused_before (Err (stop.ThreadFault lacking)) lacked refused = refl
-  refused_before (Err stop.NoMemory) lacked refused = absurd (cc refused)
+  refused_before (Err (stop.ThreadFault told)) lacked refused = refl
+  refused_before (Err (stop.NoMemory told)) lacked refused = absurd (cc refused)
 
   -- where main found memory, and each thread was started, it stopped at no statement
   nowhere : (P : Type 0) (played : Result A Stop) (lacked main : Bool) → main ≡ is_lack played → (stopped_as played ≡ ending.Done → P) → (stopped_as played ≡ ending.WriteFault → P) → main ≡ false → ended_as played lacked ≢ ending.ThreadFault → P
   nowhere P (Ok x) lacked main is whole at_a_write found other = whole refl
   nowhere P (Err stop.WriteFault) lacked main is whole at_a_write found other = at_a_write refl
-  nowhere P (Err (stop.ThreadFault lacking)) lacked main is whole at_a_write found other = absurd (other refl)
-  nowhere P (Err stop.NoMemory) lacked main is whole at_a_write found other = let bad : true ≡ false = sym is ∙ found in absurd (cc bad)
+  nowhere P (Err (stop.ThreadFault told)) lacked main is whole at_a_write found other = absurd (other refl)
+  nowhere P (Err (stop.NoMemory told)) lacked main is whole at_a_write found other = let bad : true ≡ false = sym is ∙ found in absurd (cc bad)
 
 -- ---- sessions, at the end
-pub carried_at_end : (heads : List AppHead) (r : Run) (h : Histories) → SessionsDone r h → (n : ℕ) (lines : SessionLines) (part : SessionPart) → IsCarriedIn heads r n lines part → HasCarried heads h n lines part
-carried_at_end heads r h sessions n lines part is =
-    let done = sessions is.place is.opened is.closed is.there heads is.opened.hands.clock.time (carried.all_steps is.did.blocks ++ is.did.stopped) is.stands in
+pub carried_at_end : (heads : List AppHead) (r : Run) (h : Histories) → SessionsDone r h → (time n : ℕ) (ls : SessionLines) (part : SessionPart) → IsCarriedIn heads r time n ls part → HasCarried heads h time n ls part
+carried_at_end heads r h sessions time n ls part is =
+    let done = sessions is.place is.opened is.closed is.there heads time (carried.all_steps is.did.blocks ++ is.did.stopped) is.stands in
     record {
       did = is.did;
-      time = is.opened.hands.clock.time;
       stamped = is.stands.stamped;
       done = subst (λ (m : ℕ). HasDone h m (carried.all_steps is.did.blocks ++ is.did.stopped)) (sym is.number_is) done.done;
       edits = done.edits;
@@ -171,9 +190,9 @@ abbrev told_of : RunEnd → GatheredData
 told_of end = record { outcomes = end.outcomes; tolds = end.tolds; short = end.short.sessions }
 
 module _ {A : Type 0} (apps : List AppText) (statements : List Statement) (played : Result A Stop) (run : Run) (end : RunEnd) (old new : Option (List ℕ)) (Failed Kept : Type 0) where
-  pub is_play : IsPlayedTo apps statements (told_of end) played run old new Failed Kept → end.short.main ≡ is_lack played → IsRunWith (session_count run) (heads_of apps) end.short.loopers end.histories
+  pub is_play : IsPlayedTo apps statements (told_of end) played run old new Failed Kept → end.short.main ≡ is_lack played → end.lines ≡ lines_after played → IsRunWith (session_count run) (heads_of apps) end.short.loopers end.histories
       → EachGotOneReply end.short.loopers end.histories → SessionsDone run end.histories → ((steps : List Step) → HasDoneSoFar steps run → DoneAtEnd (heads_of apps) steps end.histories) → IsPlay apps statements (ended_as played (any_short end.short)) end old new Failed Kept
-  is_play to main of_run answered sessions did =
+  is_play to main became of_run answered sessions did =
       let h = end.histories in
       let heads = heads_of apps in
       let lacked = any_short end.short in
@@ -181,10 +200,10 @@ module _ {A : Type 0} (apps : List AppText) (statements : List Statement) (playe
       let at_end = did (steps ++ to.more) to.done in
       let done = done_at_end heads h steps to.more at_end in
       let turned = carried_at_end heads run h sessions in
-      let are = parts_so (IsCarriedIn heads run) (HasCarried heads h) turned apps 1 statements to.parts to.are in
+      let are = parts_so (IsCarriedIn heads run) (HasCarried heads h) turned apps 0 1 statements to.parts to.are in
       let outcomes_are : end.outcomes ≡ all_outcomes to.parts ++ cut_outcomes to.cut = ap (λ (x : GatheredData). x.outcomes) to.gathered in
       let tolds_are : end.tolds ≡ all_tolds to.parts ++ cut_tolds to.cut = ap (λ (x : GatheredData). x.tolds) to.gathered in
-      let cut = cut_so to.cut (slice_get statements (length to.parts)) turned (all_sessions to.parts + 1) to.cut_is in
+      let cut = cut_so to.cut (slice_get statements (length to.parts)) turned (time_of 0 steps) (all_sessions to.parts + 1) to.cut_is in
       record {
         played = record {
           parts = to.parts;
@@ -205,11 +224,15 @@ module _ {A : Type 0} (apps : List AppText) (statements : List Statement) (playe
           edits = edits_at_end heads h steps to.more at_end;
         };
         run_of = subst (λ (n : ℕ). IsRunWith n heads end.short.loopers h) to.sessions of_run;
-        written = written_at_end played lacked end.short.main (IsSomeAnd to.cut (λ (part : Part). Failed)) (first_tolds to.parts to.cut) (last_tolds to.parts to.cut) old new main to.written;
-        sink = λ other none. to.sink (no_write played lacked other) none;
+        written = subst (λ (l : Lines). AreWritten l Failed Kept (first_tolds to.parts to.cut) (last_tolds to.parts to.cut) old new) (sym became) to.written;
+        whole_when_done = λ done_all. became ∙ done_whole played lacked done_all;
+        cut_at_a_write = λ at_a_write. became ∙ write_cuts played lacked at_a_write;
+        cut_at = λ is.
+            ⊎_elim (λ (at_a_write : stopped_as played ≡ ending.WriteFault). inl (write_ends played lacked at_a_write)) (λ (inside : IsSomeAnd to.cut (λ (part : Part). Unit {0})). inr inside) (to.cut_at (sym became ∙ is));
+        lacking_by_main = λ is. main ∙ lacking_main played (sym became ∙ is);
         replies = subst (λ (os : List Outcome). AreReplies end.short.loopers h os end.tolds) (sym outcomes_are)
             (subst (λ (ts : List Told). AreReplies end.short.loopers h (all_outcomes to.parts ++ cut_outcomes to.cut) ts) (sym tolds_are)
-            (replies end.short.loopers h (steps ++ (to.more ++ at_end.closing)) of_run.histories.ports done answered apps statements to.parts (to.more ++ at_end.closing) (all_sessions to.parts + 1) (slice_get statements (length to.parts)) to.cut refl are cut));
+            (replies end.short.loopers h (steps ++ (to.more ++ at_end.closing)) of_run.histories.ports done answered apps statements to.parts (to.more ++ at_end.closing) (time_of 0 steps) (all_sessions to.parts + 1) (slice_get statements (length to.parts)) to.cut refl are cut));
         whole = done_so (length to.parts ≡ length statements) played lacked (λ done_all. (to.none_when_done done_all).0);
         whole_by_main = by_main (length to.parts ≡ length statements) played lacked end.short.main main (λ done_all. (to.none_when_done done_all).0);
         at_a_start = λ refused. to.at_a_start (refused_before played lacked refused);
@@ -220,22 +243,22 @@ module _ {A : Type 0} (apps : List AppText) (statements : List Statement) (playe
         main_short = main_short (IsSomeAnd to.cut (λ (part : Part). Unit {0})) played lacked end.short.main main to.lacks_inside;
       }
     where
-      cut_so : (c : Option Part) (o : Option Statement) → ((n : ℕ) (lines : SessionLines) (part : SessionPart) → IsCarriedIn (heads_of apps) run n lines part → HasCarried (heads_of apps) end.histories n lines part) → (from : ℕ)
-          → IfSome c (λ (part : Part). IsSomeAnd o (λ (s : Statement). IsCut (IsCarriedIn (heads_of apps) run) from s part)) → IfSome c (λ (part : Part). IsSomeAnd o (λ (s : Statement). IsCut (HasCarried (heads_of apps) end.histories) from s part))
-      cut_so None o turned from is = tt
-      cut_so (Some part) o turned from is = some_cut_so (IsCarriedIn (heads_of apps) run) (HasCarried (heads_of apps) end.histories) turned from o part is
+      cut_so : (c : Option Part) (o : Option Statement) → ((time n : ℕ) (ls : SessionLines) (part : SessionPart) → IsCarriedIn (heads_of apps) run time n ls part → HasCarried (heads_of apps) end.histories time n ls part) → (time from : ℕ)
+          → IfSome c (λ (part : Part). IsSomeAnd o (λ (s : Statement). IsCut (IsCarriedIn (heads_of apps) run) time from s part)) → IfSome c (λ (part : Part). IsSomeAnd o (λ (s : Statement). IsCut (HasCarried (heads_of apps) end.histories) time from s part))
+      cut_so None o turned time from is = tt
+      cut_so (Some part) o turned time from is = some_cut_so (IsCarriedIn (heads_of apps) run) (HasCarried (heads_of apps) end.histories) turned time from o part is
 
   -- the same, as the calls tell it
   pub is_play_as : (apps1 : List AppText) (heads1 heads2 : List AppHead) (statements1 : List Statement) (gathered : Gathered) (end_is : Ending) → apps1 ≡ apps → heads1 ≡ heads_of apps → heads2 ≡ heads_of apps → statements1 ≡ statements
       → end.outcomes ≡ gathered.outcomes.items → end.tolds ≡ gathered.tolds.items → end.short.sessions ≡ gathered.short.items → end_is ≡ ended_as played (any_short end.short)
-      → IsPlayedTo apps1 statements1 (gathered_seen gathered) played run old new Failed Kept → end.short.main ≡ is_lack played
+      → IsPlayedTo apps1 statements1 (gathered_seen gathered) played run old new Failed Kept → end.short.main ≡ is_lack played → end.lines ≡ lines_after played
       → IsRunWith (session_count run) heads1 end.short.loopers end.histories → EachGotOneReply end.short.loopers end.histories → SessionsDone run end.histories → ((steps : List Step) → HasDoneSoFar steps run → DoneAtEnd heads2 steps end.histories)
       → IsPlay apps statements end_is end old new Failed Kept
-  is_play_as apps1 heads1 heads2 statements1 gathered end_is one two three of_script outcomes tolds short ended to main of_run answered sessions did =
+  is_play_as apps1 heads1 heads2 statements1 gathered end_is one two three of_script outcomes tolds short ended to main became of_run answered sessions did =
       let same = gathered_is end.outcomes gathered.outcomes.items end.tolds gathered.tolds.items end.short.sessions gathered.short.items outcomes tolds short in
       let to_end = subst (λ (g : GatheredData). IsPlayedTo apps1 statements1 g played run old new Failed Kept) (sym same) to in
       let to_apps = subst (λ (xs : List AppText). IsPlayedTo xs statements1 (told_of end) played run old new Failed Kept) one to_end in
       let to_all = subst (λ (ss : List Statement). IsPlayedTo apps ss (told_of end) played run old new Failed Kept) of_script to_apps in
       subst (λ (e : Ending). IsPlay apps statements e end old new Failed Kept) (sym ended)
-      (is_play to_all main (subst (λ (hs : List AppHead). IsRunWith (session_count run) hs end.short.loopers end.histories) two of_run) answered sessions
+      (is_play to_all main became (subst (λ (hs : List AppHead). IsRunWith (session_count run) hs end.short.loopers end.histories) two of_run) answered sessions
       (λ steps done. subst (λ (hs : List AppHead). DoneAtEnd hs steps end.histories) three (did steps done)))

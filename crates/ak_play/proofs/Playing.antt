@@ -1,13 +1,13 @@
 -- Statement after statement.
 use Rattle.std.proofs.Common.{◌≡◌, ◌≢◌, ◌≤◌, ◌<◌, ◌+◌, inl, inr, ℕ, zero, suc, List, [], ◌∷◌, ◌++◌, length, length-append, take, Some, None, Err, slice_get, refl, sym, ap, ◌∙◌, subst, append-nil, arith}
-use Rattle.std.specs.Prelude.{Option, Ok, Result, Bool, true, false, IsSomeAnd}
+use Rattle.std.specs.Prelude.{Option, Ok, true, false, IsSomeAnd}
 use Rattle.std.specs.Io.KnownBytes.{Appends}
 use Rattle.std.proofs.lemmas.Option.{slice_get_within}
 use Rattle.ak_base.specs.declared.ending.Ending.TheVariants as ending
 use Rattle.ak_outside.proofs.Surface.{Appends-joined}
 use Rattle.ak_describe.specs.Whole.{heads_of}
 use Rattle.ak_describe.specs.declared.described.AppText.{AppText}
-use Rattle.ak_diary.specs.Step.{Step}
+use Rattle.ak_diary.specs.Step.{Step, time_of}
 use Rattle.ak_print.specs.declared.told.Told.{Told}
 use Rattle.ak_print.specs.Told.{told_line}
 use Rattle.ak_run.specs.declared.run.Run.{Run}
@@ -17,13 +17,15 @@ use Rattle.ak_script.specs.declared.statement.SessionLines.{SessionLines}
 use Rattle.ak_script.specs.declared.statement.Statement.{Statement}
 use Rattle.ak_run.specs.Doing.{HasDoneSoFar}
 use Rattle.ak_block.specs.Carried.{HasSessionsMore, IsCarriedIn, SessionPart}
+use Rattle.ak_play.specs.declared.run_end.Lines.{Lines}
+use Rattle.ak_play.specs.declared.run_end.Lines.TheVariants as lines
 use Rattle.ak_play.specs.declared.stop.Stop.{Stop}
 use Rattle.ak_play.specs.declared.stop.Stop.TheVariants as stop
 use Rattle.ak_play.specs.Blocks.{IsLaunch}
 use Rattle.ak_play.specs.Gathered.{GatheredData, gathered_and, nothing_gathered, of_part, of_parts}
 use Rattle.ak_play.specs.Parts.{AreParts, IsCut, IsPart, Part, all_sessions, all_steps, all_tolds, sessions_in}
-use Rattle.ak_play.specs.Play.{IsCutText, IsFrontText, IsLeft, IsWritten, first_tolds, last_tolds, text_of}
-use Rattle.ak_play.specs.Steps.{HasStepped, IsPlayedSoFar, IsPlayedTo, StepsOn, StopsInside, StopsShort, ended_as, is_lack, stopped_as}
+use Rattle.ak_play.specs.Play.{AreWritten, IsCutText, IsFrontText, first_tolds, last_tolds, text_of}
+use Rattle.ak_play.specs.Steps.{HasStepped, IsPlayedSoFar, IsPlayedTo, StepsOn, StopsInside, StopsShort, is_lack, lacks_a_line, lines_after, stopped_as}
 use Rattle.ak_run.proofs.Surface.{done_then}
 use Rattle.ak_play.proofs.Gathering.{no_cut, one_part_more}
 use Rattle.ak_play.proofs.Lists.{gathered_push}
@@ -41,7 +43,7 @@ Appends-no_more old mid new text one two = subst (Appends old new) (append-nil t
 -- behind lines that are written whole
 module _ (before last : List Told) (old mid new : Option (List ℕ)) (one : Appends old mid (text_of before)) where
   front_behind : IsFrontText [] last mid new → IsFrontText before last old new
-  front_behind two = record { lines = two.lines; most = two.most; written = Appends-joined old mid new (text_of before) (text_of (take two.lines last)) one two.written }
+  front_behind two = record { lines = two.lines; not_all = two.not_all; written = Appends-joined old mid new (text_of before) (text_of (take two.lines last)) one two.written }
 
   cut_behind : IsCutText [] last mid new → IsCutText before last old new
   cut_behind two = record {
@@ -54,10 +56,10 @@ module _ (before last : List Told) (old mid new : Option (List ℕ)) (one : Appe
     written = Appends-joined old mid new (text_of before) (text_of two.front ++ take two.part (told_line two.line)) one two.written;
   }
 
-  left_behind : (lacks : Bool) (Failed1 Failed : Type 0) → (Failed1 → Failed) → IsLeft lacks Failed1 [] last mid new → IsLeft lacks Failed before last old new
-  left_behind lacks Failed1 Failed failed (inl all) = inl (Appends-joined old mid new (text_of before) (text_of last) one all)
-  left_behind lacks Failed1 Failed failed (inr (inl (so, two))) = inr (inl (so, front_behind two))
-  left_behind lacks Failed1 Failed failed (inr (inr (so, two))) = inr (inr (failed so, cut_behind two))
+  written_behind : (told : Lines) (Failed1 Kept1 Failed Kept : Type 0) → (Failed1 → Failed) → (Kept1 → Kept) → AreWritten told Failed1 Kept1 [] last mid new → AreWritten told Failed Kept before last old new
+  written_behind lines.Whole Failed1 Kept1 Failed Kept failed kept is = (Appends-joined old mid new (text_of before) (text_of last) one is.0, kept is.1)
+  written_behind lines.Cut Failed1 Kept1 Failed Kept failed kept is = (cut_behind is.0, failed is.1)
+  written_behind lines.Lacking Failed1 Kept1 Failed Kept failed kept is = (front_behind is.0, kept is.1)
 
 -- lines of parts, as those before the last part's and those
 pub in_two : (ps : List Part) (old new : Option (List ℕ)) → Appends old new (text_of (all_tolds ps)) → Appends old new (text_of (first_tolds ps None) ++ text_of (last_tolds ps None))
@@ -73,14 +75,14 @@ still_there (y ∷ xs) ys zero x at = at
 still_there (y ∷ xs) ys (suc k) x at = still_there xs ys k x at
 
 module _ (apps : List AppText) (r r' : Run) (more : ℕ) (still : HasSessionsMore more r r') where
-  abbrev Before : ℕ → SessionLines → SessionPart → Type 0
+  abbrev Before : ℕ → ℕ → SessionLines → SessionPart → Type 0
   Before = IsCarriedIn (heads_of apps) r
 
-  abbrev Now : ℕ → SessionLines → SessionPart → Type 0
+  abbrev Now : ℕ → ℕ → SessionLines → SessionPart → Type 0
   Now = IsCarriedIn (heads_of apps) r'
 
-  pub carried_still : (n : ℕ) (lines : SessionLines) (part : SessionPart) → Before n lines part → Now n lines part
-  carried_still n lines part is = record {
+  pub carried_still : (time n : ℕ) (ls : SessionLines) (part : SessionPart) → Before time n ls part → Now time n ls part
+  carried_still time n ls part is = record {
     did = is.did;
     place = is.place;
     number_is = is.number_is;
@@ -88,6 +90,7 @@ module _ (apps : List AppText) (r r' : Run) (more : ℕ) (still : HasSessionsMor
     closed = is.closed;
     there = ap (λ (all : List sessions.Told). slice_get all is.place) still.on.1 ∙ still_there (sessions_of r) still.on.0 is.place (is.opened, Some is.closed) is.there;
     keeps = is.keeps;
+    begins = is.begins;
     stands = is.stands;
   }
 
@@ -117,13 +120,19 @@ module _ (apps : List AppText) (statements : List Statement) where
     next : session_count r + 1 ≡ 1 + all_sessions so_far.parts
     next = omega (arith, so_far.sessions)
 
+    -- main's time
+    now : r.hands.clock.time ≡ time_of 0 (all_steps so_far.parts)
+    now = sym so_far.done_so.recorded.in_time.time_is
+
     -- ---- it has its part, which stands behind the others
     module _ {W : List Told → Type 0} (on : StepsOn apps s k k' r r' W) where
-      are_pushed : AreParts (IsCarriedIn (heads_of apps) r') apps 1 statements (so_far.parts ++ on.part ∷ [])
+      are_pushed : AreParts (IsCarriedIn (heads_of apps) r') apps 0 1 statements (so_far.parts ++ on.part ∷ [])
       are_pushed =
-          parts_push (IsCarriedIn (heads_of apps) r') apps 1 statements so_far.parts s on.part
-          (parts_so (IsCarriedIn (heads_of apps) r) (IsCarriedIn (heads_of apps) r') (carried_still apps r r' on.part.sessions on.sessions) apps 1 statements so_far.parts so_far.are)
-          at_parts (subst (λ (n : ℕ). IsPart (IsCarriedIn (heads_of apps) r') apps n s on.part) next on.is)
+          parts_push (IsCarriedIn (heads_of apps) r') apps 0 1 statements so_far.parts s on.part
+          (parts_so (IsCarriedIn (heads_of apps) r) (IsCarriedIn (heads_of apps) r') (carried_still apps r r' on.part.sessions on.sessions) apps 0 1 statements so_far.parts so_far.are)
+          at_parts
+          (subst (λ (time : ℕ). IsPart (IsCarriedIn (heads_of apps) r') apps time (1 + all_sessions so_far.parts) s on.part) now
+          (subst (λ (n : ℕ). IsPart (IsCarriedIn (heads_of apps) r') apps r.hands.clock.time n s on.part) next on.is))
 
       done_pushed : HasDoneSoFar (all_steps (so_far.parts ++ on.part ∷ [])) r'
       done_pushed = subst (λ (steps : List Step). HasDoneSoFar steps r') (sym (gathered_push (λ (part : Part). part.steps) so_far.parts on.part)) (done_then (all_steps so_far.parts) on.part.steps r r' so_far.done_so on.does)
@@ -139,9 +148,9 @@ module _ (apps : List AppText) (statements : List Statement) where
 
       -- and it ended then
       stops_behind : (why : Stop) (Failed : Type 0) → stopped_as {A = Unit {0}} (Err why) ≢ ending.ThreadFault → stopped_as {A = Unit {0}} (Err why) ≢ ending.Done
-          → IsWritten (stopped_as {A = Unit {0}} (Err why)) (is_lack {A = Unit {0}} (Err why)) ⊥ (all_tolds so_far.parts) on.part.tolds old new → (stopped_as {A = Unit {0}} (Err why) ≢ ending.WriteFault → Kept)
+          → AreWritten (lines_after {A = Unit {0}} (Err why)) Failed Kept (all_tolds so_far.parts) on.part.tolds old new → (lines_after {A = Unit {0}} (Err why) ≡ lines.Cut → stopped_as {A = Unit {0}} (Err why) ≡ ending.WriteFault)
           → IsPlayedTo {A = Unit {0}} apps statements k' (Err why) r' old new Failed Kept
-      stops_behind why Failed started not_done written kept = record {
+      stops_behind why Failed started not_done written at_a_write = record {
         parts = so_far.parts ++ on.part ∷ [];
         are = are_pushed;
         cut = None;
@@ -151,19 +160,19 @@ module _ (apps : List AppText) (statements : List Statement) where
         more = [];
         none_more = λ all. refl;
         none_inside = tt;
-        none_at_a_write = λ at_a_write. (refl, refl);
+        none_at_a_write = λ so. (refl, refl);
         none_when_done = λ done. absurd (not_done done);
         at_a_start = λ refused. absurd (started refused);
         before_last = λ lacks. tt;
         lacks_inside = λ refused lacks. absurd (started refused);
         done = subst (λ (steps : List Step). HasDoneSoFar steps r') (sym (append-nil (all_steps (so_far.parts ++ on.part ∷ [])))) done_pushed;
-        written = subst (λ (l : List Told). IsWritten (stopped_as {A = Unit {0}} (Err why)) (is_lack {A = Unit {0}} (Err why)) ⊥ (first_tolds (so_far.parts ++ on.part ∷ []) None) l old new) (sym (last_push so_far.parts on.part))
-            (subst (λ (l : List Told). IsWritten (stopped_as {A = Unit {0}} (Err why)) (is_lack {A = Unit {0}} (Err why)) ⊥ l on.part.tolds old new) (sym (first_push so_far.parts on.part)) written);
-        sink = λ other none. kept other;
+        written = subst (λ (l : List Told). AreWritten (lines_after {A = Unit {0}} (Err why)) Failed Kept (first_tolds (so_far.parts ++ on.part ∷ []) None) l old new) (sym (last_push so_far.parts on.part))
+            (subst (λ (l : List Told). AreWritten (lines_after {A = Unit {0}} (Err why)) Failed Kept l on.part.tolds old new) (sym (first_push so_far.parts on.part)) written);
+        cut_at = λ is. inl (at_a_write is);
       }
 
-    pub play_goes_on : (Kept1 : Type 0) → (Kept0 → Kept1 → Kept) → StepsOn apps s k k' r r' (λ tolds. Appends mid new (text_of tolds) × Kept1) → IsPlayedSoFar apps statements k' (count + 1) r' old new Kept
-    play_goes_on Kept1 joined on = record {
+    pub play_goes_on : (Failed1 Kept1 : Type 0) → (Kept0 → Kept1 → Kept) → StepsOn apps s k k' r r' (λ tolds. AreWritten lines.Whole Failed1 Kept1 [] tolds mid new) → IsPlayedSoFar apps statements k' (count + 1) r' old new Kept
+    play_goes_on Failed1 Kept1 joined on = record {
       parts = so_far.parts ++ on.part ∷ [];
       count = count_pushed on;
       are = are_pushed on;
@@ -177,14 +186,15 @@ module _ (apps : List AppText) (statements : List Statement) where
     -- ---- it is a block that was cut
     stops_inside : {W : List Told → Type 0} {Far : Part → Type 0} (why : Stop) (Failed : Type 0) → stopped_as {A = Unit {0}} (Err why) ≢ ending.WriteFault → stopped_as {A = Unit {0}} (Err why) ≢ ending.Done
         → (in' : StopsInside apps s k k' r r' Far W) → (stopped_as {A = Unit {0}} (Err why) ≡ ending.ThreadFault → 1 ≤ in'.part.sessions) → (stopped_as {A = Unit {0}} (Err why) ≡ ending.NoMemory → in'.part.sessions < sessions_in s)
-        → IsWritten (stopped_as {A = Unit {0}} (Err why)) (is_lack {A = Unit {0}} (Err why)) Failed (all_tolds so_far.parts) in'.part.tolds old new → IsPlayedTo {A = Unit {0}} apps statements k' (Err why) r' old new Failed Kept
+        → AreWritten (lines_after {A = Unit {0}} (Err why)) Failed Kept (all_tolds so_far.parts) in'.part.tolds old new → IsPlayedTo {A = Unit {0}} apps statements k' (Err why) r' old new Failed Kept
     stops_inside why Failed other not_done in' some not_all written = record {
       parts = so_far.parts;
-      are = parts_so (IsCarriedIn (heads_of apps) r) (IsCarriedIn (heads_of apps) r') (carried_still apps r r' in'.part.sessions in'.sessions) apps 1 statements so_far.parts so_far.are;
+      are = parts_so (IsCarriedIn (heads_of apps) r) (IsCarriedIn (heads_of apps) r') (carried_still apps r r' in'.part.sessions in'.sessions) apps 0 1 statements so_far.parts so_far.are;
       cut = Some in'.part;
       sessions = in'.sessions.count ∙ ap (λ (n : ℕ). n + in'.part.sessions) so_far.sessions;
-      cut_is = subst (λ (o : Option Statement). IsSomeAnd o (λ (x : Statement). IsCut (IsCarriedIn (heads_of apps) r') (all_sessions so_far.parts + 1) x in'.part)) (sym at_parts)
-          (subst (λ (n : ℕ). IsCut (IsCarriedIn (heads_of apps) r') n s in'.part) (ap (λ (n : ℕ). n + 1) so_far.sessions) in'.is);
+      cut_is = subst (λ (o : Option Statement). IsSomeAnd o (λ (x : Statement). IsCut (IsCarriedIn (heads_of apps) r') (time_of 0 (all_steps so_far.parts)) (all_sessions so_far.parts + 1) x in'.part)) (sym at_parts)
+          (subst (λ (time : ℕ). IsCut (IsCarriedIn (heads_of apps) r') time (all_sessions so_far.parts + 1) s in'.part) now
+          (subst (λ (n : ℕ). IsCut (IsCarriedIn (heads_of apps) r') r.hands.clock.time n s in'.part) (ap (λ (n : ℕ). n + 1) so_far.sessions) in'.is));
       gathered = in'.gathered ∙ ap (λ (x : GatheredData). gathered_and x (of_part in'.part)) so_far.gathered;
       more = [];
       none_more = λ all. refl;
@@ -196,18 +206,18 @@ module _ (apps : List AppText) (statements : List Statement) where
       lacks_inside = λ refused lacks. tt;
       done = done_then (all_steps so_far.parts) [] r r' so_far.done_so in'.does;
       written = written;
-      sink = λ another none. absurd (cc none);
+      cut_at = λ is. inr tt;
     }
 
-    -- ---- it has none
+    -- ---- it has none, and no line was due
     stops_before : (why : Stop) (Failed Kept1 : Type 0) → (Kept0 → Kept1 → Kept) → stopped_as {A = Unit {0}} (Err why) ≢ ending.WriteFault → stopped_as {A = Unit {0}} (Err why) ≢ ending.Done → (stopped_as {A = Unit {0}} (Err why) ≡ ending.ThreadFault → IsLaunch s)
-        → (stopped_as {A = Unit {0}} (Err why) ≡ ending.ThreadFault → is_lack {A = Unit {0}} (Err why) ≡ true → ⊥) → (short : StopsShort k k' r r' mid new Kept1)
-        → IsWritten (stopped_as {A = Unit {0}} (Err why)) (is_lack {A = Unit {0}} (Err why)) ⊥ (first_tolds so_far.parts None) (last_tolds so_far.parts None) old new → IsPlayedTo {A = Unit {0}} apps statements k' (Err why) r' old new Failed Kept
-    stops_before why Failed Kept1 joined other not_done launch not_lacking short written =
+        → (stopped_as {A = Unit {0}} (Err why) ≡ ending.ThreadFault → is_lack {A = Unit {0}} (Err why) ≡ true → ⊥) → StopsShort k k' r r' mid new Kept1 → lines_after {A = Unit {0}} (Err why) ≡ lines.Whole
+        → IsPlayedTo {A = Unit {0}} apps statements k' (Err why) r' old new Failed Kept
+    stops_before why Failed Kept1 joined other not_done launch not_lacking short whole =
         let still = no_sessions_more r r' short.sessions in
         record {
           parts = so_far.parts;
-          are = parts_so (IsCarriedIn (heads_of apps) r) (IsCarriedIn (heads_of apps) r') (carried_still apps r r' 0 still) apps 1 statements so_far.parts so_far.are;
+          are = parts_so (IsCarriedIn (heads_of apps) r) (IsCarriedIn (heads_of apps) r') (carried_still apps r r' 0 still) apps 0 1 statements so_far.parts so_far.are;
           cut = None;
           sessions = still.count ∙ ap (λ (n : ℕ). n + 0) so_far.sessions;
           cut_is = tt;
@@ -221,31 +231,29 @@ module _ (apps : List AppText) (statements : List Statement) where
           before_last = λ lacks. tt;
           lacks_inside = λ refused lacks. absurd (not_lacking refused lacks);
           done = done_then (all_steps so_far.parts) short.steps r r' so_far.done_so short.does;
-          written = written;
-          sink = λ another none. joined so_far.sink short.sink;
+          written = subst (λ (told : Lines). AreWritten told Failed Kept (first_tolds so_far.parts None) (last_tolds so_far.parts None) old new) (sym whole)
+              (in_two so_far.parts old new (Appends-no_more old mid new (text_of (all_tolds so_far.parts)) so_far.written short.written), joined so_far.sink short.sink);
+          cut_at = λ is. let bad : lines.Whole ≡ lines.Cut = sym whole ∙ is in absurd (cc bad);
         }
 
-    all_written : {Kept1 : Type 0} → StopsShort k k' r r' mid new Kept1 → Appends old new (text_of (first_tolds so_far.parts None) ++ text_of (last_tolds so_far.parts None))
-    all_written short = in_two so_far.parts old new (Appends-no_more old mid new (text_of (all_tolds so_far.parts)) so_far.written short.written)
-
-    left : (last : List Told) (lacks : Bool) (Failed1 Failed : Type 0) → (Failed1 → Failed) → IsLeft lacks Failed1 [] last mid new → IsLeft lacks Failed (all_tolds so_far.parts) last old new
-    left last lacks Failed1 Failed failed is = left_behind (all_tolds so_far.parts) last old mid new so_far.written lacks Failed1 Failed failed is
-
     module _ (Failed1 Failed Kept1 : Type 0) (failed : Failed1 → Failed) (joined : Kept0 → Kept1 → Kept) where
+      behind : (told : Lines) (last : List Told) → AreWritten told Failed1 Kept1 [] last mid new → AreWritten told Failed Kept (all_tolds so_far.parts) last old new
+      behind told last is = written_behind (all_tolds so_far.parts) last old mid new so_far.written told Failed1 Kept1 Failed Kept failed (joined so_far.sink) is
+
       pub play_stops : (why : Stop) → HasStepped apps s k k' r r' mid new Failed1 Kept1 {A = Unit {0}} (Err why) → IsPlayedTo {A = Unit {0}} apps statements k' (Err why) r' old new Failed Kept
-      play_stops stop.WriteFault on =
-          stops_behind on stop.WriteFault Failed (λ refused. absurd (cc refused)) (λ done. absurd (cc done)) (cut_behind (all_tolds so_far.parts) on.part.tolds old mid new so_far.written on.written) (λ other. absurd (other refl))
-      play_stops (stop.ThreadFault lacks) (inl (launch, by_main, short)) =
-          stops_before (stop.ThreadFault lacks) Failed Kept1 joined (λ at_a_write. absurd (cc at_a_write)) (λ done. absurd (cc done)) (λ refused. launch)
-          (λ refused so. let bad : false ≡ true = sym by_main ∙ so in absurd (cc bad)) short (inl (all_written short))
-      play_stops (stop.ThreadFault lacks) (inr in') =
-          stops_inside (stop.ThreadFault lacks) Failed (λ at_a_write. absurd (cc at_a_write)) (λ done. absurd (cc done)) in' (λ refused. in'.far) (λ no_memory. absurd (cc no_memory)) (left in'.part.tolds lacks Failed1 Failed failed in'.written)
-      play_stops stop.NoMemory (inl short) =
-          stops_before stop.NoMemory Failed Kept1 joined (λ at_a_write. absurd (cc at_a_write)) (λ done. absurd (cc done)) (λ refused. absurd (cc refused)) (λ refused so. absurd (cc refused)) short (inl (all_written short))
-      play_stops stop.NoMemory (inr (inl on)) =
-          stops_behind on stop.NoMemory Failed (λ refused. absurd (cc refused)) (λ done. absurd (cc done)) (inr (inl (refl, front_behind (all_tolds so_far.parts) on.part.tolds old mid new so_far.written on.written.0))) (λ other. joined so_far.sink on.written.1)
-      play_stops stop.NoMemory (inr (inr in')) =
-          stops_inside stop.NoMemory Failed (λ at_a_write. absurd (cc at_a_write)) (λ done. absurd (cc done)) in' (λ refused. absurd (cc refused)) (λ no_memory. in'.far) (left in'.part.tolds true Failed1 Failed failed in'.written)
+      play_stops stop.WriteFault on = stops_behind on stop.WriteFault Failed (λ refused. absurd (cc refused)) (λ done. absurd (cc done)) (behind lines.Cut on.part.tolds on.written) (λ is. refl)
+      play_stops (stop.ThreadFault told) (inl (launch, whole, short)) =
+          stops_before (stop.ThreadFault told) Failed Kept1 joined (λ at_a_write. absurd (cc at_a_write)) (λ done. absurd (cc done)) (λ refused. launch)
+          (λ refused so. let bad : false ≡ true = sym (ap lacks_a_line whole) ∙ so in absurd (cc bad)) short whole
+      play_stops (stop.ThreadFault told) (inr in') =
+          stops_inside (stop.ThreadFault told) Failed (λ at_a_write. absurd (cc at_a_write)) (λ done. absurd (cc done)) in' (λ refused. in'.far) (λ no_memory. absurd (cc no_memory)) (behind told in'.part.tolds in'.written)
+      play_stops (stop.NoMemory told) (inl (whole, short)) =
+          stops_before (stop.NoMemory told) Failed Kept1 joined (λ at_a_write. absurd (cc at_a_write)) (λ done. absurd (cc done)) (λ refused. absurd (cc refused)) (λ refused so. absurd (cc refused)) short whole
+      play_stops (stop.NoMemory told) (inr (inl (lacking, on))) =
+          stops_behind on (stop.NoMemory told) Failed (λ refused. absurd (cc refused)) (λ done. absurd (cc done))
+          (subst (λ (l : Lines). AreWritten l Failed Kept (all_tolds so_far.parts) on.part.tolds old new) (sym lacking) (behind lines.Lacking on.part.tolds on.written)) (λ is. let bad : lines.Lacking ≡ lines.Cut = sym lacking ∙ is in absurd (cc bad))
+      play_stops (stop.NoMemory told) (inr (inr in')) =
+          stops_inside (stop.NoMemory told) Failed (λ at_a_write. absurd (cc at_a_write)) (λ done. absurd (cc done)) in' (λ refused. absurd (cc refused)) (λ no_memory. in'.far) (behind told in'.part.tolds in'.written)
 
   -- behind the last one
   pub play_ends : {A : Type 0} (x : A) (k : GatheredData) (r : Run) (old new : Option (List ℕ)) (Failed Kept : Type 0) → IsPlayedSoFar apps statements k (length statements) r old new Kept → IsPlayedTo {A = A} apps statements k (Ok x) r old new Failed Kept
@@ -265,14 +273,6 @@ module _ (apps : List AppText) (statements : List Statement) where
     before_last = λ lacks. tt;
     lacks_inside = λ refused lacks. absurd (cc refused);
     done = subst (λ (steps : List Step). HasDoneSoFar steps r) (sym (append-nil (all_steps so_far.parts))) so_far.done_so;
-    written = in_two so_far.parts old new so_far.written;
-    sink = λ other none. so_far.sink;
+    written = (in_two so_far.parts old new so_far.written, so_far.sink);
+    cut_at = λ is. absurd (cc is);
   }
-
--- where a session or a looper found no memory, it is not done, and each line was written
-pub written_at_end : {A : Type 0} (played : Result A Stop) (lacked lacks : Bool) (Failed : Type 0) (before last : List Told) (old new : Option (List ℕ)) → lacks ≡ is_lack played → IsWritten (stopped_as played) (is_lack played) Failed before last old new → IsWritten (ended_as played lacked) lacks Failed before last old new
-written_at_end (Ok x) true lacks Failed before last old new is written = inl written
-written_at_end (Ok x) false lacks Failed before last old new is written = written
-written_at_end (Err stop.WriteFault) lacked lacks Failed before last old new is written = written
-written_at_end (Err (stop.ThreadFault by_main)) lacked lacks Failed before last old new is written = subst (λ (b : Bool). IsLeft b Failed before last old new) (sym is) written
-written_at_end (Err stop.NoMemory) lacked lacks Failed before last old new is written = subst (λ (b : Bool). IsLeft b Failed before last old new) (sym is) written

@@ -21,7 +21,7 @@ use Rattle.ak_port.specs.PortMachine.{AreSteps, unmade}
 use Rattle.ak_port.specs.Reply.{fills}
 use Rattle.ak_port.specs.ReplySeats as at_books
 use Rattle.ak_diary.specs.declared.histories.Histories.{Histories}
-use Rattle.ak_diary.specs.Step.{Step, at_book, at_port, book_entries, book_entry, port_entries, port_entry}
+use Rattle.ak_diary.specs.Step.{Step, at_book, at_port, book_entries, book_entry, port_entries, port_entry, time_of}
 use Rattle.ak_diary.specs.Wants.{Converses}
 use Rattle.ak_headline.specs.Answers.{GotOneReply, IsAccepted}
 use Rattle.ak_headline.specs.Headline.{EachGotOneReply}
@@ -175,27 +175,27 @@ replies-append short h (o ∷ os) os' [] ts' same one two = absurd (omega (arith
 
 -- ---- of the sessions of a block
 module _ (short : List ℕ) (h : Histories) (heads : List AppHead) (ports : All IsPortBook h.ports.items) (answered : EachGotOneReply short h) where
-  one_session : (n : ℕ) (ls : SessionLines) (part : SessionPart) → HasCarried heads h n ls part → AreReplies short h part.outcomes part.tolds
-  one_session n ls part is =
+  one_session : (time n : ℕ) (ls : SessionLines) (part : SessionPart) → HasCarried heads h time n ls part → AreReplies short h part.outcomes part.tolds
+  one_session time n ls part is =
       line_replies short h n (lines.all_steps is.did.blocks ++ is.did.stopped) ports is.done answered heads [] ls.lines.items part.outcomes part.tolds is.did.blocks [] is.did.stopped refl is.did.are
 
-  sessions_replies : (from : ℕ) (all : List SessionLines) (parts : List SessionPart) → AreCarried (HasCarried heads h) from all parts → (length (session_outcomes parts) ≡ length (session_tolds parts)) × AreReplies short h (session_outcomes parts) (session_tolds parts)
-  sessions_replies from [] [] are = (refl, tt)
-  sessions_replies from (ls ∷ all) (part ∷ parts) are =
-      let rest = sessions_replies (from + 1) all parts are.1 in
+  sessions_replies : (time from : ℕ) (all : List SessionLines) (parts : List SessionPart) → AreCarried (HasCarried heads h time) from all parts → (length (session_outcomes parts) ≡ length (session_tolds parts)) × AreReplies short h (session_outcomes parts) (session_tolds parts)
+  sessions_replies time from [] [] are = (refl, tt)
+  sessions_replies time from (ls ∷ all) (part ∷ parts) are =
+      let rest = sessions_replies time (from + 1) all parts are.1 in
       let same : length part.outcomes ≡ length part.tolds = as_many heads [] ls.lines.items part.outcomes part.tolds are.0.did.blocks are.0.did.are in (
         length-append part.outcomes (session_outcomes parts) ∙ both same rest.0 ∙ sym (length-append part.tolds (session_tolds parts)),
-        replies-append short h part.outcomes (session_outcomes parts) part.tolds (session_tolds parts) same (one_session from ls part are.0) rest.1,
+        replies-append short h part.outcomes (session_outcomes parts) part.tolds (session_tolds parts) same (one_session time from ls part are.0) rest.1,
       )
     where
       both : {a b c d : ℕ} → a ≡ b → c ≡ d → a + c ≡ b + d
       both one two = omega (arith, one, two)
-  sessions_replies from [] (part ∷ parts) are = absurd are
-  sessions_replies from (ls ∷ all) [] are = absurd are
+  sessions_replies time from [] (part ∷ parts) are = absurd are
+  sessions_replies time from (ls ∷ all) [] are = absurd are
 
-  pub block_replies : (from : ℕ) (all : List SessionLines) (part : Part) → IsOfSessions (HasCarried heads h) from all part → (length part.outcomes ≡ length part.tolds) × AreReplies short h part.outcomes part.tolds
-  block_replies from all part is =
-      let so = sessions_replies from all is.parts is.carried in
+  pub block_replies : (time from : ℕ) (all : List SessionLines) (part : Part) → IsOfSessions (HasCarried heads h) time from all part → (length part.outcomes ≡ length part.tolds) × AreReplies short h part.outcomes part.tolds
+  block_replies time from all part is =
+      let so = sessions_replies time from all is.parts is.carried in
       subst (λ (os : List Outcome). (length os ≡ length part.tolds) × AreReplies short h os part.tolds) (sym is.outcomes_are)
       (subst (λ (ts : List Told). (length (session_outcomes is.parts) ≡ length ts) × AreReplies short h (session_outcomes is.parts) ts) (sym is.tolds_are) so)
 
@@ -207,43 +207,43 @@ module _ (short : List ℕ) (h : Histories) (steps : List Step) (ports : All IsP
       subst (λ (os : List Outcome). (length os ≡ length part.tolds) × AreReplies short h os part.tolds) (sym is.outcomes_are)
       (subst (λ (ts : List Told). (length (is.outcome ∷ []) ≡ length ts) × AreReplies short h (is.outcome ∷ []) ts) (sym is.tolds_are) (refl, (one, tt)))
 
-  part_replies : (from : ℕ) (s : Statement) (part : Part) (before after : List Step) → steps ≡ before ++ (part.steps ++ after) → IsPart (HasCarried (heads_of apps) h) apps from s part → (length part.outcomes ≡ length part.tolds) × AreReplies short h part.outcomes part.tolds
-  part_replies from (statement.Launch l) part before after whole is = mains_reply (statement.Launch l) part before after whole is
-  part_replies from (statement.Hey q) part before after whole is = mains_reply (statement.Hey q) part before after whole is
-  part_replies from (statement.Post p) part before after whole is = mains_reply (statement.Post p) part before after whole is
-  part_replies from (statement.Lock l) part before after whole is = mains_reply (statement.Lock l) part before after whole is
-  part_replies from (statement.Together t) part before after whole is = block_replies short h (heads_of apps) ports answered from t.sessions.items part is
+  part_replies : (time from : ℕ) (s : Statement) (part : Part) (before after : List Step) → steps ≡ before ++ (part.steps ++ after) → IsPart (HasCarried (heads_of apps) h) apps time from s part → (length part.outcomes ≡ length part.tolds) × AreReplies short h part.outcomes part.tolds
+  part_replies time from (statement.Launch l) part before after whole is = mains_reply (statement.Launch l) part before after whole is
+  part_replies time from (statement.Hey q) part before after whole is = mains_reply (statement.Hey q) part before after whole is
+  part_replies time from (statement.Post p) part before after whole is = mains_reply (statement.Post p) part before after whole is
+  part_replies time from (statement.Lock l) part before after whole is = mains_reply (statement.Lock l) part before after whole is
+  part_replies time from (statement.Together t) part before after whole is = block_replies short h (heads_of apps) ports answered time from t.sessions.items part is
 
-  pub parts_replies : (from : ℕ) (ss : List Statement) (parts : List Part) (before after : List Step) → steps ≡ before ++ (all_steps parts ++ after) → AreParts (HasCarried (heads_of apps) h) apps from ss parts
+  pub parts_replies : (time from : ℕ) (ss : List Statement) (parts : List Part) (before after : List Step) → steps ≡ before ++ (all_steps parts ++ after) → AreParts (HasCarried (heads_of apps) h) apps time from ss parts
       → (length (all_outcomes parts) ≡ length (all_tolds parts)) × AreReplies short h (all_outcomes parts) (all_tolds parts)
-  parts_replies from ss [] before after whole are = (refl, tt)
-  parts_replies from (s ∷ ss) (part ∷ parts) before after whole are =
+  parts_replies time from ss [] before after whole are = (refl, tt)
+  parts_replies time from (s ∷ ss) (part ∷ parts) before after whole are =
       let moved : steps ≡ before ++ (part.steps ++ (all_steps parts ++ after)) = whole ∙ ap (λ (l : List Step). before ++ l) (append_assoc part.steps (all_steps parts) after) in
-      let one = part_replies from s part before (all_steps parts ++ after) moved are.0 in
-      let rest = parts_replies (from + part.sessions) ss parts (before ++ part.steps) after (moved ∙ sym (append_assoc before part.steps (all_steps parts ++ after))) are.1 in (
+      let one = part_replies time from s part before (all_steps parts ++ after) moved are.0 in
+      let rest = parts_replies (time_of time part.steps) (from + part.sessions) ss parts (before ++ part.steps) after (moved ∙ sym (append_assoc before part.steps (all_steps parts ++ after))) are.1 in (
         length-append part.outcomes (all_outcomes parts) ∙ both one.0 rest.0 ∙ sym (length-append part.tolds (all_tolds parts)),
         replies-append short h part.outcomes (all_outcomes parts) part.tolds (all_tolds parts) one.0 one.1 rest.1,
       )
     where
       both : {a b c d : ℕ} → a ≡ b → c ≡ d → a + c ≡ b + d
       both one two = omega (arith, one, two)
-  parts_replies from [] (part ∷ parts) before after whole are = absurd are
+  parts_replies time from [] (part ∷ parts) before after whole are = absurd are
 
   -- with those of a block that was cut
-  cut_replies : (from : ℕ) (o : Option Statement) (part : Part) → IsSomeAnd o (λ (s : Statement). IsCut (HasCarried (heads_of apps) h) from s part) → AreReplies short h part.outcomes part.tolds
-  cut_replies from None part is = absurd is
-  cut_replies from (Some (statement.Launch l)) part is = absurd is
-  cut_replies from (Some (statement.Hey q)) part is = absurd is
-  cut_replies from (Some (statement.Post p)) part is = absurd is
-  cut_replies from (Some (statement.Lock l)) part is = absurd is
-  cut_replies from (Some (statement.Together t)) part is = (block_replies short h (heads_of apps) ports answered from is.first part is.are).1
+  cut_replies : (time from : ℕ) (o : Option Statement) (part : Part) → IsSomeAnd o (λ (s : Statement). IsCut (HasCarried (heads_of apps) h) time from s part) → AreReplies short h part.outcomes part.tolds
+  cut_replies time from None part is = absurd is
+  cut_replies time from (Some (statement.Launch l)) part is = absurd is
+  cut_replies time from (Some (statement.Hey q)) part is = absurd is
+  cut_replies time from (Some (statement.Post p)) part is = absurd is
+  cut_replies time from (Some (statement.Lock l)) part is = absurd is
+  cut_replies time from (Some (statement.Together t)) part is = (block_replies short h (heads_of apps) ports answered time from is.first part is.are).1
 
-  last_replies : (from : ℕ) (o : Option Statement) (cut : Option Part) → IfSome cut (λ (part : Part). IsSomeAnd o (λ (s : Statement). IsCut (HasCarried (heads_of apps) h) from s part)) → AreReplies short h (cut_outcomes cut) (cut_tolds cut)
-  last_replies from o None is = tt
-  last_replies from o (Some part) is = cut_replies from o part is
+  last_replies : (time from : ℕ) (o : Option Statement) (cut : Option Part) → IfSome cut (λ (part : Part). IsSomeAnd o (λ (s : Statement). IsCut (HasCarried (heads_of apps) h) time from s part)) → AreReplies short h (cut_outcomes cut) (cut_tolds cut)
+  last_replies time from o None is = tt
+  last_replies time from o (Some part) is = cut_replies time from o part is
 
-  pub replies : (ss : List Statement) (parts : List Part) (after : List Step) (from : ℕ) (o : Option Statement) (cut : Option Part) → steps ≡ all_steps parts ++ after → AreParts (HasCarried (heads_of apps) h) apps 1 ss parts
-      → IfSome cut (λ (part : Part). IsSomeAnd o (λ (s : Statement). IsCut (HasCarried (heads_of apps) h) from s part)) → AreReplies short h (all_outcomes parts ++ cut_outcomes cut) (all_tolds parts ++ cut_tolds cut)
-  replies ss parts after from o cut whole are is =
-      let all = parts_replies 1 ss parts [] after whole are in
-      replies-append short h (all_outcomes parts) (cut_outcomes cut) (all_tolds parts) (cut_tolds cut) all.0 all.1 (last_replies from o cut is)
+  pub replies : (ss : List Statement) (parts : List Part) (after : List Step) (time from : ℕ) (o : Option Statement) (cut : Option Part) → steps ≡ all_steps parts ++ after → AreParts (HasCarried (heads_of apps) h) apps 0 1 ss parts
+      → IfSome cut (λ (part : Part). IsSomeAnd o (λ (s : Statement). IsCut (HasCarried (heads_of apps) h) time from s part)) → AreReplies short h (all_outcomes parts ++ cut_outcomes cut) (all_tolds parts ++ cut_tolds cut)
+  replies ss parts after time from o cut whole are is =
+      let all = parts_replies 0 1 ss parts [] after whole are in
+      replies-append short h (all_outcomes parts) (cut_outcomes cut) (all_tolds parts) (cut_tolds cut) all.0 all.1 (last_replies time from o cut is)

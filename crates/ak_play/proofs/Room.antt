@@ -42,12 +42,12 @@ as_many_at_most heads so_far lines [] [] [] are = omega arith
 as_many_at_most heads so_far (l ∷ lines) (o ∷ os) (t ∷ ts) (b ∷ bs) are = omega (arith, as_many_at_most heads (so_far ++ b) lines os ts bs are.1)
 as_many_at_most heads so_far _ _ _ _ are = absurd are
 
-pub few_outcomes : (heads : List AppHead) (r : Run) (from : ℕ) (all : List SessionLines) (parts : List SessionPart) → AreCarried (IsCarriedIn heads r) from all parts → length (session_outcomes parts) ≤ lines_of_sessions (sessions_seen all)
-few_outcomes heads r from [] [] are = omega arith
-few_outcomes heads r from (ls ∷ all) (part ∷ parts) are =
-    omega (arith, length-append part.outcomes (session_outcomes parts), few_outcomes heads r (from + 1) all parts are.1, as_many_at_most heads [] ls.lines.items part.outcomes part.tolds are.0.did.blocks are.0.did.are, length-map ls.lines.items line_seen)
-few_outcomes heads r from [] (part ∷ parts) are = absurd are
-few_outcomes heads r from (ls ∷ all) [] are = absurd are
+pub few_outcomes : (heads : List AppHead) (r : Run) (time from : ℕ) (all : List SessionLines) (parts : List SessionPart) → AreCarried (IsCarriedIn heads r time) from all parts → length (session_outcomes parts) ≤ lines_of_sessions (sessions_seen all)
+few_outcomes heads r time from [] [] are = omega arith
+few_outcomes heads r time from (ls ∷ all) (part ∷ parts) are =
+    omega (arith, length-append part.outcomes (session_outcomes parts), few_outcomes heads r time (from + 1) all parts are.1, as_many_at_most heads [] ls.lines.items part.outcomes part.tolds are.0.did.blocks are.0.did.are, length-map ls.lines.items line_seen)
+few_outcomes heads r time from [] (part ∷ parts) are = absurd are
+few_outcomes heads r time from (ls ∷ all) [] are = absurd are
 
 -- as many are told
 as_many_told : (heads : List AppHead) (so_far : List Step) (lines : List SessionLine) (os : List Outcome) (ts : List Told) (bs : List (List Step)) → AreLines heads so_far lines os ts bs → length ts ≡ length os
@@ -55,12 +55,12 @@ as_many_told heads so_far lines [] [] [] are = refl
 as_many_told heads so_far (l ∷ lines) (o ∷ os) (t ∷ ts) (b ∷ bs) are = ap suc (as_many_told heads (so_far ++ b) lines os ts bs are.1)
 as_many_told heads so_far _ _ _ _ are = absurd are
 
-pub tolds_as_outcomes : (heads : List AppHead) (r : Run) (from : ℕ) (all : List SessionLines) (parts : List SessionPart) → AreCarried (IsCarriedIn heads r) from all parts → length (session_tolds parts) ≡ length (session_outcomes parts)
-tolds_as_outcomes heads r from [] [] are = refl
-tolds_as_outcomes heads r from (ls ∷ all) (part ∷ parts) are =
-    omega (arith, length-append part.outcomes (session_outcomes parts), length-append part.tolds (session_tolds parts), tolds_as_outcomes heads r (from + 1) all parts are.1, as_many_told heads [] ls.lines.items part.outcomes part.tolds are.0.did.blocks are.0.did.are)
-tolds_as_outcomes heads r from [] (part ∷ parts) are = absurd are
-tolds_as_outcomes heads r from (ls ∷ all) [] are = absurd are
+pub tolds_as_outcomes : (heads : List AppHead) (r : Run) (time from : ℕ) (all : List SessionLines) (parts : List SessionPart) → AreCarried (IsCarriedIn heads r time) from all parts → length (session_tolds parts) ≡ length (session_outcomes parts)
+tolds_as_outcomes heads r time from [] [] are = refl
+tolds_as_outcomes heads r time from (ls ∷ all) (part ∷ parts) are =
+    omega (arith, length-append part.outcomes (session_outcomes parts), length-append part.tolds (session_tolds parts), tolds_as_outcomes heads r time (from + 1) all parts are.1, as_many_told heads [] ls.lines.items part.outcomes part.tolds are.0.did.blocks are.0.did.are)
+tolds_as_outcomes heads r time from [] (part ∷ parts) are = absurd are
+tolds_as_outcomes heads r time from (ls ∷ all) [] are = absurd are
 
 pub lines_before : (first rest : List SessionLines) → lines_of_sessions (sessions_seen first) ≤ lines_of_sessions (sessions_seen (first ++ rest))
 lines_before [] rest = omega arith
@@ -87,42 +87,42 @@ module _ {apps : List AppText} (s : Statement) {k k' : GatheredData} {r r' : Run
   -- no more outcomes than it has lines
   pub pushed_at_most : (on : StepsOn apps s k k' r r' W) → length on.part.outcomes ≤ lines_of (statement_seen s)
   pushed_at_most on = by_kind s on.is where
-    by_kind : (x : Statement) → IsPart (IsCarriedIn (heads_of apps) r') apps (session_count r + 1) x on.part → length on.part.outcomes ≤ lines_of (statement_seen x)
+    by_kind : (x : Statement) → IsPart (IsCarriedIn (heads_of apps) r') apps r.hands.clock.time (session_count r + 1) x on.part → length on.part.outcomes ≤ lines_of (statement_seen x)
     by_kind (statement.Launch l) is = omega (arith, ap length is.outcomes_are)
     by_kind (statement.Hey h) is = omega (arith, ap length is.outcomes_are)
     by_kind (statement.Post p) is = omega (arith, ap length is.outcomes_are)
     by_kind (statement.Lock l) is = omega (arith, ap length is.outcomes_are)
-    by_kind (statement.Together t) is = omega (arith, ap length is.outcomes_are, few_outcomes (heads_of apps) r' (session_count r + 1) t.sessions.items is.parts is.carried)
+    by_kind (statement.Together t) is = omega (arith, ap length is.outcomes_are, few_outcomes (heads_of apps) r' r.hands.clock.time (session_count r + 1) t.sessions.items is.parts is.carried)
 
   pub told_at_most : (on : StepsOn apps s k k' r r' W) → length on.part.tolds ≤ lines_of (statement_seen s)
   told_at_most on = by_kind s on.is where
-    by_kind : (x : Statement) → IsPart (IsCarriedIn (heads_of apps) r') apps (session_count r + 1) x on.part → length on.part.tolds ≤ lines_of (statement_seen x)
+    by_kind : (x : Statement) → IsPart (IsCarriedIn (heads_of apps) r') apps r.hands.clock.time (session_count r + 1) x on.part → length on.part.tolds ≤ lines_of (statement_seen x)
     by_kind (statement.Launch l) is = omega (arith, ap length is.tolds_are)
     by_kind (statement.Hey h) is = omega (arith, ap length is.tolds_are)
     by_kind (statement.Post p) is = omega (arith, ap length is.tolds_are)
     by_kind (statement.Lock l) is = omega (arith, ap length is.tolds_are)
     by_kind (statement.Together t) is =
-        omega (arith, ap length is.tolds_are, tolds_as_outcomes (heads_of apps) r' (session_count r + 1) t.sessions.items is.parts is.carried, few_outcomes (heads_of apps) r' (session_count r + 1) t.sessions.items is.parts is.carried)
+        omega (arith, ap length is.tolds_are, tolds_as_outcomes (heads_of apps) r' r.hands.clock.time (session_count r + 1) t.sessions.items is.parts is.carried, few_outcomes (heads_of apps) r' r.hands.clock.time (session_count r + 1) t.sessions.items is.parts is.carried)
 
   -- as many sessions as it has
   pub as_many_sessions : (on : StepsOn apps s k k' r r' W) → on.part.sessions ≡ sessions_in s
   as_many_sessions on = by_kind s on.is where
-    by_kind : (x : Statement) → IsPart (IsCarriedIn (heads_of apps) r') apps (session_count r + 1) x on.part → on.part.sessions ≡ sessions_in x
+    by_kind : (x : Statement) → IsPart (IsCarriedIn (heads_of apps) r') apps r.hands.clock.time (session_count r + 1) x on.part → on.part.sessions ≡ sessions_in x
     by_kind (statement.Launch l) is = is.no_session
     by_kind (statement.Hey h) is = is.no_session
     by_kind (statement.Post p) is = is.no_session
     by_kind (statement.Lock l) is = is.no_session
-    by_kind (statement.Together t) is = is.count ∙ sym (as_many (IsCarriedIn (heads_of apps) r') (session_count r + 1) t.sessions.items is.parts is.carried)
+    by_kind (statement.Together t) is = is.count ∙ sym (as_many (IsCarriedIn (heads_of apps) r' r.hands.clock.time) (session_count r + 1) t.sessions.items is.parts is.carried)
 
 -- ---- a block, so far as it was carried out
 module _ (heads : List AppHead) (t : Together) {came : Result (Unit {0}) Cut} {r r' : Run} {heard : List Heard} (ran : HasRunBlock heads t.sessions.items came r r' heard) where
   pub few_heard : length heard ≤ length t.sessions.items
   few_heard =
-      omega (arith, as_many (IsCarriedIn heads r') (session_count r + 1) ran.first (map part_of heard) ran.kept.carried, length-map heard part_of, ap length ran.all, length-append ran.first ran.rest)
+      omega (arith, as_many (IsCarriedIn heads r' r.hands.clock.time) (session_count r + 1) ran.first (map part_of heard) ran.kept.carried, length-map heard part_of, ap length ran.all, length-append ran.first ran.rest)
 
   pub few_outcomes_heard : length (session_outcomes (map part_of heard)) ≤ lines_of (statement_seen (statement.Together t))
   few_outcomes_heard =
-      omega (arith, few_outcomes heads r' (session_count r + 1) ran.first (map part_of heard) ran.kept.carried, lines_before ran.first ran.rest, ap (λ (all : List SessionLines). lines_of_sessions (sessions_seen all)) ran.all)
+      omega (arith, few_outcomes heads r' r.hands.clock.time (session_count r + 1) ran.first (map part_of heard) ran.kept.carried, lines_before ran.first ran.rest, ap (λ (all : List SessionLines). lines_of_sessions (sessions_seen all)) ran.all)
 
   pub few_tolds_heard : length (session_tolds (map part_of heard)) ≤ lines_of (statement_seen (statement.Together t))
-  few_tolds_heard = omega (arith, few_outcomes_heard, tolds_as_outcomes heads r' (session_count r + 1) ran.first (map part_of heard) ran.kept.carried)
+  few_tolds_heard = omega (arith, few_outcomes_heard, tolds_as_outcomes heads r' r.hands.clock.time (session_count r + 1) ran.first (map part_of heard) ran.kept.carried)

@@ -1,6 +1,6 @@
 -- Lines are written, one after the other, as far as nothing stops it.
-use Rattle.std.proofs.Common.{◌≡◌, ◌≤◌, ◌+◌, ◌<◌, inl, inr, ℕ, zero, suc, List, [], ◌∷◌, ◌++◌, length, length-append, take, drop, get_or, map, refl, sym, ap, ◌∙◌, subst, append_assoc, append-nil, arith}
-use Rattle.std.specs.Prelude.{Bool, true, Option, Result, Ok, Err, IsErrOf}
+use Rattle.std.proofs.Common.{◌≡◌, ◌≤◌, ◌+◌, ◌<◌, ℕ, zero, suc, List, [], ◌∷◌, ◌++◌, length, length-append, take, drop, get_or, map, refl, sym, ap, ◌∙◌, subst, append_assoc, append-nil, arith}
+use Rattle.std.specs.Prelude.{Option, Result, Ok, Err, IsErrOf}
 use Rattle.std.specs.Io.KnownBytes.{Appends}
 use Rattle.std.proofs.lemmas.List.{take_more}
 use Rattle.ak_outside.proofs.Surface.{Appends-joined}
@@ -8,11 +8,11 @@ use Rattle.ak_print.specs.declared.told.Told.{Told}
 use Rattle.ak_print.specs.Told.{told_line}
 use Rattle.ak_block.specs.declared.blocks.Heard.{Heard}
 use Rattle.ak_block.specs.Together.{part_of}
-use Rattle.ak_play.specs.declared.stop.Stop.{Stop}
-use Rattle.ak_play.specs.declared.stop.Stop.TheVariants as stop
+use Rattle.ak_play.specs.declared.stop.Untold.{Untold}
+use Rattle.ak_play.specs.declared.stop.Untold.TheVariants as untold
 use Rattle.ak_play.specs.Parts.{session_tolds}
-use Rattle.ak_play.specs.Play.{IsCutText, IsFrontText, IsLeft, text_of}
-use Rattle.ak_play.specs.Steps.{HasWritten, HasWrittenAll, is_lack}
+use Rattle.ak_play.specs.Play.{AreWritten, IsCutText, IsFrontText, text_of}
+use Rattle.ak_play.specs.Steps.{HasWritten, HasWrittenAll, lines_told}
 use Rattle.ak_play.proofs.Parts.{text-append}
 
 -- ---- a list, at one of its places
@@ -64,34 +64,32 @@ module _ (before lines : List Told) (old mid new : Option (List ℕ)) (one : App
     front_within : IsFrontText [] lines mid new → IsFrontText [] (before ++ (lines ++ behind)) old new
     front_within front = record {
       lines = length before + front.lines;
-      most = omega (arith, front.most, length-append before (lines ++ behind), length-append lines behind);
+      not_all = omega (arith, front.not_all, length-append before (lines ++ behind), length-append lines behind);
       written = subst (Appends old new) (sym (ap text_of first ∙ text-append before (take front.lines lines))) (Appends-joined old mid new (text_of before) (text_of (take front.lines lines)) one front.written);
     }
       where
         first : take (length before + front.lines) (before ++ (lines ++ behind)) ≡ before ++ take front.lines lines
-        first = front_behind before (lines ++ behind) front.lines (length before + front.lines) refl ∙ ap (λ (l : List Told). before ++ l) (front_of lines behind front.lines front.most)
+        first = front_behind before (lines ++ behind) front.lines (length before + front.lines) refl ∙ ap (λ (l : List Told). before ++ l) (front_of lines behind front.lines (omega (arith, front.not_all)))
 
-    pub lines_stop : (why : Stop) → HasWrittenAll {A = Unit {0}} (Err why) lines mid new → HasWrittenAll {A = Unit {0}} (Err why) (before ++ (lines ++ behind)) old new
-    lines_stop stop.WriteFault written = cut_within written
-    lines_stop (stop.ThreadFault lacked) written = absurd written
-    lines_stop stop.NoMemory written = front_within written
+    pub lines_stop : (why : Untold) → HasWrittenAll {A = Unit {0}} (Err why) lines mid new → HasWrittenAll {A = Unit {0}} (Err why) (before ++ (lines ++ behind)) old new
+    lines_stop untold.WriteFault written = cut_within written
+    lines_stop untold.NoMemory written = front_within written
 
 -- ---- one line
 pub one_text : (t : Told) → text_of (t ∷ []) ≡ told_line t
 one_text t = append-nil (told_line t)
 
-pub one_written : (result : Result (Unit {0}) Stop) (t : Told) (old new : Option (List ℕ)) → HasWritten result (told_line t) old new → HasWrittenAll result (t ∷ []) old new
+pub one_written : (result : Result (Unit {0}) Untold) (t : Told) (old new : Option (List ℕ)) → HasWritten result (told_line t) old new → HasWrittenAll result (t ∷ []) old new
 one_written (Ok x) t old new written = subst (Appends old new) (sym (one_text t)) written
-one_written (Err stop.WriteFault) t old new written = record { front = []; line = t; behind = []; last_is = refl; part = written.0; short = written.1; written = written.2 }
-one_written (Err (stop.ThreadFault lacked)) t old new written = absurd written
-one_written (Err stop.NoMemory) t old new written = record { lines = 0; most = omega arith; written = written }
+one_written (Err untold.WriteFault) t old new written = record { front = []; line = t; behind = []; last_is = refl; part = written.0; short = written.1; written = written.2 }
+one_written (Err untold.NoMemory) t old new written = record { lines = 0; not_all = omega arith; written = written }
 
--- of a block that was cut all is written, or the first lines, as main found no memory, or as far as a write that failed
-pub left_of : (told : Result (Unit {0}) Stop) (lacks : Bool) (Failed : Type 0) (lines : List Told) (old new : Option (List ℕ)) → (is_lack told ≡ true → lacks ≡ true) → (IsErrOf told stop.WriteFault → Failed) → HasWrittenAll told lines old new → IsLeft lacks Failed [] lines old new
-left_of (Ok x) lacks Failed lines old new so failed written = inl written
-left_of (Err stop.WriteFault) lacks Failed lines old new so failed written = inr (inr (failed refl, written))
-left_of (Err (stop.ThreadFault by_main)) lacks Failed lines old new so failed written = absurd written
-left_of (Err stop.NoMemory) lacks Failed lines old new so failed written = inr (inl (so refl, written))
+-- by what became of them; a write failed only where it was told so
+pub written_as : (told : Result (Unit {0}) Untold) (Failed Kept : Type 0) (lines : List Told) (old new : Option (List ℕ)) → (IsErrOf told untold.WriteFault → Failed) → (¬ (IsErrOf told untold.WriteFault) → Kept) → HasWrittenAll told lines old new
+    → AreWritten (lines_told told) Failed Kept [] lines old new
+written_as (Ok x) Failed Kept lines old new failed kept written = (written, kept (λ bad. absurd (cc bad)))
+written_as (Err untold.WriteFault) Failed Kept lines old new failed kept written = (written, failed refl)
+written_as (Err untold.NoMemory) Failed Kept lines old new failed kept written = (written, kept (λ bad. absurd (cc bad)))
 
 -- ---- the lines of sessions
 pub tolds-append : (xs ys : List Heard) → session_tolds (map part_of (xs ++ ys)) ≡ session_tolds (map part_of xs) ++ session_tolds (map part_of ys)

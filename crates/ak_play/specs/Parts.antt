@@ -1,7 +1,7 @@
 -- What statements came to, part by part; a part is one statement's.
 use Rattle.std.specs.Prelude.{◌≡◌, ◌+◌, ℕ, List, [], ◌∷◌, ◌++◌, length, if◌then◌else◌}
 use Rattle.std.specs.List.{flat_map}
-use Rattle.ak_diary.specs.Step.{Step}
+use Rattle.ak_diary.specs.Step.{Step, time_of}
 use Rattle.ak_describe.specs.declared.described.AppText.{AppText}
 use Rattle.ak_print.specs.declared.told.Told.{Told}
 use Rattle.ak_script.specs.declared.statement.SessionLines.{SessionLines}
@@ -64,12 +64,13 @@ pub record IsMains (apps : List AppText) (s : Statement) (part : Part) : Type 0 
   pub no_session : part.sessions ≡ 0
   pub none_short : part.short ≡ []
 
--- ---- a block, whose sessions have the numbers from that one on; Carried tells of one of them what its thread did
-module _ (Carried : ℕ → SessionLines → SessionPart → Type 0) where
+-- ---- a block, whose sessions begin at that time and have the numbers from that one on; Carried tells of one of them, by its time and its number,
+-- what its thread did
+module _ (Carried : ℕ → ℕ → SessionLines → SessionPart → Type 0) where
   -- these of its sessions were carried out; main did nothing meanwhile
-  pub record IsOfSessions (from : ℕ) (sessions : List SessionLines) (part : Part) : Type 0 where
+  pub record IsOfSessions (time from : ℕ) (sessions : List SessionLines) (part : Part) : Type 0 where
     pub parts : List SessionPart
-    pub carried : AreCarried Carried from sessions parts
+    pub carried : AreCarried (Carried time) from sessions parts
     pub nothing : part.steps ≡ []
     pub count : part.sessions ≡ length parts
     pub outcomes_are : part.outcomes ≡ session_outcomes parts
@@ -77,30 +78,30 @@ module _ (Carried : ℕ → SessionLines → SessionPart → Type 0) where
     pub short_are : part.short ≡ short_in from parts
 
   -- the first of them alone: main found no memory for the next one, or no thread could be started for the last of them
-  pub record IsCutBlock (from : ℕ) (t : Together) (part : Part) : Type 0 where
+  pub record IsCutBlock (time from : ℕ) (t : Together) (part : Part) : Type 0 where
     pub first : List SessionLines
     pub rest : List SessionLines
     pub all : t.sessions.items ≡ first ++ rest
-    pub are : IsOfSessions from first part
+    pub are : IsOfSessions time from first part
 
   -- ---- each statement
-  abbrev pub IsPart : List AppText → ℕ → Statement → Part → Type 0
-  IsPart apps from (statement.Together t) part = IsOfSessions from t.sessions.items part
-  IsPart apps from (statement.Launch l) part = IsMains apps (statement.Launch l) part
-  IsPart apps from (statement.Hey h) part = IsMains apps (statement.Hey h) part
-  IsPart apps from (statement.Post p) part = IsMains apps (statement.Post p) part
-  IsPart apps from (statement.Lock l) part = IsMains apps (statement.Lock l) part
+  abbrev pub IsPart : List AppText → ℕ → ℕ → Statement → Part → Type 0
+  IsPart apps time from (statement.Together t) part = IsOfSessions time from t.sessions.items part
+  IsPart apps time from (statement.Launch l) part = IsMains apps (statement.Launch l) part
+  IsPart apps time from (statement.Hey h) part = IsMains apps (statement.Hey h) part
+  IsPart apps time from (statement.Post p) part = IsMains apps (statement.Post p) part
+  IsPart apps time from (statement.Lock l) part = IsMains apps (statement.Lock l) part
 
-  -- of the first statements, one after the other, each has its part; sessions are numbered on
-  abbrev pub AreParts : List AppText → ℕ → List Statement → List Part → Type 0
-  AreParts apps from statements [] = Unit {0}
-  AreParts apps from (s ∷ statements) (part ∷ parts) = IsPart apps from s part × AreParts apps (from + part.sessions) statements parts
-  AreParts apps from [] (part ∷ parts) = ⊥
+  -- of the first statements, one after the other, each has its part; main's time goes on by its steps, and sessions are numbered on
+  abbrev pub AreParts : List AppText → ℕ → ℕ → List Statement → List Part → Type 0
+  AreParts apps time from statements [] = Unit {0}
+  AreParts apps time from (s ∷ statements) (part ∷ parts) = IsPart apps time from s part × AreParts apps (time_of time part.steps) (from + part.sessions) statements parts
+  AreParts apps time from [] (part ∷ parts) = ⊥
 
   -- the statement is a block that was cut
-  abbrev pub IsCut : ℕ → Statement → Part → Type 0
-  IsCut from (statement.Together t) part = IsCutBlock from t part
-  IsCut from _ part = ⊥
+  abbrev pub IsCut : ℕ → ℕ → Statement → Part → Type 0
+  IsCut time from (statement.Together t) part = IsCutBlock time from t part
+  IsCut time from _ part = ⊥
 
 -- how many sessions were carried out
 abbrev pub all_sessions : List Part → ℕ

@@ -1,5 +1,5 @@
 -- A script that was carried out: what main and the sessions did for its statements, and what was written of them.
-use Rattle.std.specs.Prelude.{◌≡◌, ◌≢◌, ◌≤◌, ◌<◌, ◌+◌, ◌⊎◌, ℕ, Bool, true, false, List, [], ◌∷◌, ◌++◌, length, slice_get, take, All, IfSome, IsSomeAnd, Option, None, Some}
+use Rattle.std.specs.Prelude.{◌≡◌, ◌≢◌, ◌≤◌, ◌<◌, ◌+◌, ◌⊎◌, ℕ, true, false, List, [], ◌∷◌, ◌++◌, length, slice_get, take, All, IfSome, IsSomeAnd, Option, None, Some}
 use Rattle.std.specs.List.{flat_map}
 use Rattle.std.specs.Io.KnownBytes.{Appends}
 use Rattle.ak_base.specs.declared.ending.Ending.{Ending}
@@ -11,7 +11,7 @@ use Rattle.ak_roster.specs.declared.head.AppHead.{AppHead}
 use Rattle.ak_describe.specs.Whole.{heads_of}
 use Rattle.ak_describe.specs.declared.described.AppText.{AppText}
 use Rattle.ak_diary.specs.declared.histories.Histories.{Histories}
-use Rattle.ak_diary.specs.Step.{AreStamped, Step, desk_entries}
+use Rattle.ak_diary.specs.Step.{AreStamped, Step, desk_entries, time_of}
 use Rattle.ak_headline.specs.Answers.{GotOneReply}
 use Rattle.ak_headline.specs.Main.{IsMainDiary}
 use Rattle.ak_headline.specs.Run.{HasDone, IsRunWith, desk_list}
@@ -22,6 +22,8 @@ use Rattle.ak_run.specs.AtEnd.{IsClosing}
 use Rattle.ak_script.specs.declared.statement.Statement.{Statement}
 use Rattle.ak_lines.specs.declared.outcome.Outcome.{Outcome}
 use Rattle.ak_lines.specs.declared.outcome.Outcome.TheVariants as came
+use Rattle.ak_play.specs.declared.run_end.Lines.{Lines}
+use Rattle.ak_play.specs.declared.run_end.Lines.TheVariants as lines
 use Rattle.ak_play.specs.declared.run_end.RunEnd.{RunEnd}
 use Rattle.ak_play.specs.declared.run_end.Short.{Short}
 use Rattle.ak_play.specs.Blocks.{IsLaunch}
@@ -48,13 +50,13 @@ cut_short (Some part) = part.short
 
 -- Each of the first statements has its part. Main's diary is the steps of these, in order, then what it did for the statement at which it
 -- stopped, which is nothing where each was carried out, and then the end of the run. The diary has all that main made at the roster, at the reply
--- book, at each port and at each desk, and its entries have the stamps that are due, from 0 on. The statement at which it stopped may be a block
--- of which some sessions were carried out
+-- book, at each port and at each desk, and its entries have the stamps that are due, from 0 on. The sessions of a block begin at the time that main
+-- had come to by the parts before it. The statement at which it stopped may be a block of which some sessions were carried out
 pub record HasPlayed (apps : List AppText) (statements : List Statement) (outcomes : List Outcome) (tolds : List Told) (short : List ℕ) (h : Histories) : Type 0 where
   pub parts : List Part
-  pub are : AreParts (HasCarried (heads_of apps) h) apps 1 statements parts
+  pub are : AreParts (HasCarried (heads_of apps) h) apps 0 1 statements parts
   pub cut : Option Part
-  pub cut_is : IfSome cut (λ (part : Part). IsSomeAnd (slice_get statements (length parts)) (λ (s : Statement). IsCut (HasCarried (heads_of apps) h) (all_sessions parts + 1) s part))
+  pub cut_is : IfSome cut (λ (part : Part). IsSomeAnd (slice_get statements (length parts)) (λ (s : Statement). IsCut (HasCarried (heads_of apps) h) (time_of 0 (all_steps parts)) (all_sessions parts + 1) s part))
   pub outcomes_are : outcomes ≡ all_outcomes parts ++ cut_outcomes cut
   pub tolds_are : tolds ≡ all_tolds parts ++ cut_tolds cut
   pub short_are : short ≡ all_short parts ++ cut_short cut
@@ -91,24 +93,18 @@ pub record IsCutText (before last : List Told) (old new : Option (List ℕ)) : T
   pub short : part < length (told_line line)
   pub written : Appends old new (text_of before ++ (text_of front ++ take part (told_line line)))
 
--- of the last lines, which are those of one statement, the first ones were written
+-- of the last lines, which are those of one statement, the first ones were written, and not all
 pub record IsFrontText (before last : List Told) (old new : Option (List ℕ)) : Type 0 where
   pub lines : ℕ
-  pub most : lines ≤ length last
+  pub not_all : lines < length last
   pub written : Appends old new (text_of before ++ text_of (take lines last))
 
--- Where it did not end at a write: all; or the first ones, where main found no memory; or, of a block that was cut, as far as a write that failed
-abbrev pub IsLeft : Bool → Type 0 → List Told → List Told → Option (List ℕ) → Option (List ℕ) → Type 0
-IsLeft lacks Failed before last old new =
-    Appends old new (text_of before ++ text_of last) ⊎ (((lacks ≡ true) × IsFrontText before last old new) ⊎ (Failed × IsCutText before last old new))
-
--- all lines before those of the last statement are written, and of the last ones
-abbrev pub IsWritten : Ending → Bool → Type 0 → List Told → List Told → Option (List ℕ) → Option (List ℕ) → Type 0
-IsWritten ending.Done lacks Failed before last old new = Appends old new (text_of before ++ text_of last)
-IsWritten ending.ThreadFault lacks Failed before last old new = IsLeft lacks Failed before last old new
-IsWritten ending.NoMemory lacks Failed before last old new = IsLeft lacks Failed before last old new
-IsWritten ending.WriteFault lacks Failed before last old new = IsCutText before last old new
-IsWritten _ lacks Failed before last old new = ⊥
+-- By what became of the lines: all were written, and no write failed; one failed, and none stands behind that line; or no write failed, and the
+-- first ones of the last statement alone were written, behind all that come before. Failed says that a write failed, Kept that none did
+abbrev pub AreWritten : Lines → Type 0 → Type 0 → List Told → List Told → Option (List ℕ) → Option (List ℕ) → Type 0
+AreWritten lines.Whole Failed Kept before last old new = Appends old new (text_of before ++ text_of last) × Kept
+AreWritten lines.Cut Failed Kept before last old new = IsCutText before last old new × Failed
+AreWritten lines.Lacking Failed Kept before last old new = IsFrontText before last old new × Kept
 
 -- the last lines are those of the last part: that of the block that was cut, or of the last statement that was carried out
 abbrev pub last_tolds : List Part → Option Part → List Told
@@ -139,9 +135,13 @@ pub record IsPlay (apps : List AppText) (statements : List Statement) (end : End
   pub played : HasPlayed apps statements run.outcomes run.tolds run.short.sessions run.histories
   -- it is a run of these sessions, and of no others
   pub run_of : IsRunWith (all_sessions played.parts + cut_sessions played.cut) (heads_of apps) run.short.loopers run.histories
-  -- a write that failed is its end, or one of the lines of a block that was cut
-  pub written : IsWritten end run.short.main (IsSomeAnd played.cut (λ (part : Part). Failed)) (first_tolds played.parts played.cut) (last_tolds played.parts played.cut) old new
-  pub sink : end ≢ ending.WriteFault → played.cut ≡ None → Kept
+  pub written : AreWritten run.lines Failed Kept (first_tolds played.parts played.cut) (last_tolds played.parts played.cut) old new
+  -- where it is done they are whole, and at a write fault cut; else a write that failed is one of the lines of a block that was cut
+  pub whole_when_done : end ≡ ending.Done → run.lines ≡ lines.Whole
+  pub cut_at_a_write : end ≡ ending.WriteFault → run.lines ≡ lines.Cut
+  pub cut_at : run.lines ≡ lines.Cut → (end ≡ ending.WriteFault) ⊎ IsSomeAnd played.cut (λ (part : Part). Unit {0})
+  -- where one is missing for want of memory it was main that found none
+  pub lacking_by_main : run.lines ≡ lines.Lacking → run.short.main ≡ true
   pub replies : AreReplies run.short.loopers run.histories run.outcomes run.tolds
   -- it is done only where each statement has its part
   pub whole : end ≡ ending.Done → length played.parts ≡ length statements

@@ -10,10 +10,9 @@ use Rattle.ak_script.specs.declared.statement.SessionLines.{SessionLines}
 use Rattle.ak_block.specs.Carried.{DidLines, SessionPart}
 
 -- these steps have all that its thread made at the roster, at the reply book, at each port and at each desk, with the stamps that are due from
--- some time on, and its edits stand at the desks
-pub record HasCarried (heads : List AppHead) (h : Histories) (number : ℕ) (lines : SessionLines) (part : SessionPart) : Type 0 where
+-- that time on, and its edits stand at the desks
+pub record HasCarried (heads : List AppHead) (h : Histories) (time number : ℕ) (lines : SessionLines) (part : SessionPart) : Type 0 where
   pub did : DidLines heads lines part
-  pub time : ℕ
   pub stamped : AreStamped time (all_steps did.blocks ++ did.stopped)
   pub done : HasDone h number (all_steps did.blocks ++ did.stopped)
   pub edits : (looper : ℕ) → All (StandsIn (desk_list h looper)) (desk_entries looper (all_steps did.blocks ++ did.stopped))

@@ -12,11 +12,11 @@ ghost use Rattle.ak_script.specs.StatementSeen.{statements_seen};
 ghost use Rattle.ak_run.specs.AtEnd.{DoneAtEnd, SessionsDone};
 ghost use Rattle.ak_run.specs.Doing.{HasDoneSoFar};
 ghost use Rattle.ak_run.specs.Opened.{WereOpened};
-ghost use Rattle.ak_play.specs.Steps.{any_short, ended_as, is_lack};
+ghost use Rattle.ak_play.specs.Steps.{any_short, ended_as, is_lack, lines_after};
 
 use crate::gathered::Gathered;
 use crate::run_end::{RunEnd, Short};
-use crate::stop::{Stop, is_lack};
+use crate::stop::{Stop, is_lack, lines_after};
 use ak_base::{Ending, Items};
 use ak_run::{Ended, Run};
 use ak_script::{Script, Statement};
@@ -31,8 +31,8 @@ fn ending_of(played: Result<(), Stop>, lacked: bool) -> Ending
         Ok(()) if lacked => Ending::NoMemory,
         Ok(()) => Ending::Done,
         Err(Stop::WriteFault) => Ending::WriteFault,
-        Err(Stop::ThreadFault { .. }) => Ending::ThreadFault,
-        Err(Stop::NoMemory) => Ending::NoMemory,
+        Err(Stop::ThreadFault(_)) => Ending::ThreadFault,
+        Err(Stop::NoMemory(_)) => Ending::NoMemory,
     }
 }
 
@@ -59,6 +59,7 @@ pub(crate) fn finish<R: Threads + Wait>(
     ensures statements { result.0.script.statements.items ≡ statements.items }
     ensures outcomes { result.0.outcomes ≡ gathered.outcomes.items }
     ensures tolds { result.0.tolds ≡ gathered.tolds.items }
+    ensures lines { result.0.lines ≡ lines_after played }
     ensures short { result.0.short.main ≡ is_lack played }
     ensures short_sessions { result.0.short.sessions ≡ gathered.short.items }
     ensures did { (steps : List Step) → HasDoneSoFar steps run → DoneAtEnd (heads_of run.apps.items) steps result.0.histories }
@@ -78,6 +79,7 @@ pub(crate) fn finish<R: Threads + Wait>(
         script: Script { apps, statements },
         outcomes: Items::from_vec(outcomes),
         tolds: Items::from_vec(tolds),
+        lines: lines_after(&played),
         histories,
         short: Short {
             main: is_lack(&played),

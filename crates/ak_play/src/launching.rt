@@ -1,13 +1,14 @@
 //! Launches.
-ghost use Rattle.std.specs.Prelude.{◌≡◌, ◌≤◌, true, IsErrOf};
+ghost use Rattle.std.specs.Prelude.{◌≡◌, ◌≤◌, IsErrOf};
 ghost use Rattle.ak_outside.specs.Faults.{Rose};
 ghost use Rattle.ak_run.specs.Running.{IsRunning};
 ghost use Rattle.ak_run.specs.Sessions.{sessions_of};
 ghost use Rattle.ak_run.specs.Doing.{DoesSo};
 ghost use Rattle.ak_play.specs.Blocks.{IsLaunchBlock};
 ghost use Rattle.ak_play.specs.Came.{MayCome};
-ghost use Rattle.ak_play.specs.Steps.{IsThreadFault};
+ghost use Rattle.ak_play.specs.Steps.{IsThreadFault, StopsBeforeLines};
 
+use crate::run_end::Lines;
 use crate::stop::Stop;
 use ak_lines::{Came, Outcome};
 use ak_outside::{Gate, Spawner};
@@ -39,7 +40,7 @@ pub(crate) fn launch<W: Spawner, G: Gate + 'static, R: Threads + Wait + Copy + S
     requires running { IsRunning run.old }
     ensures did { DoesSo (MayCome (IsLaunchBlock run.old.apps.items launch.now) result) run.old run.new }
     ensures not_written { IsErrOf result Stop.WriteFault → ⊥ }
-    ensures by_main { IsErrOf result (Stop.ThreadFault true) → ⊥ }
+    ensures lines { StopsBeforeLines result }
     ensures cause { IsThreadFault result → Rose (W.faults spawner.old) (W.faults spawner.new) }
     ensures kept { ¬ (IsThreadFault result) → W.faults spawner.new ≡ W.faults spawner.old }
     ensures never_falls { W.faults spawner.old ≤ W.faults spawner.new }
@@ -52,7 +53,7 @@ pub(crate) fn launch<W: Spawner, G: Gate + 'static, R: Threads + Wait + Copy + S
         LaunchAnswer::Running { team, place } => Ok(launched(place, Told::Running(team))),
         LaunchAnswer::NotFound { place } => Ok(launched(place, Told::NotFound)),
         LaunchAnswer::Limit { place } => Ok(launched(place, Told::Limit)),
-        LaunchAnswer::ThreadFault => Err(Stop::ThreadFault { lacked: false }),
-        LaunchAnswer::NoMemory => Err(Stop::NoMemory),
+        LaunchAnswer::ThreadFault => Err(Stop::ThreadFault(Lines::Whole)),
+        LaunchAnswer::NoMemory => Err(Stop::NoMemory(Lines::Whole)),
     }
 }

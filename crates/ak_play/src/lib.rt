@@ -16,4 +16,4 @@ mod telling;
 
 pub use ak_lines::Outcome;
 pub use play::run_script;
-pub use run_end::{RunEnd, Short};
+pub use run_end::{Lines, RunEnd, Short};

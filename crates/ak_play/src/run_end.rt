@@ -15,6 +15,17 @@ pub struct Short {
     pub loopers: Items<u32>,
 }
 
+/// What became of the lines of the outcomes of a run.
+#[derive(Clone, Copy, Debug, PartialEq, Eq)]
+pub enum Lines {
+    /// All were written, and no write failed.
+    Whole,
+    /// A write failed: that line is not whole, and none stands behind it.
+    Cut,
+    /// No write failed, and there was no memory for a line of the last statement: it is missing, and those behind it are.
+    Lacking,
+}
+
 /// A script that was carried out.
 #[derive(Drop)]
 pub struct RunEnd {
@@ -23,6 +34,8 @@ pub struct RunEnd {
     pub outcomes: Items<Outcome>,
     /// What is told of each outcome, at the same place.
     pub tolds: Items<Told>,
+    /// What became of their lines.
+    pub lines: Lines,
     /// The history of each object.
     pub histories: Histories,
     pub short: Short,

@@ -11,14 +11,14 @@ ghost use Rattle.ak_play.specs.Blocks.{IsAlone, IsBlock, IsLaunch};
 ghost use Rattle.ak_play.specs.Came.{MayCome};
 ghost use Rattle.ak_play.specs.Gathered.{HasRoom, KeepsRoom, gathered_seen, nothing_gathered};
 ghost use Rattle.ak_play.specs.Parts.{sessions_in};
-ghost use Rattle.ak_play.specs.Steps.{HasStepped, IsPlayedTo, IsThreadFault};
+ghost use Rattle.ak_play.specs.Steps.{HasStepped, IsPlayedTo, IsThreadFault, StopsBeforeLines};
 
 use crate::asking::hey;
 use crate::gathered::Gathered;
 use crate::launching::launch;
 use crate::locking::lock;
 use crate::posting::post;
-use crate::stop::{Stop, is_lack};
+use crate::stop::{Stop, lines_told};
 use crate::telling::{tell, tell_sessions};
 use ak_block::{Cut, together};
 use ak_lines::Came;
@@ -42,7 +42,7 @@ fn carry_out<W: Spawner, G: Gate + 'static, R: Threads + Wait + Copy + Send + 's
     ensures did { DoesSo (MayCome (IsBlock run.old.apps.items statement.now) result) run.old run.new }
     ensures not_written { IsErrOf result Stop.WriteFault → ⊥ }
     ensures at_a_launch { IsThreadFault result → IsLaunch statement.now }
-    ensures by_main { IsErrOf result (Stop.ThreadFault true) → ⊥ }
+    ensures lines { StopsBeforeLines result }
     ensures cause { IsThreadFault result → Rose (W.faults spawner.old) (W.faults spawner.new) }
     ensures kept { ¬ (IsThreadFault result) → W.faults spawner.new ≡ W.faults spawner.old }
     ensures never_falls { W.faults spawner.old ≤ W.faults spawner.new }
@@ -92,11 +92,9 @@ fn play_block<K: Sink, W: Spawner, R: Threads + Wait + Copy + Send + 'static>(
     let told = tell_sessions(alloc, heard.as_slice(), sink);
     gathered.push_sessions(heard, from);
     match came {
-        Ok(()) => told,
-        Err(Cut::NoMemory) => Err(Stop::NoMemory),
-        Err(Cut::ThreadFault) => Err(Stop::ThreadFault {
-            lacked: is_lack(&told),
-        }),
+        Ok(()) => Ok(told?),
+        Err(Cut::NoMemory) => Err(Stop::NoMemory(lines_told(told))),
+        Err(Cut::ThreadFault) => Err(Stop::ThreadFault(lines_told(told))),
     }
 }
 
@@ -133,7 +131,7 @@ fn step<K: Sink, W: Spawner, G: Gate + 'static, R: Threads + Wait + Copy + Send 
     let came = carry_out(rt, run, statement, spawner, gate)?;
     let told = tell(alloc, &came.told, sink);
     gathered.push(came);
-    told
+    Ok(told?)
 }
 
 /// Carries them out one after the other, as far as nothing stops it.

@@ -6,7 +6,7 @@ ghost use Rattle.ak_block.specs.Together.{part_of};
 ghost use Rattle.ak_play.specs.Parts.{session_tolds};
 ghost use Rattle.ak_play.specs.Steps.{HasWritten, HasWrittenAll};
 
-use crate::stop::Stop;
+use crate::stop::Untold;
 use ak_base::{Bytes, NoMemory};
 use ak_block::Heard;
 use ak_outside::{Sink, write_all};
@@ -22,10 +22,10 @@ fn line_of(alloc: Global, told: &Told) -> Result<Bytes, NoMemory>
 }
 
 /// Writes the line. `NoMemory` where there was no memory for it: nothing was written then.
-pub(crate) fn tell<K: Sink>(alloc: Global, told: &Told, sink: &mut K) -> Result<(), Stop>
+pub(crate) fn tell<K: Sink>(alloc: Global, told: &Told, sink: &mut K) -> Result<(), Untold>
     ensures written { HasWritten result (told_line told.now) (K.written sink.old) (K.written sink.new) }
-    ensures cause { IsErrOf result Stop.WriteFault → Rose (K.faults sink.old) (K.faults sink.new) }
-    ensures kept { ¬ (IsErrOf result Stop.WriteFault) → K.faults sink.new ≡ K.faults sink.old }
+    ensures cause { IsErrOf result Untold.WriteFault → Rose (K.faults sink.old) (K.faults sink.new) }
+    ensures kept { ¬ (IsErrOf result Untold.WriteFault) → K.faults sink.new ≡ K.faults sink.old }
     ensures never_falls { K.faults sink.old ≤ K.faults sink.new }
 {
     let line = line_of(alloc, told)?;
@@ -34,10 +34,10 @@ pub(crate) fn tell<K: Sink>(alloc: Global, told: &Told, sink: &mut K) -> Result<
 }
 
 // Writes the lines, one after the other, as far as nothing stops it.
-fn tell_all<K: Sink>(alloc: Global, tolds: &[Told], sink: &mut K) -> Result<(), Stop>
+fn tell_all<K: Sink>(alloc: Global, tolds: &[Told], sink: &mut K) -> Result<(), Untold>
     ensures written { HasWrittenAll result tolds.now (K.written sink.old) (K.written sink.new) }
-    ensures cause { IsErrOf result Stop.WriteFault → Rose (K.faults sink.old) (K.faults sink.new) }
-    ensures kept { ¬ (IsErrOf result Stop.WriteFault) → K.faults sink.new ≡ K.faults sink.old }
+    ensures cause { IsErrOf result Untold.WriteFault → Rose (K.faults sink.old) (K.faults sink.new) }
+    ensures kept { ¬ (IsErrOf result Untold.WriteFault) → K.faults sink.new ≡ K.faults sink.old }
     ensures never_falls { K.faults sink.old ≤ K.faults sink.new }
 {
     for told in tolds {
@@ -51,10 +51,10 @@ pub(crate) fn tell_sessions<K: Sink>(
     alloc: Global,
     heard: &[Heard],
     sink: &mut K,
-) -> Result<(), Stop>
+) -> Result<(), Untold>
     ensures written { HasWrittenAll result (session_tolds (map part_of heard.now)) (K.written sink.old) (K.written sink.new) }
-    ensures cause { IsErrOf result Stop.WriteFault → Rose (K.faults sink.old) (K.faults sink.new) }
-    ensures kept { ¬ (IsErrOf result Stop.WriteFault) → K.faults sink.new ≡ K.faults sink.old }
+    ensures cause { IsErrOf result Untold.WriteFault → Rose (K.faults sink.old) (K.faults sink.new) }
+    ensures kept { ¬ (IsErrOf result Untold.WriteFault) → K.faults sink.new ≡ K.faults sink.old }
     ensures never_falls { K.faults sink.old ≤ K.faults sink.new }
 {
     for part in heard {

@@ -14,9 +14,9 @@ loop-end-init c =
     let rest = c.into_iter-end-iterator.result.rest.items in
     let none = c.requires.none in
     record {
-      kept = λ heads before from sessions are.
-          subst (λ (hs : List Heard). ClosedSoFar heads before from sessions c.args.run.now c.args.run.now rest hs) (sym none)
-          (none_closed heads before from sessions c.args.run.now rest (subst (λ (l : List SessionEnd). AreOpen heads before from sessions c.args.run.now l) (sym same) are));
+      kept = λ heads before time from sessions are.
+          subst (λ (hs : List Heard). ClosedSoFar heads before time from sessions c.args.run.now c.args.run.now rest hs) (sym none)
+          (none_closed heads before time from sessions c.args.run.now rest (subst (λ (l : List SessionEnd). AreOpen heads before time from sessions c.args.run.now l) (sym same) are));
       room = omega (arith, ap (λ (l : List SessionEnd). length l) same, ap (λ (l : List Heard). length l) none, c.requires.room);
       running = c.requires.running;
       apps = refl;
@@ -29,11 +29,11 @@ close_session-requires c =
     let x = c.in-Some.end in
     let next : was.end-iterator.rest.items ≡ x ∷ rest = grind (arith, common_steps) in
     let o = c.requires.opened in
-    let so_far = was.invariant.kept o.0 o.1 o.2 o.3 o.4 in
+    let so_far = was.invariant.kept o.0 o.1 o.2 o.3 o.4 o.5 in
     record {
       running = was.invariant.running;
-      came = may_close o.0 (o.1 ++ so_far.closed) (o.2 + length so_far.done) so_far.todo was.run x rest
-          (subst (AreOpen o.0 (o.1 ++ so_far.closed) (o.2 + length so_far.done) so_far.todo was.run) next so_far.are_open);
+      came = may_close o.0 (o.1 ++ so_far.closed) o.2 (o.3 + length so_far.done) so_far.todo was.run x rest
+          (subst (AreOpen o.0 (o.1 ++ so_far.closed) o.2 (o.3 + length so_far.done) so_far.todo was.run) next so_far.are_open);
     }
 
 pub push_reserved-requires : goal.push_reserved-requires
@@ -54,9 +54,9 @@ loop-end-preserved c =
     let pushed = c.push_reserved.ensures in
     let h : Heard = record { outcomes = x.outcomes; tolds = x.tolds; short = x.short } in
     record {
-      kept = λ heads before from sessions are.
-          closed_push heads before from sessions c.args.run.now was.run x rest was.heard.items
-          (subst (λ (l : List SessionEnd). ClosedSoFar heads before from sessions c.args.run.now was.run l was.heard.items) next (was.invariant.kept heads before from sessions are))
+      kept = λ heads before time from sessions are.
+          closed_push heads before time from sessions c.args.run.now was.run x rest was.heard.items
+          (subst (λ (l : List SessionEnd). ClosedSoFar heads before time from sessions c.args.run.now was.run l was.heard.items) next (was.invariant.kept heads before time from sessions are))
           c.close_session.new.self closed.closed h _ refl pushed.items closed.did;
       room = omega (arith, was.invariant.room, ap (λ (l : List SessionEnd). length l) next, ap (λ (l : List Heard). length l) pushed.items, length-append was.heard.items (h ∷ []), pushed.capacity);
       running = closed.running;
@@ -68,9 +68,9 @@ returns c =
     let was = c.loop-end in
     let none : was.end-iterator.rest.items ≡ [] = grind (arith, common_steps) in
     record {
-      kept = λ heads before from sessions are.
-          all_closed_now heads before from sessions c.args.run.now was.run was.heard.items
-          (subst (λ (l : List SessionEnd). ClosedSoFar heads before from sessions c.args.run.now was.run l was.heard.items) none (was.invariant.kept heads before from sessions are));
+      kept = λ heads before time from sessions are.
+          all_closed_now heads before time from sessions c.args.run.now was.run was.heard.items
+          (subst (λ (l : List SessionEnd). ClosedSoFar heads before time from sessions c.args.run.now was.run l was.heard.items) none (was.invariant.kept heads before time from sessions are));
       running = was.invariant.running;
       apps = was.invariant.apps;
     }

@@ -10,7 +10,7 @@ use Rattle.ak_block.proofs.blocks.close_all.Given as goal
 
 abbrev pub invariant-loop-end : goal.invariant-loop-end
 invariant-loop-end l = record {
-  kept : (heads : List AppHead) (before : List Told) (from : ℕ) (sessions : List SessionLines) → AreOpen heads before from sessions l.fn.run l.fn.ends.items → ClosedSoFar heads before from sessions l.fn.run l.run l.end-iterator.rest.items l.heard.items;
+  kept : (heads : List AppHead) (before : List Told) (time from : ℕ) (sessions : List SessionLines) → AreOpen heads before time from sessions l.fn.run l.fn.ends.items → ClosedSoFar heads before time from sessions l.fn.run l.run l.end-iterator.rest.items l.heard.items;
   room : length l.heard.items + length l.end-iterator.rest.items ≤ vec_capacity l.heard;
   running : IsRunning l.run;
   apps : l.run.apps ≡ l.fn.run.apps;

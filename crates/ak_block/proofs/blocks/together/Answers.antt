@@ -24,4 +24,4 @@ returns-clause-ran g c =
     let sessions = c.as_slice-sessions.result.now in
     let all = all_open heads sessions ran.result r s ran.new.ends.items ran.ensures.ran in
     subst (λ (l : List SessionLines). HasRunBlock heads l ran.result r c.close_all.new.run c.close_all.new.heard.items) c.as_slice-sessions.ensures.value
-    (block_run heads sessions ran.result r s ran.new.ends.items ran.ensures.ran c.close_all.new.run c.close_all.new.heard.items (c.close_all.ensures.kept heads (sessions_of r) (session_count r + 1) ran.ensures.ran.first all))
+    (block_run heads sessions ran.result r s ran.new.ends.items ran.ensures.ran c.close_all.new.run c.close_all.new.heard.items (c.close_all.ensures.kept heads (sessions_of r) r.hands.clock.time (session_count r + 1) ran.ensures.ran.first all))

@@ -81,7 +81,7 @@ loop-statement-preserved g c =
     let f1 = g.K.Sink.faults was.sink in
     let f2 = g.K.Sink.faults c.step.new.sink in
     let on = subst (λ (xs : List AppText). HasStepped xs s k k' r r' mid new (Rose f1 f2) (f2 ≡ f1) (Ok c.in_ok-step.field-0)) same told.stepped in
-    let done = play_goes_on apps statements s k k' i r r' old mid new (f1 ≡ f0) (f2 ≡ f0) inv.so_far at (f2 ≡ f1) (λ one two. two ∙ one) on in
+    let done = play_goes_on apps statements s k k' i r r' old mid new (f1 ≡ f0) (f2 ≡ f0) inv.so_far at (Rose f1 f2) (f2 ≡ f1) (λ one two. two ∙ one) on in
     record {
       so_far = done;
       room = record {

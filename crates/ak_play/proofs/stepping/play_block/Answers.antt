@@ -1,5 +1,5 @@
 -- What a block came to, and how much of its lines was written.
-use Rattle.std.proofs.Common.{◌≡◌, List, [], length, map, Err, refl, ap, ◌∙◌, subst, arith}
+use Rattle.std.proofs.Common.{◌≡◌, List, [], length, map, Ok, Err, refl, ap, ◌∙◌, subst, arith}
 use Rattle.std.specs.Prelude.{Result}
 use Rattle.std.proofs.lemmas.Result.{err_from_is_err_and}
 use Rattle.ak_outside.specs.Faults.{Rose}
@@ -14,7 +14,7 @@ use Rattle.ak_block.specs.Together.{HasRunBlock, part_of}
 use Rattle.ak_play.specs.declared.stop.Stop.TheVariants as stop
 use Rattle.ak_play.specs.Gathered.{GatheredData, gathered_seen}
 use Rattle.ak_play.specs.Parts.{session_tolds}
-use Rattle.ak_play.specs.Steps.{HasWrittenAll}
+use Rattle.ak_play.specs.Steps.{HasWrittenAll, stop_untold}
 use Rattle.ak_play.proofs.Blocks.{block_kept, block_lacked, block_refused, block_stepped, nothing_done, stopped_short}
 use Rattle.ak_play.proofs.Room.{few_heard, few_outcomes_heard, few_tolds_heard}
 use Rattle.ak_play.proofs.stepping.play_block.Goals as goal
@@ -60,8 +60,8 @@ push_sessions-requires g c =
       };
     }
 
-pub returns-in-Ok-clause-stepped : goal.returns-in-Ok-clause-stepped
-returns-in-Ok-clause-stepped g c =
+pub returns-in_ok-told-in-Ok-clause-stepped : goal.returns-in_ok-told-in-Ok-clause-stepped
+returns-in_ok-told-in-Ok-clause-stepped g c =
     let r = c.args.run.now in
     let r' = c.together.new.run in
     let t = c.args.block.now in
@@ -72,11 +72,31 @@ returns-in-Ok-clause-stepped g c =
     let new = g.K.Sink.written c.tell_sessions-told.new.sink in
     let f0 = g.K.Sink.faults c.args.sink.now in
     let f1 = g.K.Sink.faults c.tell_sessions-told.new.sink in
-    let told = c.tell_sessions-told.result in
-    let written = subst (λ (l : List Heard). HasWrittenAll told (session_tolds (map part_of l)) old new) c.as_slice.ensures.value c.tell_sessions-told.ensures.written in
+    let told = c.in_ok-told-in-Ok.ensures in
+    let written = subst (λ (l : List Heard). HasWrittenAll {A = Unit {0}} (Ok c.in_ok-told-in-Ok.field-0) (session_tolds (map part_of l)) old new) c.as_slice.ensures.value told.written in
     let ran = subst (λ (x : Result (Unit {0}) Cut). HasRunBlock heads t.sessions.items x r r' heard) c.in-Ok.is c.in_ok-heard.ensures.ran in
-    block_kept r.apps.items t k (gathered_seen c.make_room.new.self) (gathered_seen c.push_sessions.new.self) r r' heard c.sessions-from.result old new (Rose f0 f1) (f1 ≡ f0) told c.sessions-from.ensures
-    c.in_ok-make_room.ensures.seen c.push_sessions.ensures.seen (block_stepped r.apps.items t k r r' heard old new (Rose f0 f1) (f1 ≡ f0) told written ran c.tell_sessions-told.ensures.kept)
+    block_kept r.apps.items t k (gathered_seen c.make_room.new.self) (gathered_seen c.push_sessions.new.self) r r' heard c.sessions-from.result old new (Rose f0 f1) (f1 ≡ f0) (Ok c.in_ok-told-in-Ok.field-0) c.sessions-from.ensures
+    c.in_ok-make_room.ensures.seen c.push_sessions.ensures.seen (block_stepped r.apps.items t k r r' heard old new (Rose f0 f1) (f1 ≡ f0) (Ok c.in_ok-told-in-Ok.field-0) written told.cause told.kept ran)
+
+pub returns-in_err-told-in-Ok-clause-stepped : goal.returns-in_err-told-in-Ok-clause-stepped
+returns-in_err-told-in-Ok-clause-stepped g c =
+    let p = err_from_is_err_and c.from_residual-in_err-told-in-Ok.result c.from_residual-in_err-told-in-Ok.ensures.1 in
+    let r = c.args.run.now in
+    let r' = c.together.new.run in
+    let t = c.args.block.now in
+    let heads = heads_of r.apps.items in
+    let k = gathered_seen c.args.gathered.now in
+    let heard = c.in_ok-heard.heard.items in
+    let old = g.K.Sink.written c.args.sink.now in
+    let new = g.K.Sink.written c.tell_sessions-told.new.sink in
+    let f0 = g.K.Sink.faults c.args.sink.now in
+    let f1 = g.K.Sink.faults c.tell_sessions-told.new.sink in
+    let told = c.in_err-told-in-Ok.ensures in
+    let why = c.in_err-told-in-Ok.field-0.0 in
+    let written = subst (λ (l : List Heard). HasWrittenAll {A = Unit {0}} (Err why) (session_tolds (map part_of l)) old new) c.as_slice.ensures.value told.written in
+    let ran = subst (λ (x : Result (Unit {0}) Cut). HasRunBlock heads t.sessions.items x r r' heard) c.in-Ok.is c.in_ok-heard.ensures.ran in
+    rw (p.1, p.2) (block_kept r.apps.items t k (gathered_seen c.make_room.new.self) (gathered_seen c.push_sessions.new.self) r r' heard c.sessions-from.result old new (Rose f0 f1) (f1 ≡ f0) (Err (stop_untold why)) c.sessions-from.ensures
+    c.in_ok-make_room.ensures.seen c.push_sessions.ensures.seen (block_stepped r.apps.items t k r r' heard old new (Rose f0 f1) (f1 ≡ f0) (Err why) written told.cause told.kept ran))
 
 pub returns-in-Err-NoMemory-clause-stepped : goal.returns-in-Err-NoMemory-clause-stepped
 returns-in-Err-NoMemory-clause-stepped g c =
@@ -93,8 +113,8 @@ returns-in-Err-NoMemory-clause-stepped g c =
     let told = c.tell_sessions-told.result in
     let written = subst (λ (l : List Heard). HasWrittenAll told (session_tolds (map part_of l)) old new) c.as_slice.ensures.value c.tell_sessions-told.ensures.written in
     let ran = subst (λ (x : Result (Unit {0}) Cut). HasRunBlock heads t.sessions.items x r r' heard) (cut_is c.in_ok-heard.came c.in-Err-NoMemory.field-0 cut.NoMemory c.in-Err-NoMemory.is (rw c.in-Err-NoMemory.is at c.in-Err-NoMemory.field-0-is)) c.in_ok-heard.ensures.ran in
-    block_kept r.apps.items t k (gathered_seen c.make_room.new.self) (gathered_seen c.push_sessions.new.self) r r' heard c.sessions-from.result old new (Rose f0 f1) (f1 ≡ f0) (Err stop.NoMemory) c.sessions-from.ensures
-    c.in_ok-make_room.ensures.seen c.push_sessions.ensures.seen (block_lacked r.apps.items t k r r' heard old new (Rose f0 f1) (f1 ≡ f0) told written ran c.tell_sessions-told.ensures.cause)
+    block_kept r.apps.items t k (gathered_seen c.make_room.new.self) (gathered_seen c.push_sessions.new.self) r r' heard c.sessions-from.result old new (Rose f0 f1) (f1 ≡ f0) (Err (stop.NoMemory c.lines_told.result)) c.sessions-from.ensures
+    c.in_ok-make_room.ensures.seen c.push_sessions.ensures.seen (block_lacked r.apps.items t k r r' heard old new (Rose f0 f1) (f1 ≡ f0) told written c.tell_sessions-told.ensures.cause c.tell_sessions-told.ensures.kept c.lines_told.result c.lines_told.ensures ran)
 
 pub returns-in-Err-ThreadFault-clause-stepped : goal.returns-in-Err-ThreadFault-clause-stepped
 returns-in-Err-ThreadFault-clause-stepped g c =
@@ -111,5 +131,5 @@ returns-in-Err-ThreadFault-clause-stepped g c =
     let told = c.tell_sessions-told.result in
     let written = subst (λ (l : List Heard). HasWrittenAll told (session_tolds (map part_of l)) old new) c.as_slice.ensures.value c.tell_sessions-told.ensures.written in
     let ran = subst (λ (x : Result (Unit {0}) Cut). HasRunBlock heads t.sessions.items x r r' heard) (cut_is c.in_ok-heard.came c.in-Err-ThreadFault.field-0 cut.ThreadFault c.in-Err-ThreadFault.is (rw c.in-Err-ThreadFault.is at c.in-Err-ThreadFault.field-0-is)) c.in_ok-heard.ensures.ran in
-    block_kept r.apps.items t k (gathered_seen c.make_room.new.self) (gathered_seen c.push_sessions.new.self) r r' heard c.sessions-from.result old new (Rose f0 f1) (f1 ≡ f0) (Err (stop.ThreadFault c.is_lack.result)) c.sessions-from.ensures
-    c.in_ok-make_room.ensures.seen c.push_sessions.ensures.seen (block_refused r.apps.items t k r r' heard old new (Rose f0 f1) (f1 ≡ f0) told written c.is_lack.result c.is_lack.ensures ran c.tell_sessions-told.ensures.cause)
+    block_kept r.apps.items t k (gathered_seen c.make_room.new.self) (gathered_seen c.push_sessions.new.self) r r' heard c.sessions-from.result old new (Rose f0 f1) (f1 ≡ f0) (Err (stop.ThreadFault c.lines_told-in-Err-ThreadFault.result)) c.sessions-from.ensures
+    c.in_ok-make_room.ensures.seen c.push_sessions.ensures.seen (block_refused r.apps.items t k r r' heard old new (Rose f0 f1) (f1 ≡ f0) told written c.tell_sessions-told.ensures.cause c.tell_sessions-told.ensures.kept c.lines_told-in-Err-ThreadFault.result c.lines_told-in-Err-ThreadFault.ensures ran)
