@@ -12,6 +12,8 @@ mod blocks;
 #[cfg(test)]
 mod compare;
 #[cfg(test)]
+mod differences;
+#[cfg(test)]
 mod doors;
 #[cfg(test)]
 mod forwards;

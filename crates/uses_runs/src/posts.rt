@@ -154,3 +154,54 @@ fn a_reply_is_posted_back(rt: HostRuntime) -> Result<(), Fail> {
     );
     Ok(())
 }
+
+// ---- to a handler that is gone
+const ONE: &[u8] = b"app /boot/One application/x-one single
+looper one
+property Total LONG
+element 3
+";
+
+// What main posts behind its edits finds no handler. The first ask is answered before them.
+const POSTS_TO_NOBODY: Scene = Scene {
+    text: ONE,
+    at: At::Open,
+    refused: &[],
+    acts: &[
+        Act::Launch(b"/boot/One"),
+        Act::Ask(0, GET_TOTAL),
+        Act::Add(0, b"more"),
+        Act::Remove(0, 1),
+        Act::PostTo(0, Target::Token(1), b"'ping'"),
+        Act::Ask(0, GET_TOTAL),
+    ],
+    tells: &[Tell::Port(0, &[0, 10_000]), Tell::Desk(0), Tell::Book],
+};
+
+const DROPPED: &str = "launch: started 1
+ask: 'RPLY' result=LONG:3 error=LONG:0
+post: written 2
+ask: 'RPLY' result=LONG:3 error=LONG:0
+at the port by 0: made 100 of 8192 written 0 '_RTR' to p team 0 written 1 'PGET' specifiers=MSGG: to p team 0 slot 0 written 2 'ping' to 1 team 0 written 3 'PGET' specifiers=MSGG: to p team 0 slot 1 shut
+at the port by 10000: took 1 took 1 took 1 took 1 rest 0
+at the desk by 10000: message 0 to 0
+at the desk by 10000: message 1 to 0
+at the desk by 0: add token 1
+at the desk by 0: remove 1 done
+at the desk by 10000: message 2 dropped
+at the desk by 10000: message 3 to 0
+in the book slot 0: opened by 0 filled 'RPLY' result=LONG:3 error=LONG:0 by 10000 taken by 0
+in the book slot 1: opened by 0 filled 'RPLY' result=LONG:3 error=LONG:0 by 10000 taken by 0
+";
+
+#[test]
+fn a_post_to_a_handler_that_is_gone_is_dropped(rt: HostRuntime) -> Result<(), Fail> {
+    let alloc = rt.alloc();
+    same(
+        &rt,
+        "a handler is added, removed and posted to",
+        &told_of(&rt, alloc, &POSTS_TO_NOBODY)?,
+        DROPPED,
+    );
+    Ok(())
+}

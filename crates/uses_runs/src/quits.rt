@@ -236,6 +236,59 @@ fn a_looper_is_told_by_its_port(rt: HostRuntime) -> Result<(), Fail> {
     Ok(())
 }
 
+// ---- behind posts of its own
+const LEAVER: &[u8] = b"app /boot/Leaver application/x-leaver single
+looper leaver
+on 'fini'
+post self 'aaaa'
+post self 'bbbb'
+quit
+";
+
+// It has not taken its own two posts when it quits.
+const QUITS_BEHIND_ITS_POSTS: Scene = Scene {
+    text: LEAVER,
+    at: At::Open,
+    refused: &[],
+    acts: &[
+        Act::Launch(b"/boot/Leaver"),
+        Act::Ask(0, b"'fini'"),
+        Act::Ask(0, b"'late'"),
+    ],
+    tells: &[
+        Tell::Port(0, &[0, 10_000]),
+        Tell::Desk(0),
+        Tell::Account(0),
+        Tell::Book,
+        Tell::Closing(1, 0, 1),
+    ],
+};
+
+const LEAVES_ITS_POSTS: &str = "launch: started 1
+ask: 'NONE'
+ask: B_BAD_PORT_ID
+at the port by 0: made 100 of 8192 written 0 '_RTR' to p team 0 written 1 'fini' to p team 0 slot 0 refused
+at the port by 10000: took 1 took 1 written 2 'aaaa' to p team 1 written 3 'bbbb' to p team 1 shut rest 2
+at the desk by 10000: message 0 to 0
+at the desk by 10000: message 1 to 0 B_OK B_OK B_OK quits
+ looper 0 accounts for all
+in the book slot 0: opened by 0 filled 'NONE' by 10000 taken by 0
+in the book slot 1: opened by 0 cancelled by 0
+ team 1 was closed in order
+";
+
+#[test]
+fn a_looper_leaves_its_own_posts(rt: HostRuntime) -> Result<(), Fail> {
+    let alloc = rt.alloc();
+    same(
+        &rt,
+        "it quits with two messages pending",
+        &told_of(&rt, alloc, &QUITS_BEHIND_ITS_POSTS)?,
+        LEAVES_ITS_POSTS,
+    );
+    Ok(())
+}
+
 // ---- by a reaction
 const REACTS: &[u8] = b"app /boot/React application/x-react single
 looper asker

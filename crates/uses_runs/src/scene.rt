@@ -21,6 +21,8 @@ pub enum Act {
     LaunchWith(&'static [u8], &'static [u8]),
     /// Posts to that looper, and waits for room.
     Post(u32, &'static [u8]),
+    /// The same to one of its handlers.
+    PostTo(u32, Target, &'static [u8]),
     /// The same so often, to each of these loopers, and nothing is told of it.
     Often(u32, &'static [u32], &'static [u8]),
     /// Posts notes to that looper, now and then, until others have written so many items there too.
@@ -31,6 +33,8 @@ pub enum Act {
     AskOf(u32, Target, &'static [u8]),
     /// Adds a handler of that name.
     Add(u32, &'static [u8]),
+    /// Removes the handler with that token.
+    Remove(u32, u64),
     /// Waits until the gate holds a looper.
     Await,
     /// Has the gate let it go.

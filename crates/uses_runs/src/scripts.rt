@@ -2,6 +2,7 @@
 
 use crate::compare::same;
 use ak_base::{Bytes, Ending};
+use ak_describe::AppText;
 use ak_diary::Histories;
 use ak_outside::{Gate, ListSink, OpenGate, PlannedSpawner};
 use ak_play::{RunEnd, run_script};
@@ -22,10 +23,24 @@ fn tell_ending(out: &mut Bytes, ending: Ending) -> Told {
     }
 }
 
-// What is faulty of the lists, and then how many loopers and slots there were, and how many senders had one reply each.
-fn tell_histories(out: &mut Bytes, alloc: Global, histories: &Histories) -> Told {
+/// Tells what is faulty of the lists, where loopers are as these applications describe them.
+pub fn tell_faulty(
+    out: &mut Bytes,
+    alloc: Global,
+    apps: &[AppText],
+    histories: &Histories,
+) -> Told {
+    let mut plans = Vec::new(alloc);
+    for app in apps {
+        plans.push(app.loopers.as_slice())?;
+    }
+    tell_faults(out, alloc, &plans, histories)
+}
+
+// That, and then how many loopers and slots there were, and how many senders had one reply each.
+fn tell_histories(out: &mut Bytes, alloc: Global, apps: &[AppText], histories: &Histories) -> Told {
     let slots = slot_accounts(alloc, &histories.book, &histories.ports)?;
-    tell_faults(out, alloc, histories)?;
+    tell_faulty(out, alloc, apps, histories)?;
     tell(out, b"loopers", histories.ports.len() as u64)?;
     tell(out, b"slots", slots.len() as u64)?;
     tell(out, b"with one reply each", count_answered(&slots))?;
@@ -34,7 +49,7 @@ fn tell_histories(out: &mut Bytes, alloc: Global, histories: &Histories) -> Told
 
 fn tell_run(out: &mut Bytes, alloc: Global, run: &Option<RunEnd>) -> Told {
     match run {
-        Some(run) => tell_histories(out, alloc, &run.histories),
+        Some(run) => tell_histories(out, alloc, &run.script.apps, &run.histories),
         None => out.extend(b"no run\n"),
     }
 }

@@ -200,6 +200,7 @@ impl Stage {
         &mut self,
         rt: &R,
         looper: u32,
+        target: Target,
         line: &[u8],
     ) -> Result<Result<u64, SendFault>, Fail>
         requires running { IsRunning self.old.run }
@@ -207,18 +208,21 @@ impl Stage {
     {
         self.has(looper)?;
         let message = message_of(self.alloc, line)?;
-        Ok(
-            self.run
-                .post(rt, looper, envelope(Target::Preferred), &message),
-        )
+        Ok(self.run.post(rt, looper, envelope(target), &message))
     }
 
     // The same, and tells what it came to.
-    fn post<R: Wait>(&mut self, rt: &R, looper: u32, line: &[u8]) -> Result<(), Fail>
+    fn post<R: Wait>(
+        &mut self,
+        rt: &R,
+        looper: u32,
+        target: Target,
+        line: &[u8],
+    ) -> Result<(), Fail>
         requires running { IsRunning self.old.run }
         ensures running { IsRunning self.new.run }
     {
-        let sent = self.send(rt, looper, line)?;
+        let sent = self.send(rt, looper, target, line)?;
         Ok(tell_post(&mut self.told, sent)?)
     }
 
@@ -228,7 +232,7 @@ impl Stage {
         ensures running { IsRunning self.new.run }
     {
         for looper in loopers {
-            self.send(rt, *looper, line)??;
+            self.send(rt, *looper, Target::Preferred, line)??;
         }
         Ok(())
     }
@@ -255,7 +259,7 @@ impl Stage {
         requires running { IsRunning self.old.run }
         ensures running { IsRunning self.new.run }
     {
-        let position = self.send(rt, looper, b"'note'")??;
+        let position = self.send(rt, looper, Target::Preferred, b"'note'")??;
         self.notes = self.notes.wrapping_add(1);
         Ok(position.wrapping_add(1) == self.notes.wrapping_add(others))
     }
@@ -285,15 +289,23 @@ impl Stage {
         Ok(tell_reply(&mut self.told, heard)?)
     }
 
+    // Edits the handlers.
+    fn edit<R: Wait>(&mut self, rt: &R, looper: u32, edit: Edit) -> Result<(), Fail>
+        requires running { IsRunning self.old.run }
+        ensures running { IsRunning self.new.run }
+    {
+        self.has(looper)?;
+        self.run.edit(rt, looper, edit);
+        Ok(())
+    }
+
     // Adds a handler.
     fn add<R: Wait>(&mut self, rt: &R, looper: u32, name: &[u8]) -> Result<(), Fail>
         requires running { IsRunning self.old.run }
         ensures running { IsRunning self.new.run }
     {
-        self.has(looper)?;
         let name = Text::from_bytes(self.alloc, name)?;
-        self.run.edit(rt, looper, Edit::Add(name));
-        Ok(())
+        self.edit(rt, looper, Edit::Add(name))
     }
 
     fn act<R: Threads + Wait + Clock + Copy + Send + 'static>(
@@ -307,12 +319,14 @@ impl Stage {
         match act {
             Act::Launch(path) => self.launch(rt, path, None),
             Act::LaunchWith(path, line) => self.launch_with(rt, path, line),
-            Act::Post(looper, line) => self.post(rt, looper, line),
+            Act::Post(looper, line) => self.post(rt, looper, Target::Preferred, line),
+            Act::PostTo(looper, target, line) => self.post(rt, looper, target, line),
             Act::Often(times, loopers, line) => self.post_often(rt, times, loopers, line),
             Act::Notes(looper, others) => self.post_notes(rt, looper, others),
             Act::Ask(looper, line) => self.ask(rt, looper, Target::Preferred, line),
             Act::AskOf(looper, target, line) => self.ask(rt, looper, target, line),
             Act::Add(looper, name) => self.add(rt, looper, name),
+            Act::Remove(looper, token) => self.edit(rt, looper, Edit::Remove(token)),
             Act::Await => {
                 self.gate.await_arrival(rt);
                 Ok(())
