@@ -1,12 +1,15 @@
 -- How a script that is carried out ends.
-use Rattle.std.proofs.Common.{◌≡◌, ◌⊎◌, inl, inr, ℕ, List, Option, Some, None, Result, Ok, Err, IfSome, refl}
+use Rattle.std.proofs.Common.{◌≡◌, ◌⊎◌, inl, inr, ℕ, Bool, true, false, List, Option, Some, None, Result, Ok, Err, IfSome, refl, sym, ◌∙◌, subst}
 use Rattle.ak_base.specs.declared.ending.Ending.{Ending}
 use Rattle.ak_base.specs.declared.ending.Ending.TheVariants as ending
 use Rattle.ak_outside.specs.Faults.{Rose, Stayed}
 use Rattle.ak_outside.proofs.Surface.{Stayed-not_Rose}
 use Rattle.ak_play.specs.declared.run_end.RunEnd.{RunEnd}
 use Rattle.ak_play.specs.Play.{IsPlayEnding, IsShort}
-use Rattle.ak_kit.specs.Kit.{PlaysAndCloses}
+use Rattle.ak_play.specs.declared.run_end.Lines.{Lines}
+use Rattle.ak_play.specs.declared.run_end.Lines.TheVariants as lines
+use Rattle.ak_kit.specs.Journal.{JournalsAndCloses, TellsJournal, ends_behind, main_behind}
+use Rattle.ak_kit.specs.Kit.{PlaysAndCloses, with_main}
 
 -- where no count rose, it is done, unless memory ran out
 pub ends_well
@@ -21,11 +24,43 @@ ends_well (ending.Refused line why) k k' w w' is write thread sink spawner = abs
 ends_well ending.ReadFault k k' w w' is write thread sink spawner = absurd is
 
 -- a run that ends without memory is short
-pub ends_short
+ends_short
     : (run : Option RunEnd) (end : Ending) (old new : Option (List ℕ)) (a b : ℕ) → IfSome run (λ (r : RunEnd). PlaysAndCloses r end old new a b)
     → IfSome run (λ (r : RunEnd). end ≡ ending.NoMemory → IsShort r.short)
 ends_short (Some r) end old new a b plays = plays.play.ran_short
 ends_short None end old new a b plays = tt
+
+-- behind a journal
+short_behind : (ended : Ending) (told : Lines) (run : RunEnd) (main : Bool) (end : Ending) → (ended ≡ ending.NoMemory → IsShort (with_main main run).short) → end ≡ ends_behind ended told → run.short.main ≡ main_behind main told → end ≡ ending.NoMemory → IsShort run.short
+short_behind ended lines.Whole run main end short end_is main_is lacks = subst (λ (b : Bool). IsShort (with_main b run).short) (sym main_is) (short (sym end_is ∙ lacks))
+short_behind ended lines.Lacking run main end short end_is main_is lacks = inl main_is
+short_behind ending.ThreadFault lines.Cut run main end short end_is main_is lacks = let bad : ending.ThreadFault ≡ ending.NoMemory = sym end_is ∙ lacks in absurd (cc bad)
+short_behind ending.Done lines.Cut run main end short end_is main_is lacks = let bad : ending.WriteFault ≡ ending.NoMemory = sym end_is ∙ lacks in absurd (cc bad)
+short_behind ending.WriteFault lines.Cut run main end short end_is main_is lacks = let bad : ending.WriteFault ≡ ending.NoMemory = sym end_is ∙ lacks in absurd (cc bad)
+short_behind ending.NoMemory lines.Cut run main end short end_is main_is lacks = let bad : ending.WriteFault ≡ ending.NoMemory = sym end_is ∙ lacks in absurd (cc bad)
+short_behind ending.Usage lines.Cut run main end short end_is main_is lacks = let bad : ending.WriteFault ≡ ending.NoMemory = sym end_is ∙ lacks in absurd (cc bad)
+short_behind ending.ReadFault lines.Cut run main end short end_is main_is lacks = let bad : ending.WriteFault ≡ ending.NoMemory = sym end_is ∙ lacks in absurd (cc bad)
+short_behind (ending.Refused line why) lines.Cut run main end short end_is main_is lacks = let bad : ending.WriteFault ≡ ending.NoMemory = sym end_is ∙ lacks in absurd (cc bad)
+
+pub short_told : (told : Lines) (ended : Ending) (run : RunEnd) (main : Bool) (end : Ending) (old new : Option (List ℕ)) (a b : ℕ) → (ended ≡ ending.NoMemory → IsShort (with_main main run).short) → TellsJournal told ended run main end old new a b
+    → end ≡ ending.NoMemory → IsShort run.short
+short_told lines.Whole ended run main end old new a b short tells = short_behind ended tells.told run main end short tells.end_is tells.main_is
+short_told lines.Cut ended run main end old new a b short tells = short_behind ended lines.Whole run main end short tells.end_is tells.main_is
+short_told lines.Lacking ended run main end old new a b short tells = short_behind ended lines.Whole run main end short tells.end_is tells.main_is
+
+short_journaled
+    : (run : Option RunEnd) (end : Ending) (old new : Option (List ℕ)) (a b : ℕ) → IfSome run (λ (r : RunEnd). JournalsAndCloses r end old new a b)
+    → IfSome run (λ (r : RunEnd). end ≡ ending.NoMemory → IsShort r.short)
+short_journaled (Some r) end old new a b plays = short_told r.lines plays.ended r plays.main end plays.between new plays.faults_between b plays.play.ran_short plays.tells
+short_journaled None end old new a b plays = tt
+
+-- with a journal and without one
+pub ends_short_so
+    : (journal : Bool) (run : Option RunEnd) (end : Ending) (old new : Option (List ℕ)) (a b : ℕ) → (journal ≡ false → IfSome run (λ (r : RunEnd). PlaysAndCloses r end old new a b))
+    → (journal ≡ true → IfSome run (λ (r : RunEnd). JournalsAndCloses r end old new a b))
+    → IfSome run (λ (r : RunEnd). end ≡ ending.NoMemory → IsShort r.short)
+ends_short_so false run end old new a b plays journals = ends_short run end old new a b (plays refl)
+ends_short_so true run end old new a b plays journals = short_journaled run end old new a b (journals refl)
 
 -- what was read is no fault
 pub no_fault : {A E : Type 0} (r : Result A E) (x : A) (e f : E) → r ≡ Ok x → (r ≡ Err e) ⊎ (r ≡ Err f) → ⊥

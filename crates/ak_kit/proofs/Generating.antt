@@ -1,5 +1,5 @@
 -- The script of a number, carried out, and told of by one line.
-use Rattle.std.proofs.Common.{◌≡◌, inl, inr, ℕ, List, Option, Some, None, refl, sym, ◌∙◌, subst, arith}
+use Rattle.std.proofs.Common.{◌≡◌, inl, ℕ, List, Option, Some, None, refl, sym, ◌∙◌, subst, arith}
 use Rattle.std.specs.Prelude.{Bool, IfSome, IsSomeAnd}
 use Rattle.ak_base.specs.declared.ending.Ending.{Ending}
 use Rattle.ak_base.specs.declared.ending.Ending.TheVariants as ending
@@ -11,37 +11,28 @@ use Rattle.ak_print.specs.declared.told.Told.{Told}
 use Rattle.ak_script.specs.declared.script.Script.{Script}
 use Rattle.ak_script.specs.declared.statement.Statement.{Statement}
 use Rattle.ak_play.specs.declared.run_end.RunEnd.{RunEnd}
-use Rattle.ak_play.specs.Parts.{Part}
-use Rattle.ak_play.specs.Play.{IsLeft, IsPlay, IsShort, IsWritten}
+use Rattle.ak_play.specs.declared.run_end.Lines.{Lines}
+use Rattle.ak_play.specs.declared.run_end.Lines.TheVariants as lines
+use Rattle.ak_play.specs.Play.{AreWritten, IsPlay, IsShort}
 use Rattle.ak_kit.specs.Kit.{IsPlayNowhere, TellsRun, with_main}
 use Rattle.ak_kit.proofs.Playing.{OfScript}
 
 -- ---- nothing is written, and no write fails
 module _ (Failed : Type 0) (never : Failed → ⊥) where
-  none_failed : (cut : Option Part) → IsSomeAnd cut (λ (part : Part). Failed) → IsSomeAnd cut (λ (part : Part). ⊥)
-  none_failed None failed = failed
-  none_failed (Some part) failed = never failed
-
-  left_so : (lacks : Bool) (cut : Option Part) (before last : List Told) (old new : Option (List ℕ)) → IsLeft lacks (IsSomeAnd cut (λ (part : Part). Failed)) before last old new → IsLeft lacks (IsSomeAnd cut (λ (part : Part). ⊥)) before last old new
-  left_so lacks cut before last old new (inl all) = inl all
-  left_so lacks cut before last old new (inr (inl first)) = inr (inl first)
-  left_so lacks cut before last old new (inr (inr (failed, text))) = inr (inr (none_failed cut failed, text))
-
-  written_so : (end : Ending) (lacks : Bool) (cut : Option Part) (before last : List Told) (old new : Option (List ℕ)) → IsWritten end lacks (IsSomeAnd cut (λ (part : Part). Failed)) before last old new → IsWritten end lacks (IsSomeAnd cut (λ (part : Part). ⊥)) before last old new
-  written_so ending.Done lacks cut before last old new is = is
-  written_so ending.ThreadFault lacks cut before last old new is = left_so lacks cut before last old new is
-  written_so ending.NoMemory lacks cut before last old new is = left_so lacks cut before last old new is
-  written_so ending.WriteFault lacks cut before last old new is = is
-  written_so ending.Usage lacks cut before last old new is = is
-  written_so (ending.Refused line why) lacks cut before last old new is = is
-  written_so ending.ReadFault lacks cut before last old new is = is
+  written_so : (Kept : Type 0) (told : Lines) (before last : List Told) (old new : Option (List ℕ)) → AreWritten told Failed Kept before last old new → AreWritten told ⊥ (Unit {0}) before last old new
+  written_so Kept lines.Whole before last old new is = (is.0, tt)
+  written_so Kept lines.Cut before last old new is = (is.0, never is.1)
+  written_so Kept lines.Lacking before last old new is = (is.0, tt)
 
   plays_so : {Kept : Type 0} (apps : List AppText) (statements : List Statement) (end : Ending) (run : RunEnd) (old new : Option (List ℕ)) → IsPlay apps statements end run old new Failed Kept → IsPlay apps statements end run old new ⊥ (Unit {0})
   plays_so apps statements end run old new play = record {
     played = play.played;
     run_of = play.run_of;
-    written = written_so end run.short.main play.played.cut _ _ old new play.written;
-    sink = λ other none. tt;
+    written = written_so _ run.lines _ _ old new play.written;
+    whole_when_done = play.whole_when_done;
+    cut_at_a_write = play.cut_at_a_write;
+    cut_at = play.cut_at;
+    lacking_by_main = play.lacking_by_main;
     replies = play.replies;
     whole = play.whole;
     whole_by_main = play.whole_by_main;

@@ -2,6 +2,7 @@ pub mod ClosingLine
 pub mod Command
 pub mod Counting
 pub mod Ends
+pub mod Gathering
 pub mod Generating
 pub mod Playing
 pub mod Reading

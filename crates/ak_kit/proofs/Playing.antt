@@ -1,6 +1,6 @@
 -- A script that was carried out, and the closing line behind it. The sink may have failed before the closing line, at any ending but Done.
 use Rattle.std.proofs.Common.{◌≡◌, ℕ, ◌≤◌, List, [], take, Option, Some, None, sym, ◌∙◌, subst}
-use Rattle.std.specs.Prelude.{IfSome, IfNone}
+use Rattle.std.specs.Prelude.{IfSome, IfNone, IsSomeAnd}
 use Rattle.std.specs.Io.KnownBytes.{Appends}
 use Rattle.ak_base.specs.declared.ending.Ending.{Ending}
 use Rattle.ak_base.specs.declared.ending.Ending.TheVariants as ending
@@ -11,7 +11,8 @@ use Rattle.ak_script.specs.declared.script.Script.{Script}
 use Rattle.ak_script.specs.declared.statement.Statement.{Statement}
 use Rattle.ak_play.specs.declared.run_end.RunEnd.{RunEnd}
 use Rattle.ak_play.specs.Play.{IsPlay}
-use Rattle.ak_kit.specs.Kit.{Closes, PlaysAndCloses, closing_line}
+use Rattle.ak_kit.specs.Journal.{JournalsAndCloses, TellsJournal}
+use Rattle.ak_kit.specs.Kit.{Closes, ClosesBehind, PlaysAndCloses, closing_line, with_main}
 
 -- where nothing was written before it, it is all
 pub closes_alone : (end : Ending) (old between new : Option (List ℕ)) (a b c : ℕ) → a ≤ b → b ≤ c → Appends old between [] → b ≡ a → Closes end between new b c → Closes end old new a c
@@ -22,18 +23,32 @@ closes_alone end old between new a b c first second nothing still closes =
 abbrev pub OfScript : Script → RunEnd → Type 0
 OfScript script run = (run.script.apps.items ≡ script.apps.items) × (run.script.statements.items ≡ script.statements.items)
 
-pub plays_and_closes
-    : (script : Script) (found run : Option RunEnd) (played end : Ending) (old between new : Option (List ℕ)) (a b c : ℕ) → run ≡ found → end ≡ played → a ≤ b → b ≤ c
-    → IfSome found (OfScript script) → IfSome found (λ (r : RunEnd). IsPlay script.apps.items script.statements.items played r old between (Rose a b) (b ≡ a)) → Closes played between new b c
-    → IfSome run (λ (r : RunEnd). PlaysAndCloses r end old new a c)
-plays_and_closes script found None played end old between new a b c same ended first second of_script play closes = tt
-plays_and_closes script found (Some r) played end old between new a b c same ended first second of_script play closes =
-    let is_of = subst (λ (o : Option RunEnd). IfSome o (OfScript script)) (sym same) of_script in
-    let is_play = subst (λ (o : Option RunEnd). IfSome o (λ (x : RunEnd). IsPlay script.apps.items script.statements.items played x old between (Rose a b) (b ≡ a))) (sym same) play in
-    let of_apps = subst (λ (apps : List AppText). IsPlay apps script.statements.items played r old between (Rose a b) (b ≡ a)) (sym is_of.0) is_play in
-    let of_all = subst (λ (statements : List Statement). IsPlay r.script.apps.items statements played r old between (Rose a b) (b ≡ a)) (sym is_of.1) of_apps in
-    subst (λ (e : Ending). PlaysAndCloses r e old new a c) (sym ended)
-    (record { between = between; faults_between = b; first = first; second = second; play = of_all; closes = closes })
+module _ (script : Script) (r : RunEnd) (played : Ending) (old between new : Option (List ℕ)) (a b c : ℕ) (first : a ≤ b) (second : b ≤ c) (of_script : OfScript script r)
+    (play : IsPlay script.apps.items script.statements.items played r old between (Rose a b) (b ≡ a)) where
+  of_all : IsPlay r.script.apps.items r.script.statements.items played r old between (Rose a b) (b ≡ a)
+  of_all =
+      let of_apps = subst (λ (apps : List AppText). IsPlay apps script.statements.items played r old between (Rose a b) (b ≡ a)) (sym of_script.0) play in
+      subst (λ (statements : List Statement). IsPlay r.script.apps.items statements played r old between (Rose a b) (b ≡ a)) (sym of_script.1) of_apps
+
+  pub plays_and_closes : (found : Option RunEnd) (end : Ending) → found ≡ Some r → end ≡ played → ClosesBehind r.lines played between new b c → IfSome found (λ (x : RunEnd). PlaysAndCloses x end old new a c)
+  plays_and_closes found end same ended closes =
+      subst (λ (o : Option RunEnd). IfSome o (λ (x : RunEnd). PlaysAndCloses x end old new a c)) (sym same)
+      (subst (λ (e : Ending). PlaysAndCloses r e old new a c) (sym ended) (record { between = between; faults_between = b; first = first; second = second; play = of_all; closes = closes }))
+
+  -- with its journal behind it; the run is handed on, but for whether main found no memory
+  pub journals_and_closes : (found : Option RunEnd) (end : Ending) → IsSomeAnd found (λ (x : RunEnd). r ≡ with_main r.short.main x)
+      → IfSome found (λ (x : RunEnd). TellsJournal r.lines played x r.short.main end between new b c) → IfSome found (λ (x : RunEnd). JournalsAndCloses x end old new a c)
+  journals_and_closes None end same tells = tt
+  journals_and_closes (Some x) end same tells = record {
+    ended = played;
+    main = r.short.main;
+    between = between;
+    faults_between = b;
+    first = first;
+    second = second;
+    play = subst (λ (y : RunEnd). IsPlay y.script.apps.items y.script.statements.items played y old between (Rose a b) (b ≡ a)) same of_all;
+    tells = subst (λ (y : RunEnd). TellsJournal y.lines played x r.short.main end between new b c) same tells;
+  }
 
 pub closes_without_run
     : (found run : Option RunEnd) (played end : Ending) (old between new : Option (List ℕ)) (a b c : ℕ) → run ≡ found → end ≡ played → a ≤ b → b ≤ c

@@ -1,5 +1,5 @@
 //! What is done with a script: it is carried out, or told of by one line.
-ghost use Rattle.std.specs.Prelude.{◌≡◌, ◌≢◌, ◌≤◌, None, IfSome, IfNone};
+ghost use Rattle.std.specs.Prelude.{◌≡◌, ◌≢◌, ◌≤◌, None, IfSome, IfNone, true, false};
 ghost use Rattle.ak_outside.specs.Faults.{Rose};
 ghost use Rattle.ak_describe.specs.Whole.{AreWholeApps, heads_of};
 ghost use Rattle.ak_headline.specs.Headline.{EachGotOneReply, EachLooper, IsAccounted, IsByRule};
@@ -60,11 +60,14 @@ pub(crate) fn play<
     ensures spawner_kept { result.ending ≢ Ending.ThreadFault → W.faults spawner.new ≡ W.faults spawner.old }
     ensures spawner_never_falls { W.faults spawner.old ≤ W.faults spawner.new }
 {
-    let (run, ending) = run_script(alloc, rt, script, sink, spawner, gate);
-    match run {
-        Some(run) if journal => end_with_journal(alloc, run, ending, sink),
-        Some(run) => close_run(sink, ending, run),
-        None => close(sink, ending, None),
+    let (run, ended) = run_script(alloc, rt, script, sink, spawner, gate);
+    let Some(run) = run else {
+        return close(sink, ended, None);
+    };
+    if journal {
+        end_with_journal(alloc, run, ended, sink)
+    } else {
+        close_run(sink, ended, run)
     }
 }
 

@@ -1,5 +1,5 @@
 //! The command `run`: the input is read, and the script that it is the text of is carried out.
-ghost use Rattle.std.specs.Prelude.{◌≡◌, ◌≢◌, ◌≤◌, ◌⊎◌, ℕ, List, Some, Ok, IfSome, IfNone};
+ghost use Rattle.std.specs.Prelude.{◌≡◌, ◌≢◌, ◌≤◌, ◌⊎◌, ℕ, List, Some, Ok, IfSome, IfNone, true, false};
 ghost use Rattle.ak_base.specs.declared.ending.RefusalKind.{RefusalKind};
 ghost use Rattle.ak_outside.specs.Faults.{Rose, Stayed};
 ghost use Rattle.ak_outside.specs.Source.{ConsumesAtMost};

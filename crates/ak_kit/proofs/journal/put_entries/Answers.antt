@@ -10,8 +10,8 @@ pub returns-in_err-write_all-clause-written : goal.returns-in_err-write_all-clau
 returns-in_err-write_all-clause-written g c =
     let there = slice_get_read c.args.entries.now (length c.args.entries.now) c.loop-entry.entry-index c.entry-item.result refl c.loop-entry-test.true c.entry-item.is in
     let gathered =
-        one_gathered (g.K.Sink.written c.args.sink.now) (g.K.Sink.written c.loop-entry.sink) c.args.entries.now c.loop-entry.entry-index (suc c.loop-entry.entry-index) c.entry-item.result c.loop-entry.lines c.put_line.new.lines
-        refl there c.in_ok-put_line.ensures c.loop-entry.invariant.0
+    one_gathered (g.K.Sink.written c.args.sink.now) (g.K.Sink.written c.loop-entry.sink) c.args.entries.now c.loop-entry.entry-index (suc c.loop-entry.entry-index) c.entry-item.result c.loop-entry.lines c.put_line.new.lines
+    refl there c.in_ok-put_line.ensures c.loop-entry.invariant.0
     in
     let part = subst (AppendsPart (g.K.Sink.written c.loop-entry.sink) (g.K.Sink.written c.write_all.new.sink)) c.as_slice.ensures c.in_err-write_all.ensures.err in
     cut_told c.from_residual-in_err-write_all.result c.args.entries.now (g.K.Sink.written c.args.sink.now) (g.K.Sink.written c.write_all.new.sink) c.from_residual-in_err-write_all.ensures.1
@@ -21,23 +21,22 @@ pub loop-entry-preserved : goal.loop-entry-preserved
 loop-entry-preserved g c =
     let there = slice_get_read c.args.entries.now (length c.args.entries.now) c.loop-entry.entry-index c.entry-item.result refl c.loop-entry-test.true c.entry-item.is in
     let gathered =
-        one_gathered (g.K.Sink.written c.args.sink.now) (g.K.Sink.written c.loop-entry.sink) c.args.entries.now c.loop-entry.entry-index (c.loop-entry.entry-index + 1) c.entry-item.result c.loop-entry.lines c.put_line.new.lines
-        (omega (arith)) there c.in_ok-put_line.ensures c.loop-entry.invariant.0
+    one_gathered (g.K.Sink.written c.args.sink.now) (g.K.Sink.written c.loop-entry.sink) c.args.entries.now c.loop-entry.entry-index (c.loop-entry.entry-index + 1) c.entry-item.result c.loop-entry.lines c.put_line.new.lines
+    (omega (arith)) there c.in_ok-put_line.ensures c.loop-entry.invariant.0
     in
     elim c.if-len-ge-PIECE.branch [
-      then-len-ge-PIECE+in_ok-write_all w ↦
-        let more = subst (Appends (g.K.Sink.written c.loop-entry.sink) (g.K.Sink.written w.write_all.new.sink)) w.as_slice.ensures w.in_ok-write_all.ensures.ok in
-        let written = gathered_written (g.K.Sink.written c.args.sink.now) (g.K.Sink.written c.loop-entry.sink) c.args.entries.now (c.loop-entry.entry-index + 1) c.put_line.new.lines (g.K.Sink.written w.write_all.new.sink) gathered more in
-        (
-          subst (λ s. IsGathered (g.K.Sink.written c.args.sink.now) (g.K.Sink.written s) c.args.entries.now (c.loop-entry.entry-index + 1) c.if-len-ge-PIECE.lines) (sym w.sink-is)
-          (subst (λ ls. IsGathered (g.K.Sink.written c.args.sink.now) (g.K.Sink.written w.write_all.new.sink) c.args.entries.now (c.loop-entry.entry-index + 1) ls) (sym (w.lines-is ∙ w.clear.ensures)) written),
-          ap g.K.Sink.faults w.sink-is ∙ w.in_ok-write_all.ensures.kept ∙ c.loop-entry.invariant.1,
-        )
+      | then-len-ge-PIECE+in_ok-write_all w ↦
+          let more = subst (Appends (g.K.Sink.written c.loop-entry.sink) (g.K.Sink.written w.write_all.new.sink)) w.as_slice.ensures w.in_ok-write_all.ensures.ok in
+          let written = gathered_written (g.K.Sink.written c.args.sink.now) (g.K.Sink.written c.loop-entry.sink) c.args.entries.now (c.loop-entry.entry-index + 1) c.put_line.new.lines (g.K.Sink.written w.write_all.new.sink) gathered more in (
+            subst (λ s. IsGathered (g.K.Sink.written c.args.sink.now) (g.K.Sink.written s) c.args.entries.now (c.loop-entry.entry-index + 1) c.if-len-ge-PIECE.lines) (sym w.sink-is)
+                (subst (λ ls. IsGathered (g.K.Sink.written c.args.sink.now) (g.K.Sink.written w.write_all.new.sink) c.args.entries.now (c.loop-entry.entry-index + 1) ls) (sym (w.lines-is ∙ w.clear.ensures)) written),
+            ap g.K.Sink.faults w.sink-is ∙ w.in_ok-write_all.ensures.kept ∙ c.loop-entry.invariant.1,
+          )
       | else-len-ge-PIECE w ↦ (
-          subst (λ s. IsGathered (g.K.Sink.written c.args.sink.now) (g.K.Sink.written s) c.args.entries.now (c.loop-entry.entry-index + 1) c.if-len-ge-PIECE.lines) (sym w.sink-is)
-          (subst (λ ls. IsGathered (g.K.Sink.written c.args.sink.now) (g.K.Sink.written c.loop-entry.sink) c.args.entries.now (c.loop-entry.entry-index + 1) ls) (sym w.lines-is) gathered),
-          ap g.K.Sink.faults w.sink-is ∙ c.loop-entry.invariant.1,
-        )
+        subst (λ s. IsGathered (g.K.Sink.written c.args.sink.now) (g.K.Sink.written s) c.args.entries.now (c.loop-entry.entry-index + 1) c.if-len-ge-PIECE.lines) (sym w.sink-is)
+            (subst (λ ls. IsGathered (g.K.Sink.written c.args.sink.now) (g.K.Sink.written c.loop-entry.sink) c.args.entries.now (c.loop-entry.entry-index + 1) ls) (sym w.lines-is) gathered),
+        ap g.K.Sink.faults w.sink-is ∙ c.loop-entry.invariant.1,
+      )
     ]
 
 pub returns-in_err-write_all-2-clause-written : goal.returns-in_err-write_all-2-clause-written
