@@ -4,4 +4,5 @@ mod endings;
 mod fixture;
 mod generated;
 mod inputs;
+mod journals;
 mod reading;

@@ -75,7 +75,7 @@ static STARTS: [Case; 5] = [
 ];
 
 // Of the session that gets no thread the lines are carried out and written all the same, and then the closing line. Where one of them
-// is not written, those behind it are not either, and the ending is that of the thread.
+// is not written, nothing is written behind it, and the ending is that of the thread.
 const STARTED: &str = "launch team 1
 reply 'RPLY' result=LONG:3 error=LONG:0
 reply 'RPLY' result=LONG:1 error=LONG:0
@@ -90,8 +90,7 @@ thread fault
 = 5 thread fault, 0 left, 5 outcomes, 2 loopers, 2 ended
 launch team 1
 reply 'RPLY' result=LONG:3 error=LONG:0
-replythread fault
-= 5 thread fault, 0 left, 5 outcomes, 2 loopers, 2 ended
+reply= 5 thread fault, 0 left, 5 outcomes, 2 loopers, 2 ended
 launch team 1
 reply 'RPLY' result=LONG:3 error=LONG:0
 reply 'RPLY' result=LONG:1 error=LONG:0

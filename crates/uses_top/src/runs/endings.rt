@@ -5,14 +5,18 @@ use std::test::Fail;
 
 // ---- the words
 // The last one's closing line is refused in its middle.
-static OTHER_WORDS: [Case; 15] = [
+static OTHER_WORDS: [Case; 16] = [
     Case { words: "", ..RUN },
     Case {
         words: "Run",
         ..RUN
     },
     Case {
-        words: "run -j",
+        words: "run -j -j",
+        ..RUN
+    },
+    Case {
+        words: "read -j",
         ..RUN
     },
     Case {
@@ -67,33 +71,35 @@ static OTHER_WORDS: [Case; 15] = [
 ];
 
 // The input has 145 bytes.
-const USAGE: &str = "usage: kit run | read | gen N
+const USAGE: &str = "usage: kit run [-j] | read | gen N
 = 1 usage, 145 left, no run
-usage: kit run | read | gen N
+usage: kit run [-j] | read | gen N
 = 1 usage, 145 left, no run
-usage: kit run | read | gen N
+usage: kit run [-j] | read | gen N
 = 1 usage, 145 left, no run
-usage: kit run | read | gen N
+usage: kit run [-j] | read | gen N
 = 1 usage, 145 left, no run
-usage: kit run | read | gen N
+usage: kit run [-j] | read | gen N
 = 1 usage, 145 left, no run
-usage: kit run | read | gen N
+usage: kit run [-j] | read | gen N
 = 1 usage, 145 left, no run
-usage: kit run | read | gen N
+usage: kit run [-j] | read | gen N
 = 1 usage, 145 left, no run
-usage: kit run | read | gen N
+usage: kit run [-j] | read | gen N
 = 1 usage, 145 left, no run
-usage: kit run | read | gen N
+usage: kit run [-j] | read | gen N
 = 1 usage, 145 left, no run
-usage: kit run | read | gen N
+usage: kit run [-j] | read | gen N
 = 1 usage, 145 left, no run
-usage: kit run | read | gen N
+usage: kit run [-j] | read | gen N
 = 1 usage, 145 left, no run
-usage: kit run | read | gen N
+usage: kit run [-j] | read | gen N
 = 1 usage, 145 left, no run
-usage: kit run | read | gen N
+usage: kit run [-j] | read | gen N
 = 1 usage, 145 left, no run
-usage: kit run | read | gen N
+usage: kit run [-j] | read | gen N
+= 1 usage, 145 left, no run
+usage: kit run [-j] | read | gen N
 = 1 usage, 145 left, no run
 usage:= 1 usage, 145 left, no run
 ";

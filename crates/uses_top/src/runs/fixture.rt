@@ -86,7 +86,7 @@ pub fn bytes_of(alloc: Global, pieces: &[&[u8]]) -> Result<Bytes, NoMemory> {
     Ok(bytes)
 }
 
-fn words_of(alloc: Global, words: &str) -> Result<Vec<Bytes>, NoMemory> {
+pub fn words_of(alloc: Global, words: &str) -> Result<Vec<Bytes>, NoMemory> {
     let mut given = Vec::new(alloc);
     for word in words.split_whitespace() {
         given.push(bytes_of(alloc, &[word.as_bytes()])?)?;
