@@ -8,7 +8,7 @@ use Rattle.ak_play.specs.declared.run_end.RunEnd.{RunEnd}
 use Rattle.ak_play.specs.Play.{IsPlayEnding, IsShort}
 use Rattle.ak_play.specs.declared.run_end.Lines.{Lines}
 use Rattle.ak_play.specs.declared.run_end.Lines.TheVariants as lines
-use Rattle.ak_kit.specs.Journal.{JournalsAndCloses, TellsJournal, ends_behind, main_behind}
+use Rattle.ak_kit.specs.Journal.{JournalsAndCloses, TellsJournal, at_a_write, ends_behind, main_behind}
 use Rattle.ak_kit.specs.Kit.{PlaysAndCloses, with_main}
 
 -- where no count rose, it is done, unless memory ran out
@@ -30,17 +30,22 @@ ends_short
 ends_short (Some r) end old new a b plays = plays.play.ran_short
 ends_short None end old new a b plays = tt
 
+-- where a write failed behind it
+short_cut : (ended : Ending) (main : Bool) (run : RunEnd) (end : Ending) → end ≡ at_a_write main ended → run.short.main ≡ main → end ≡ ending.NoMemory → IsShort run.short
+short_cut ending.ThreadFault main run end end_is main_is lacks = let bad : ending.ThreadFault ≡ ending.NoMemory = sym end_is ∙ lacks in absurd (cc bad)
+short_cut ending.NoMemory true run end end_is main_is lacks = inl main_is
+short_cut ending.NoMemory false run end end_is main_is lacks = let bad : ending.WriteFault ≡ ending.NoMemory = sym end_is ∙ lacks in absurd (cc bad)
+short_cut ending.Done main run end end_is main_is lacks = let bad : ending.WriteFault ≡ ending.NoMemory = sym end_is ∙ lacks in absurd (cc bad)
+short_cut ending.WriteFault main run end end_is main_is lacks = let bad : ending.WriteFault ≡ ending.NoMemory = sym end_is ∙ lacks in absurd (cc bad)
+short_cut ending.Usage main run end end_is main_is lacks = let bad : ending.WriteFault ≡ ending.NoMemory = sym end_is ∙ lacks in absurd (cc bad)
+short_cut ending.ReadFault main run end end_is main_is lacks = let bad : ending.WriteFault ≡ ending.NoMemory = sym end_is ∙ lacks in absurd (cc bad)
+short_cut (ending.Refused line why) main run end end_is main_is lacks = let bad : ending.WriteFault ≡ ending.NoMemory = sym end_is ∙ lacks in absurd (cc bad)
+
 -- behind a journal
-short_behind : (ended : Ending) (told : Lines) (run : RunEnd) (main : Bool) (end : Ending) → (ended ≡ ending.NoMemory → IsShort (with_main main run).short) → end ≡ ends_behind ended told → run.short.main ≡ main_behind main told → end ≡ ending.NoMemory → IsShort run.short
+short_behind : (ended : Ending) (told : Lines) (run : RunEnd) (main : Bool) (end : Ending) → (ended ≡ ending.NoMemory → IsShort (with_main main run).short) → end ≡ ends_behind main ended told → run.short.main ≡ main_behind main told → end ≡ ending.NoMemory → IsShort run.short
 short_behind ended lines.Whole run main end short end_is main_is lacks = subst (λ (b : Bool). IsShort (with_main b run).short) (sym main_is) (short (sym end_is ∙ lacks))
 short_behind ended lines.Lacking run main end short end_is main_is lacks = inl main_is
-short_behind ending.ThreadFault lines.Cut run main end short end_is main_is lacks = let bad : ending.ThreadFault ≡ ending.NoMemory = sym end_is ∙ lacks in absurd (cc bad)
-short_behind ending.Done lines.Cut run main end short end_is main_is lacks = let bad : ending.WriteFault ≡ ending.NoMemory = sym end_is ∙ lacks in absurd (cc bad)
-short_behind ending.WriteFault lines.Cut run main end short end_is main_is lacks = let bad : ending.WriteFault ≡ ending.NoMemory = sym end_is ∙ lacks in absurd (cc bad)
-short_behind ending.NoMemory lines.Cut run main end short end_is main_is lacks = let bad : ending.WriteFault ≡ ending.NoMemory = sym end_is ∙ lacks in absurd (cc bad)
-short_behind ending.Usage lines.Cut run main end short end_is main_is lacks = let bad : ending.WriteFault ≡ ending.NoMemory = sym end_is ∙ lacks in absurd (cc bad)
-short_behind ending.ReadFault lines.Cut run main end short end_is main_is lacks = let bad : ending.WriteFault ≡ ending.NoMemory = sym end_is ∙ lacks in absurd (cc bad)
-short_behind (ending.Refused line why) lines.Cut run main end short end_is main_is lacks = let bad : ending.WriteFault ≡ ending.NoMemory = sym end_is ∙ lacks in absurd (cc bad)
+short_behind ended lines.Cut run main end short end_is main_is lacks = short_cut ended main run end end_is main_is lacks
 
 pub short_told : (told : Lines) (ended : Ending) (run : RunEnd) (main : Bool) (end : Ending) (old new : Option (List ℕ)) (a b : ℕ) → (ended ≡ ending.NoMemory → IsShort (with_main main run).short) → TellsJournal told ended run main end old new a b
     → end ≡ ending.NoMemory → IsShort run.short

@@ -1,5 +1,5 @@
 -- The lines of entries, some at a time.
-use Rattle.std.proofs.Common.{◌≡◌, ◌∙◌, ℕ, zero, suc, ◌+◌, List, [], ◌∷◌, ◌++◌, take, drop, length, slice_get, Option, None, Some, Result, Ok, Err, IsErrAnd, inr, refl, sym, ap, subst, append_assoc, append-nil, arith, length-append}
+use Rattle.std.proofs.Common.{◌≡◌, ◌∙◌, ℕ, zero, suc, ◌+◌, ◌<◌, ◌≤◌, List, [], ◌∷◌, ◌++◌, take, drop, length, slice_get, Option, None, Some, Result, Ok, Err, IsErrAnd, inr, refl, sym, ap, subst, append_assoc, append-nil, arith, length-append}
 use Rattle.std.proofs.lemmas.List.{take-append-drop, take-append-le}
 use Rattle.std.proofs.Math.Seq.{take-append-add}
 use Rattle.std.specs.Io.KnownBytes.{Appends}
@@ -44,17 +44,19 @@ nothing (Some bytes) = sym (append-nil bytes)
 -- of the first entries, up to that place, the lines of some are written, and those of the rest are gathered
 pub record IsGathered (old now : Option (List ℕ)) (entries : List Entry) (index : ℕ) (lines : List ℕ) : Type 0 where
   pub count : ℕ
+  pub most : count ≤ index
   pub written : Appends old now (entries_text (take count entries))
   pub rest : entries_text (take index entries) ≡ entries_text (take count entries) ++ lines
 
 module _ (old now : Option (List ℕ)) (entries : List Entry) where
   pub none_gathered : IsGathered old old entries 0 []
-  none_gathered = record { count = 0; written = nothing old; rest = refl }
+  none_gathered = record { count = 0; most = omega (arith); written = nothing old; rest = refl }
 
   pub one_gathered : (index next : ℕ) (e : Entry) (lines lines' : List ℕ) → next ≡ suc index → slice_get entries index ≡ Some e → lines' ≡ lines ++ entries_text (e ∷ [])
       → IsGathered old now entries index lines → IsGathered old now entries next lines'
   one_gathered index next e lines lines' next_is there more so_far = record {
     count = so_far.count;
+    most = omega (arith, so_far.most, next_is);
     written = so_far.written;
     rest =
         ap (λ (n : ℕ). entries_text (take n entries)) next_is ∙ text_and_next entries index e there ∙ ap (λ (l : List ℕ). l ++ entries_text (e ∷ [])) so_far.rest
@@ -64,6 +66,7 @@ module _ (old now : Option (List ℕ)) (entries : List Entry) where
   pub gathered_written : (index : ℕ) (lines : List ℕ) (new : Option (List ℕ)) → IsGathered old now entries index lines → Appends now new lines → IsGathered old new entries index []
   gathered_written index lines new so_far more = record {
     count = index;
+    most = omega (arith);
     written = subst (Appends old new) (sym so_far.rest) (Appends-joined old now new (entries_text (take so_far.count entries)) lines so_far.written more);
     rest = sym (append-nil (entries_text (take index entries)));
   }
@@ -87,6 +90,12 @@ all_written old new entries index lines whole none gathered =
     ∙ ap entries_text (take_whole entries))
     gathered.written
 
+-- memory ran out before all were gathered
+pub lacking_told : (told : Result (Unit {0}) Untold) (entries : List Entry) (old now : Option (List ℕ)) (index : ℕ) (lines : List ℕ) → IsErrAnd told (λ why. why ≡ untold.NoMemory) → index < length entries → IsGathered old now entries index lines → HasWrittenEntries entries (lines_told told) old now
+lacking_told (Ok x) entries old now index lines is more gathered = absurd is
+lacking_told (Err why) entries old now index lines is more gathered =
+    subst (λ (x : Untold). HasWrittenEntries entries (lines_told {A = Unit {0}} (Err x)) old now) (sym is) (gathered.count, omega (arith, gathered.most, more), gathered.written)
+
 -- a write failed
 pub cut_told : (told : Result (Unit {0}) Untold) (entries : List Entry) (old new : Option (List ℕ)) → IsErrAnd told (λ why. why ≡ untold.WriteFault) → AppendsPart old new (entries_text entries) → HasWrittenEntries entries (lines_told told) old new
 cut_told (Ok x) entries old new is part = absurd is
@@ -105,4 +114,4 @@ head_and_entries lines.Whole h entries old mid new merged head written = (entrie
 head_and_entries lines.Cut h entries old mid new merged head part =
     (entries, merged, subst (AppendsPart old new) (append-nil (head_line ++ entries_text entries)) (part_within old mid new head_line (entries_text entries) [] head part))
 head_and_entries lines.Lacking h entries old mid new merged head written =
-    inr (entries, merged, (written.0, Appends-joined old mid new head_line (entries_text (take written.0 entries)) head written.1))
+    inr (entries, merged, (written.0, written.1, Appends-joined old mid new head_line (entries_text (take written.0 entries)) head written.2))

@@ -26,6 +26,7 @@ module _ (Failed : Type 0) (never : Failed → ⊥) where
 
   plays_so : {Kept : Type 0} (apps : List AppText) (statements : List Statement) (end : Ending) (run : RunEnd) (old new : Option (List ℕ)) → IsPlay apps statements end run old new Failed Kept → IsPlay apps statements end run old new ⊥ (Unit {0})
   plays_so apps statements end run old new play = record {
+    ends = play.ends;
     played = play.played;
     run_of = play.run_of;
     written = written_so _ run.lines _ _ old new play.written;

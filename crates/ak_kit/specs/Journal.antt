@@ -1,5 +1,5 @@
 -- What `run -j` writes behind the lines of the outcomes: the line `journal`, and a line for each entry of each object of the run.
-use Rattle.std.specs.Prelude.{◌≡◌, ◌≤◌, ◌⊎◌, ℕ, Bool, true, List, [], ◌∷◌, ◌++◌, take, codes, Option}
+use Rattle.std.specs.Prelude.{◌≡◌, ◌≤◌, ◌⊎◌, ℕ, Bool, true, List, [], ◌∷◌, ◌++◌, take, codes, Option, ◌<◌, length, if◌then◌else◌}
 use Rattle.std.specs.List.{flat_map}
 use Rattle.std.specs.Io.KnownBytes.{Appends}
 use Rattle.ak_base.specs.declared.ending.Ending.{Ending}
@@ -32,9 +32,9 @@ journal_text entries = head_line ++ entries_text entries
 abbrev pub OfMerged : Histories → (List Entry → Type 0) → Type 0
 OfMerged h Holds = (entries : List Entry) × IsMerged h entries × Holds entries
 
--- nothing of the journal, or the first lines
+-- nothing of the journal, or the first lines and not all
 abbrev pub IsJournalFront : Histories → Option (List ℕ) → Option (List ℕ) → Type 0
-IsJournalFront h old new = Appends old new [] ⊎ OfMerged h (λ entries. (count : ℕ) × Appends old new (head_line ++ entries_text (take count entries)))
+IsJournalFront h old new = Appends old new [] ⊎ OfMerged h (λ entries. (count : ℕ) × (count < length entries) × Appends old new (head_line ++ entries_text (take count entries)))
 
 -- ---- how much of it was written
 -- all; a front, where a write failed; or the first lines, where memory ran out
@@ -47,7 +47,7 @@ HasJournaled h lines.Lacking old new = IsJournalFront h old new
 abbrev pub HasWrittenEntries : List Entry → Lines → Option (List ℕ) → Option (List ℕ) → Type 0
 HasWrittenEntries entries lines.Whole old new = Appends old new (entries_text entries)
 HasWrittenEntries entries lines.Cut old new = AppendsPart old new (entries_text entries)
-HasWrittenEntries entries lines.Lacking old new = (count : ℕ) × Appends old new (entries_text (take count entries))
+HasWrittenEntries entries lines.Lacking old new = (count : ℕ) × (count < length entries) × Appends old new (entries_text (take count entries))
 
 -- the sink failed exactly where a write did
 abbrev pub FailedSo : Lines → ℕ → ℕ → Type 0
@@ -56,20 +56,21 @@ FailedSo lines.Cut faults faults' = Rose faults faults'
 FailedSo lines.Lacking faults faults' = faults' ≡ faults
 
 -- ---- the ending
--- where a write failed behind a run that ended so; a thread that was not started comes before it
-abbrev pub at_a_write : Ending → Ending
-at_a_write ending.ThreadFault = ending.ThreadFault
-at_a_write _ = ending.WriteFault
+-- where a write failed behind a run that ended so; a thread that was not started comes before it, and so does memory that main did not find
+abbrev pub at_a_write : Bool → Ending → Ending
+at_a_write main ending.ThreadFault = ending.ThreadFault
+at_a_write main ending.NoMemory = if main then ending.NoMemory else ending.WriteFault
+at_a_write main _ = ending.WriteFault
 
 -- where memory ran out behind it
 abbrev pub without_memory : Ending → Ending
 without_memory ending.ThreadFault = ending.ThreadFault
 without_memory _ = ending.NoMemory
 
-abbrev pub ends_behind : Ending → Lines → Ending
-ends_behind ended lines.Whole = ended
-ends_behind ended lines.Cut = at_a_write ended
-ends_behind ended lines.Lacking = without_memory ended
+abbrev pub ends_behind : Bool → Ending → Lines → Ending
+ends_behind main ended lines.Whole = ended
+ends_behind main ended lines.Cut = at_a_write main ended
+ends_behind main ended lines.Lacking = without_memory ended
 
 -- whether main found no memory
 abbrev pub main_behind : Bool → Lines → Bool
@@ -86,7 +87,7 @@ pub record WritesJournal (ended : Ending) (run : RunEnd) (main : Bool) (end : En
   pub faults_between : ℕ
   pub journaled : HasJournaled run.histories told old between
   pub failed : FailedSo told faults faults_between
-  pub end_is : end ≡ ends_behind ended told
+  pub end_is : end ≡ ends_behind main ended told
   pub main_is : run.short.main ≡ main_behind main told
   pub closes : ClosesBehind told end between new faults_between faults'
 

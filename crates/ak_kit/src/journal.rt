@@ -50,12 +50,13 @@ impl From<WriteFailed> for Untold {
 }
 
 // ---- the ending
-// Where a write failed behind a run that ended so.
-fn at_a_write(ended: Ending) -> Ending
-    ensures { result ≡ at_a_write ended }
+// Where a write failed behind a run that ended so. `main` is whether main found no memory in it.
+fn at_a_write(main: bool, ended: Ending) -> Ending
+    ensures { result ≡ at_a_write main ended }
 {
     match ended {
         Ending::ThreadFault => Ending::ThreadFault,
+        Ending::NoMemory if main => Ending::NoMemory,
         _ => Ending::WriteFault,
     }
 }
@@ -92,7 +93,7 @@ pub(crate) fn end_with_journal<K: Sink>(
     }
     match put_journal(alloc, &run.histories, sink) {
         Ok(()) => close(sink, ended, Some(run)),
-        Err(Untold::WriteFault) => end_at_once(at_a_write(ended), run),
+        Err(Untold::WriteFault) => end_at_once(at_a_write(run.short.main, ended), run),
         Err(Untold::NoMemory) => {
             run.short.main = true;
             close(sink, without_memory(ended), Some(run))

@@ -33,7 +33,7 @@ use Rattle.ak_play.specs.declared.stop.Stop.TheVariants as stop
 use Rattle.ak_play.specs.declared.gathered.Gathered.{Gathered}
 use Rattle.ak_play.specs.Gathered.{GatheredData, gathered_seen}
 use Rattle.ak_play.specs.Parts.{IsCut, Part, all_outcomes, all_sessions, all_steps, all_tolds, sessions_in}
-use Rattle.ak_play.specs.Play.{AreReplies, AreWritten, IsPlay, IsShort, cut_outcomes, cut_tolds, first_tolds, last_tolds}
+use Rattle.ak_play.specs.Play.{AreReplies, AreWritten, IsPlay, IsShort, cut_outcomes, cut_tolds, first_tolds, last_tolds, IsPlayEnding}
 use Rattle.ak_play.specs.Sessions.{HasCarried}
 use Rattle.ak_play.specs.Steps.{IsPlayedTo, any_short, ended_as, is_any, is_lack, lacks_a_line, lines_after, stopped_as}
 use Rattle.ak_play.proofs.Gathering.{gathered_is}
@@ -185,6 +185,14 @@ module _ (heads : List AppHead) (h : Histories) (steps more : List Step) (at_end
       all_front (StandsIn (desk_list h looper)) (desk_entries looper steps) (desk_entries looper more)
       (subst (All (StandsIn (desk_list h looper))) (flat_map-append (desk_entry looper) steps more) (at_end.edits looper))
 
+-- the endings that it may have
+ends_so : {A : Type 0} (played : Result A Stop) (lacked : Bool) → IsPlayEnding (ended_as played lacked)
+ends_so (Ok x) true = tt
+ends_so (Ok x) false = tt
+ends_so (Err stop.WriteFault) lacked = tt
+ends_so (Err (stop.ThreadFault told)) lacked = tt
+ends_so (Err (stop.NoMemory told)) lacked = tt
+
 -- what it has gathered
 abbrev told_of : RunEnd → GatheredData
 told_of end = record { outcomes = end.outcomes; tolds = end.tolds; short = end.short.sessions }
@@ -205,6 +213,7 @@ module _ {A : Type 0} (apps : List AppText) (statements : List Statement) (playe
       let tolds_are : end.tolds ≡ all_tolds to.parts ++ cut_tolds to.cut = ap (λ (x : GatheredData). x.tolds) to.gathered in
       let cut = cut_so to.cut (slice_get statements (length to.parts)) turned (time_of 0 steps) (all_sessions to.parts + 1) to.cut_is in
       record {
+        ends = ends_so played lacked;
         played = record {
           parts = to.parts;
           are = are;

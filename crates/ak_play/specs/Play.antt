@@ -129,9 +129,18 @@ pub record IsRunOf (heads : List AppHead) (run : RunEnd) : Type 0 where
   pub sessions : ℕ
   pub is : IsRunWith sessions heads run.short.loopers run.histories
 
+-- the endings of a script that is carried out
+abbrev pub IsPlayEnding : Ending → Type 0
+IsPlayEnding ending.Done = Unit {0}
+IsPlayEnding ending.WriteFault = Unit {0}
+IsPlayEnding ending.ThreadFault = Unit {0}
+IsPlayEnding ending.NoMemory = Unit {0}
+IsPlayEnding _ = ⊥
+
 -- The run of these statements: what main and the sessions did for them, what was written, and whose replies were told. Failed says that a write
 -- failed, Kept that none did
 pub record IsPlay (apps : List AppText) (statements : List Statement) (end : Ending) (run : RunEnd) (old new : Option (List ℕ)) (Failed Kept : Type 0) : Type 0 where
+  pub ends : IsPlayEnding end
   pub played : HasPlayed apps statements run.outcomes run.tolds run.short.sessions run.histories
   -- it is a run of these sessions, and of no others
   pub run_of : IsRunWith (all_sessions played.parts + cut_sessions played.cut) (heads_of apps) run.short.loopers run.histories
@@ -157,11 +166,3 @@ pub record IsPlay (apps : List AppText) (statements : List Statement) (end : End
   pub short : IsShort run.short → end ≢ ending.Done
   pub ran_short : end ≡ ending.NoMemory → IsShort run.short
   pub main_short : run.short.main ≡ true → (end ≡ ending.NoMemory) ⊎ ((end ≡ ending.ThreadFault) × IsSomeAnd played.cut (λ (part : Part). Unit {0}))
-
--- the endings of a script that is carried out
-abbrev pub IsPlayEnding : Ending → Type 0
-IsPlayEnding ending.Done = Unit {0}
-IsPlayEnding ending.WriteFault = Unit {0}
-IsPlayEnding ending.ThreadFault = Unit {0}
-IsPlayEnding ending.NoMemory = Unit {0}
-IsPlayEnding _ = ⊥

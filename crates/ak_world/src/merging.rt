@@ -9,7 +9,7 @@ use ak_journal::{Entry, ObjectName};
 use std::alloc::Global;
 
 /// All entries of the histories in one list, by their stamps, and those of one stamp by their threads: main, the
-/// sessions, the loopers. No thread of a run has two of one stamp; where there are such, they stand as the roster, the reply
+/// sessions, the loopers. Where a thread has two of one stamp, they stand as the roster, the reply
 /// book, the ports and the desks have them. Each is a copy. `NoMemory` where memory ran out. In time as many steps as there
 /// are entries, times the logarithm of the number of objects.
 pub fn merge(alloc: Global, histories: &Histories) -> Result<Vec<Entry>, NoMemory>

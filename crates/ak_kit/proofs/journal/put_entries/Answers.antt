@@ -2,7 +2,7 @@ use Rattle.std.proofs.Common.{◌∙◌, ◌+◌, suc, length, refl, sym, ap, su
 use Rattle.std.proofs.lemmas.Option.{slice_get_read}
 use Rattle.std.specs.Io.KnownBytes.{Appends}
 use Rattle.ak_outside.specs.Sink.{AppendsPart}
-use Rattle.ak_kit.proofs.Gathering.{IsGathered, cut_told, gathered_cut, gathered_written, one_gathered}
+use Rattle.ak_kit.proofs.Gathering.{IsGathered, cut_told, gathered_cut, gathered_written, lacking_told, one_gathered}
 use Rattle.ak_kit.proofs.journal.put_entries.Goals as goal
 use Rattle.ak_kit.proofs.journal.put_entries.Goals.{then-len-ge-PIECE+in_ok-write_all, else-len-ge-PIECE}
 
@@ -44,3 +44,9 @@ returns-in_err-write_all-2-clause-written g c =
     let part = subst (AppendsPart (g.K.Sink.written c.loop-entry.sink) (g.K.Sink.written c.write_all-2.new.sink)) c.as_slice-2.ensures c.in_err-write_all-2.ensures.err in
     cut_told c.from_residual-in_err-write_all-2.result c.args.entries.now (g.K.Sink.written c.args.sink.now) (g.K.Sink.written c.write_all-2.new.sink) c.from_residual-in_err-write_all-2.ensures.1
     (gathered_cut (g.K.Sink.written c.args.sink.now) (g.K.Sink.written c.loop-entry.sink) c.args.entries.now c.loop-entry.entry-index c.loop-entry.lines (g.K.Sink.written c.write_all-2.new.sink) c.loop-entry.invariant.0 part)
+
+pub returns-in_err-put_line-clause-written : goal.returns-in_err-put_line-clause-written
+returns-in_err-put_line-clause-written g c =
+    lacking_told c.from_residual.result c.args.entries.now (g.K.Sink.written c.args.sink.now) (g.K.Sink.written c.loop-entry.sink) c.loop-entry.entry-index c.loop-entry.lines c.from_residual.ensures.1
+    c.loop-entry-test.true
+    c.loop-entry.invariant.0
