@@ -62,11 +62,12 @@ fn tell_journal<R: Threads + Wait + Copy + Send + 'static>(
     rt: &R,
     alloc: Global,
     input: &str,
+    start: u64,
 ) -> Result<(), Fail> {
     let words = words_of(alloc, "run -j")?;
     let mut source = TextSource::new(bytes_of(alloc, &[input.as_bytes()])?, Vec::new(alloc));
     let mut sink = ListSink::new(alloc, Vec::new(alloc));
-    let mut spawner = PlannedSpawner::new(Vec::new(alloc));
+    let mut spawner = PlannedSpawner::new(vec![in alloc; start]?);
     let end = kit(
         alloc,
         rt,
@@ -82,6 +83,7 @@ fn tell_journal<R: Threads + Wait + Copy + Send + 'static>(
     Ok(out.extend(b" entries\n")?)
 }
 
+// Where a thread is not started, at the launch or of a session, the closing line stands behind the journal, and is that of no entry.
 const ENTRIES: &str = "launch team 1
 reply 'RPLY' result=LONG:3 error=LONG:0
 journal
@@ -94,13 +96,22 @@ posted
 reply 'RPLY' result=LONG:2 error=LONG:0
 journal
 40 lines, 40 read back, 40 entries
+journal
+10 lines, 9 read back, 9 entries
+launch team 1
+reply 'RPLY' result=LONG:3 error=LONG:0
+reply 'RPLY' result=LONG:1 error=LONG:0
+journal
+27 lines, 26 read back, 26 entries
 ";
 
 #[test]
 fn each_line_is_that_of_an_entry(rt: HostRuntime) -> Result<(), Fail> {
     let mut told = Bytes::new(rt.alloc());
-    tell_journal(&mut told, &rt, rt.alloc(), INPUT)?;
-    tell_journal(&mut told, &rt, rt.alloc(), BLOCK)?;
+    tell_journal(&mut told, &rt, rt.alloc(), INPUT, 0)?;
+    tell_journal(&mut told, &rt, rt.alloc(), BLOCK, 0)?;
+    tell_journal(&mut told, &rt, rt.alloc(), INPUT, 1)?;
+    tell_journal(&mut told, &rt, rt.alloc(), BLOCK, 3)?;
     same_text(&rt, "each comes back", &told, ENTRIES);
     Ok(())
 }
@@ -112,8 +123,9 @@ const JOURNAL: Case = Case {
     ..RUN
 };
 
-// The lines of the outcomes have 54 bytes, and the line `journal` has 8.
-static CASES: [Case; 4] = [
+// The lines of the outcomes have 54 bytes, and the line `journal` has 8. In the last case there is no outcome: the launch starts no thread, and
+// nothing stands behind the journal that is cut.
+static CASES: [Case; 5] = [
     Case {
         byte: 20,
         ..JOURNAL
@@ -130,6 +142,11 @@ static CASES: [Case; 4] = [
         byte: 63,
         ..JOURNAL
     },
+    Case {
+        byte: 3,
+        start: 1,
+        ..JOURNAL
+    },
 ];
 
 const FAILED: &str = "launch team 1
@@ -144,6 +161,7 @@ launch team 1
 reply 'RPLY' result=LONG:3 error=LONG:0
 journal
 = 4 write fault, 0 left, 2 outcomes, 2 loopers, 2 ended
+jo= 5 thread fault, 0 left, 0 outcomes, 2 loopers, 2 ended
 ";
 
 #[test]
