@@ -25,6 +25,7 @@ pub mod Seeing
 pub mod Senders
 pub mod SendsTold
 pub mod SentOn
+pub mod Surface
 pub mod Shares
 pub mod Sums
 pub mod Wanting
