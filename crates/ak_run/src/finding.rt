@@ -1,12 +1,11 @@
 //! Look-ups of teams that run.
-ghost use Rattle.std.specs.Prelude.{◌≡◌, ◌<◌, ◌≤◌, ◌+◌, ◌^◌, length};
+ghost use Rattle.std.specs.Prelude.{◌≡◌, ◌<◌, ◌^◌};
 ghost use Rattle.ak_base.specs.Thread.{main_thread};
 ghost use Rattle.ak_roster.specs.Roster.{IsAtRest, last_stamp};
 ghost use Rattle.ak_describe.specs.Whole.{heads_of};
 ghost use Rattle.ak_run.specs.Doing.{DoesSo, IsStartedTeam};
 ghost use Rattle.ak_session.specs.Doing.{FoundSo};
 ghost use Rattle.ak_run.specs.Finding.{LooksUp};
-ghost use Rattle.ak_session.specs.Calls.{IsEntered, IsFoundAt};
 ghost use Rattle.ak_run.specs.Launching.{ByMain, IsTurnInTime};
 ghost use Rattle.ak_run.specs.Running.{IsRunning};
 ghost use Rattle.ak_run.specs.Sending.{looper_count};
@@ -17,8 +16,8 @@ use crate::run::Run;
 use ak_base::AppWord;
 use ak_looper::KeptDoor;
 use ak_roster::{FindAnswer, RosterBook};
-use ak_session::Found;
-use ak_turn::{Clock, Seat};
+use ak_session::{Found, found_at};
+use ak_turn::Clock;
 use std::sync::Wait;
 
 impl Run {
@@ -38,37 +37,6 @@ impl Run {
         let answer = look_up_at_turn(turn.book(), &mut self.hands.clock, word);
         turn.finish(&mut self.roster_seat);
         found_at(answer, &self.roster_seat)
-    }
-}
-
-/// The place of the last entry that the seat has seen.
-pub(crate) fn last_place(seat: &Seat<RosterBook<KeptDoor>>) -> u64
-    requires { 1 ≤ length seat.now.front }
-    ensures { length seat.now.front ≡ result + 1 }
-{
-    seat.seen() - 1
-}
-
-// What was found, by the last entry that the seat has seen.
-fn found_at(answer: FindAnswer, seat: &Seat<RosterBook<KeptDoor>>) -> Found
-    requires { IsEntered answer → 1 ≤ length seat.now.front }
-    ensures { IsFoundAt answer (length seat.now.front) result }
-{
-    match answer {
-        FindAnswer::Team {
-            team,
-            first,
-            loopers,
-        } => Found::Team {
-            team,
-            first,
-            loopers,
-            place: last_place(seat),
-        },
-        FindAnswer::NoTeam => Found::NoTeam {
-            place: last_place(seat),
-        },
-        FindAnswer::NoMemory => Found::NoMemory,
     }
 }
 

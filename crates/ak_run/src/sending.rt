@@ -5,27 +5,21 @@ ghost use Rattle.ak_flatten.specs.Item.{spelled};
 ghost use Rattle.ak_flatten.specs.Laws.{Spells};
 ghost use Rattle.ak_flatten.specs.Limits.{flat_limit};
 ghost use Rattle.ak_flatten.specs.Spelling.{spelling};
-ghost use Rattle.ak_port.specs.PortCalls.{HasAnswered};
 ghost use Rattle.ak_messenger.specs.Sends.{item_in, post_event};
-ghost use Rattle.ak_desk.specs.Shared as desks;
 ghost use Rattle.ak_run.specs.Doing.{AskedSo, DoesSo, PostedSo};
 ghost use Rattle.ak_session.specs.Doing.{EditedSo};
-ghost use Rattle.ak_run.specs.Doors.{KeepsSeats};
 ghost use Rattle.ak_run.specs.Recording.{fronts_of, list_at};
 ghost use Rattle.ak_run.specs.Running.{IsRunning};
 ghost use Rattle.ak_run.specs.Sending.{AnswersAtDesk, AnswersAtPort, AsksAt, looper_count};
-ghost use Rattle.ak_session.specs.Calls.{IsAtPlace, edited_event};
+ghost use Rattle.ak_session.specs.Calls.{edited_event};
 ghost use Rattle.ak_run.specs.Sessions.{sessions_of};
 
 use crate::run::Run;
-use ak_desk::{Edit, EditAnswer, edit_shared};
+use ak_desk::Edit;
 use ak_flatten::Duty;
-use ak_looper::Door;
 use ak_message::Message;
-use ak_messenger::{Envelope, Hands, Reply, SendFault, ask, post, post_at_turn};
-use ak_session::Edited;
-use ak_turn::Clock;
-use std::alloc::Global;
+use ak_messenger::{Envelope, Reply, SendFault, ask, post};
+use ak_session::{Edited, edit_through, post_through};
 use std::sync::Wait;
 
 impl Run {
@@ -94,7 +88,7 @@ impl Run {
     {
         let alloc = *self.members.allocator();
         let door = &mut self.members[looper as usize].door;
-        post_in_turn(alloc, rt, &mut self.hands, door, envelope, message)
+        post_through(alloc, rt, &mut self.hands, door, envelope, message)
     }
 
     /// Asks that looper, and waits for room and for the reply.
@@ -154,52 +148,4 @@ impl Run {
     {
         self.members[looper as usize].door.port_seat.seen()
     }
-}
-
-// Edits the handlers at the desk to which the door leads.
-fn edit_through<R: Wait>(rt: &R, clock: &mut Clock, door: &mut Door, edit: Edit) -> Edited
-    requires thread { door.old.desk_seat.thread ≡ clock.old.thread.0 }
-    ensures answered { desks.HasAnswered (edited_event edit result) clock.old clock.new door.old.desk_seat door.new.desk_seat }
-    ensures place { IsAtPlace result (length door.new.desk_seat.front) }
-    ensures desk { door.new.desk ≡ door.old.desk }
-    ensures port { door.new.port ≡ door.old.port }
-    ensures port_seat { door.new.port_seat ≡ door.old.port_seat }
-{
-    match edit_shared(&door.desk, rt, &mut door.desk_seat, clock, edit) {
-        EditAnswer::NoMemory => Edited::NoMemory,
-        answer => Edited::Entered {
-            answer,
-            place: door.desk_seat.seen() - 1,
-        },
-    }
-}
-
-// Posts in one turn at the port to which the door leads, with or without room.
-fn post_in_turn<R: Wait>(
-    alloc: Global,
-    rt: &R,
-    hands: &mut Hands,
-    door: &mut Door,
-    envelope: Envelope,
-    message: &Message,
-) -> Result<u64, SendFault>
-    requires thread { door.old.port_seat.thread ≡ hands.old.clock.thread.0 }
-    requires popped { envelope.popped ≤ specifier_count message.now.fields }
-    ensures answered { HasAnswered (post_event envelope message.now result) hands.old.clock hands.new.clock door.old.port_seat door.new.port_seat }
-    ensures too_long { IsErrOf result SendFault.TooLong ↔ (flat_limit < length (spelling message.now)) }
-    ensures door { KeepsSeats door.old door.new }
-    ensures book { hands.new.book ≡ hands.old.book }
-    ensures book_seat { hands.new.book_seat ≡ hands.old.book_seat }
-    ensures clock { hands.new.clock.thread ≡ hands.old.clock.thread }
-{
-    let turn = door.port.lock(rt, &mut door.port_seat);
-    hands.clock.ready(rt);
-    post_at_turn(
-        alloc,
-        &mut hands.clock,
-        turn,
-        &mut door.port_seat,
-        envelope,
-        message,
-    )
 }

@@ -1,17 +1,14 @@
 //! Edits of handlers.
-ghost use Rattle.std.specs.Prelude.{◌≡◌, ℕ, List, length};
+ghost use Rattle.std.specs.Prelude.{ℕ, List};
 ghost use Rattle.ak_roster.specs.declared.head.AppHead.{AppHead};
-ghost use Rattle.ak_desk.specs.Shared as desks;
 ghost use Rattle.ak_diary.specs.Step.{Step};
 ghost use Rattle.ak_session.specs.Doing.{EditedSo, EditsThrough};
-ghost use Rattle.ak_session.specs.Calls.{IsAtPlace, edited_event};
 ghost use Rattle.ak_session.specs.Stands.{GoesOn, IsStanding, KeepsSession, Stands};
 
 use crate::answers::Edited;
+use crate::door_calls::edit_through;
 use crate::session::Session;
-use ak_desk::{Edit, EditAnswer, edit_shared};
-use ak_looper::Door;
-use ak_turn::Clock;
+use ak_desk::Edit;
 use std::sync::Wait;
 
 impl Session {
@@ -27,22 +24,5 @@ impl Session {
             return Edited::NoMemory;
         };
         edit_through(rt, &mut self.hands.clock, &mut self.doors[place].1, edit)
-    }
-}
-
-// Edits the handlers at the desk to which the door leads.
-fn edit_through<R: Wait>(rt: &R, clock: &mut Clock, door: &mut Door, edit: Edit) -> Edited
-    requires thread { door.old.desk_seat.thread ≡ clock.old.thread.0 }
-    ensures answered { desks.HasAnswered (edited_event edit result) clock.old clock.new door.old.desk_seat door.new.desk_seat }
-    ensures place { IsAtPlace result (length door.new.desk_seat.front) }
-    ensures port_seat { door.new.port_seat ≡ door.old.port_seat }
-    ensures clock { clock.new.thread ≡ clock.old.thread }
-{
-    match edit_shared(&door.desk, rt, &mut door.desk_seat, clock, edit) {
-        EditAnswer::NoMemory => Edited::NoMemory,
-        answer => Edited::Entered {
-            answer,
-            place: door.desk_seat.seen() - 1,
-        },
     }
 }

@@ -61,8 +61,8 @@ fn look_up<R: Wait>(
     found
 }
 
-// What was found, by the last entry that the seat has seen.
-fn found_at(found: FindAnswer, seat: &Seat<RosterBook<KeptDoor>>) -> Found
+/// What was found, by the last entry that the seat has seen: a thread's own, of that look-up.
+pub fn found_at(found: FindAnswer, seat: &Seat<RosterBook<KeptDoor>>) -> Found
     requires { IsEntered found → 1 ≤ length seat.now.front }
     ensures { IsFoundAt found (length seat.now.front) result }
 {
@@ -84,8 +84,8 @@ fn found_at(found: FindAnswer, seat: &Seat<RosterBook<KeptDoor>>) -> Found
     }
 }
 
-// The place of the last entry that the seat has seen.
-fn last_place(seat: &Seat<RosterBook<KeptDoor>>) -> u64
+/// The place of the last entry that the seat at the roster has seen, counted from 0.
+pub fn last_place(seat: &Seat<RosterBook<KeptDoor>>) -> u64
     requires { 1 ≤ length seat.now.front }
     ensures { length seat.now.front ≡ result + 1 }
 {

@@ -1,23 +1,21 @@
 //! What a session sends.
-ghost use Rattle.std.specs.Prelude.{◌≡◌, ◌≤◌, ◌<◌, ◌⊎◌, ◌↔◌, ℕ, List, None, length, IfOk, IsErrOf};
+ghost use Rattle.std.specs.Prelude.{◌≡◌, ◌≤◌, ◌<◌, ◌⊎◌, ℕ, List, None, length, IfOk, IsErrOf};
 ghost use Rattle.ak_message.specs.Fields.{specifier_count};
 ghost use Rattle.ak_flatten.specs.Item.{spelled};
 ghost use Rattle.ak_flatten.specs.Laws.{Spells};
 ghost use Rattle.ak_flatten.specs.Limits.{flat_limit};
 ghost use Rattle.ak_flatten.specs.Spelling.{spelling};
-ghost use Rattle.ak_turn.specs.Called.{KeepsSeat};
 ghost use Rattle.ak_roster.specs.declared.head.AppHead.{AppHead};
-ghost use Rattle.ak_port.specs.PortCalls.{HasAnswered};
 ghost use Rattle.ak_messenger.specs.Sends.{item_in, post_event};
 ghost use Rattle.ak_diary.specs.Step.{Step};
 ghost use Rattle.ak_session.specs.Doing.{AskedSo, PostedSo, SendsThrough};
 ghost use Rattle.ak_session.specs.Stands.{GoesOn, IsStanding, KeepsSession, Stands, front_at};
 
+use crate::door_calls::post_through;
 use crate::session::Session;
 use ak_flatten::Duty;
-use ak_looper::Door;
 use ak_message::Message;
-use ak_messenger::{Envelope, Hands, Reply, SendFault, ask, post, post_at_turn};
+use ak_messenger::{Envelope, Reply, SendFault, ask, post};
 use std::alloc::Global;
 use std::sync::Wait;
 
@@ -107,37 +105,6 @@ impl Session {
     {
         let place = self.way_to(rt, looper)?;
         let door = &mut self.doors[place].1;
-        post_in_turn(alloc, rt, &mut self.hands, door, envelope, message)
+        post_through(alloc, rt, &mut self.hands, door, envelope, message)
     }
-}
-
-// Posts in one turn at the port to which the door leads, with or without room.
-fn post_in_turn<R: Wait>(
-    alloc: Global,
-    rt: &R,
-    hands: &mut Hands,
-    door: &mut Door,
-    envelope: Envelope,
-    message: &Message,
-) -> Result<u64, SendFault>
-    requires thread { door.old.port_seat.thread ≡ hands.old.clock.thread.0 }
-    requires popped { envelope.popped ≤ specifier_count message.now.fields }
-    ensures answered { HasAnswered (post_event envelope message.now result) hands.old.clock hands.new.clock door.old.port_seat door.new.port_seat }
-    ensures too_long { IsErrOf result SendFault.TooLong ↔ (flat_limit < length (spelling message.now)) }
-    ensures port_seat { KeepsSeat door.old.port_seat door.new.port_seat }
-    ensures desk_seat { door.new.desk_seat ≡ door.old.desk_seat }
-    ensures book { hands.new.book ≡ hands.old.book }
-    ensures book_seat { hands.new.book_seat ≡ hands.old.book_seat }
-    ensures clock { hands.new.clock.thread ≡ hands.old.clock.thread }
-{
-    let turn = door.port.lock(rt, &mut door.port_seat);
-    hands.clock.ready(rt);
-    post_at_turn(
-        alloc,
-        &mut hands.clock,
-        turn,
-        &mut door.port_seat,
-        envelope,
-        message,
-    )
 }

@@ -1,15 +1,18 @@
 -- Main posts to that looper in one turn, and the run goes on.
-use Rattle.std.proofs.Common.{refl, sym, ◌∙◌}
+use Rattle.std.proofs.Common.{refl, sym, ap, subst, ◌∙◌}
 use Rattle.std.proofs.lemmas.List.{length-set}
+use Rattle.ak_turn.specs.Called.{KeepsSeat}
+use Rattle.ak_turn.proofs.Surface.{keeps_itself}
 use Rattle.ak_messenger.specs.Sends.{post_event}
 use Rattle.ak_run.specs.Doing.{EnteredSo}
+use Rattle.ak_run.specs.Doors.{KeepsSeats}
 use Rattle.ak_run.proofs.Acting.{may_post}
 use Rattle.ak_run.proofs.Calls.{main_has, one_does, port_after, port_before, post_acts, post_goes}
 use Rattle.ak_run.proofs.GoingOn.{still_running}
 use Rattle.ak_run.proofs.run.Run.post_at_once.Goals as goal
 
-pub post_in_turn-requires-clause-thread : goal.post_in_turn-requires-clause-thread
-post_in_turn-requires-clause-thread g c =
+pub post_through-requires-clause-thread : goal.post_through-requires-clause-thread
+post_through-requires-clause-thread g c =
     let r = c.args.self.now in
     let running = c.requires.running in
     main_has _ running.heads r c.args.looper c.index_mut.result.now c.requires.there (sym c.index_mut.ensures.value) running.stands ∙ sym r.main
@@ -18,10 +21,10 @@ pub returns-clause-did : goal.returns-clause-did
 returns-clause-did g c =
     let r = c.args.self.now in
     let m = c.index_mut.result.now in
-    let e = post_event c.args.envelope c.args.message.now c.post_in_turn.result in
-    one_does r _ c.args.looper m _ c.requires.there (sym c.index_mut.ensures.value) refl refl (λ steps. EnteredSo c.args.looper _ steps e) c.post_in_turn.ensures.door.desk_front
+    let e = post_event c.args.envelope c.args.message.now c.post_through.result in
+    one_does r _ c.args.looper m _ c.requires.there (sym c.index_mut.ensures.value) refl refl (λ steps. EnteredSo c.args.looper _ steps e) (ap (λ s. s.front) c.post_through.ensures.desk_seat)
     (post_acts r _ c.args.looper m _ c.requires.there (sym c.index_mut.ensures.value) refl refl e (main_has _ c.requires.running.heads r c.args.looper m c.requires.there (sym c.index_mut.ensures.value) c.requires.running.stands)
-    (may_post c.args.envelope c.args.message.now c.post_in_turn.result) c.post_in_turn.ensures.answered c.post_in_turn.ensures.book_seat)
+    (may_post c.args.envelope c.args.message.now c.post_through.result) c.post_through.ensures.answered c.post_through.ensures.book_seat)
 
 pub returns-clause-answered : goal.returns-clause-answered
 returns-clause-answered g c =
@@ -29,19 +32,25 @@ returns-clause-answered g c =
     let m = c.index_mut.result.now in
     record {
       seat = m.door.port_seat;
-      seat' = c.post_in_turn.new.door.port_seat;
+      seat' = c.post_through.new.door.port_seat;
       before = port_before r c.args.looper m c.requires.there (sym c.index_mut.ensures.value);
       after = port_after r.members.items c.args.looper _ c.requires.there;
-      answered = c.post_in_turn.ensures.answered;
+      answered = c.post_through.ensures.answered;
     }
 
 pub returns-clause-running : goal.returns-clause-running
 returns-clause-running g c =
     let r = c.args.self.now in
     let m = c.index_mut.result.now in
-    let e = post_event c.args.envelope c.args.message.now c.post_in_turn.result in
+    let e = post_event c.args.envelope c.args.message.now c.post_through.result in
+    let sent = c.post_through.ensures in
+    let kept : KeepsSeats m.door c.post_through.new.door = record {
+      port = sent.port_seat;
+      desk = subst (KeepsSeat m.door.desk_seat) (sym sent.desk_seat) (keeps_itself m.door.desk_seat);
+      desk_front = ap (λ s. s.front) sent.desk_seat;
+    } in
     still_running r _ (post_goes r _ c.args.looper m _ c.requires.there (sym c.index_mut.ensures.value) refl refl e (main_has _ c.requires.running.heads r c.args.looper m c.requires.there (sym c.index_mut.ensures.value) c.requires.running.stands)
-    (may_post c.args.envelope c.args.message.now c.post_in_turn.result) c.post_in_turn.ensures.answered c.post_in_turn.ensures.book_seat c.post_in_turn.ensures.door refl (record { apps = refl; shared = refl; joined = refl; ports = refl; desks = refl; slots = refl })) c.requires.running
+    (may_post c.args.envelope c.args.message.now c.post_through.result) c.post_through.ensures.answered c.post_through.ensures.book_seat kept refl (record { apps = refl; shared = refl; joined = refl; ports = refl; desks = refl; slots = refl })) c.requires.running
 
 pub returns-clause-count : goal.returns-clause-count
 returns-clause-count g c = length-set c.args.self.now.members.items c.args.looper _

@@ -15,7 +15,7 @@ pub returns-clause-goes : goal.returns-clause-goes
 returns-clause-goes g c heads start so_far stands =
     let middle = c.way_to.new.self in
     let place = c.in_ok-place.place in
-    let sent = c.post_in_turn in
+    let sent = c.post_through in
     sends_by_door heads start so_far c.args.looper _ _ sent.result middle (c.in_ok-place.ensures.goes heads start so_far stands)
     (λ now at. posts_on heads start now middle _ c.args.looper place c.index_mut.result.now _ at refl c.in_ok-place.ensures.way.1 c.index_mut.ensures.value refl refl sent.ensures.desk_seat (post_event c.args.envelope c.args.message.now sent.result) sent.ensures.book_seat sent.ensures.answered)
 

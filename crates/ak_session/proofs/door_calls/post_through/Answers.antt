@@ -3,7 +3,7 @@ use Rattle.ak_messenger.specs.Sends.{post_event}
 use Rattle.ak_port.specs.PortCalls.{by_number}
 use Rattle.ak_port.proofs.Surface.{answered_at_turn}
 use Rattle.ak_turn.proofs.Surface.{turn_keeps}
-use Rattle.ak_session.proofs.sending.post_in_turn.Goals as goal
+use Rattle.ak_session.proofs.door_calls.post_through.Goals as goal
 
 pub returns-clause-answered : goal.returns-clause-answered
 returns-clause-answered g c =
