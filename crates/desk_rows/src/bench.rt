@@ -3,7 +3,6 @@
 ghost use Rattle.std.specs.Prelude.{◌≡◌, ◌+◌, None, IfOk, IfSome};
 ghost use Rattle.ak_base.specs.Thread.{looper_thread};
 
-use crate::conditions::fits;
 use crate::place::{Place, place_of};
 use ak_action::LooperPlan;
 use ak_base::{Items, NoMemory, Text, ThreadId};
@@ -11,6 +10,7 @@ use ak_describe::{AppText, DescribeFault, read_description};
 use ak_desk::Desk;
 use ak_message::{InputLines, LinesFault, split_lines};
 use ak_turn::Clock;
+use run_lists::fits_place;
 use std::alloc::Global;
 
 /// A desk with the clock of its looper's own thread.
@@ -100,7 +100,7 @@ fn desk_of(
     ensures { IfOk result (λ bench. IfSome bench (λ b. b.desk.begun ≡ None)) }
 {
     let Place { team, first, .. } = place;
-    if !fits(&plan, first, at, names.as_slice()) {
+    if !fits_place(&plan, first, at, names.as_slice()) {
         return Ok(None);
     }
     let looper = first + at as u32;

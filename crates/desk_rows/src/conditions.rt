@@ -1,70 +1,19 @@
 //! What the calls of a desk ask of their caller, tested while a row is carried out.
 
-ghost use Rattle.std.specs.Prelude.{◌≡◌, ◌≢◌, ◌+◌, ◌-◌, ◌<◌, ◌≤◌, ◌^◌, ◌||◌, Some, length, AllPairs, IsTrue, IfOk, OnOk, slice_get};
+ghost use Rattle.std.specs.Prelude.{◌≡◌, ◌-◌, ◌<◌, ◌^◌, ◌||◌, IsTrue, IfOk, OnOk};
 ghost use Rattle.ak_action.specs.Interp.{AnswersFind};
-ghost use Rattle.ak_action.specs.Opening.{FitsPlace, contains};
 ghost use Rattle.ak_desk.specs.Desk.{stamp_in, DeskAwaits, DeskMayWant, DeskTakes};
 ghost use Rattle.ak_desk.specs.Machine.{counted, dispatches, gave_up, gives_up};
 ghost use Rattle.ak_desk.specs.Answering.{AnswersAsk, AnswersForward, AnswersPost};
 
 use crate::stop::Stop;
-use ak_action::{Answer, LooperPlan, Want};
-use ak_base::{NoMemory, Text};
+use ak_action::{Answer, Want};
+use ak_base::NoMemory;
 use ak_desk::{Desk, DeskEvent, EntryRoute};
 use ak_flatten::{flatten, unflatten};
 use ak_message::Message;
 use ak_turn::{Book, Clock};
 use std::alloc::Global;
-
-// ---- the opening
-/// Whether the plan is that of the looper at that place among these, of which the first one has that number.
-#[tactic(auto, using(crate::proofs::Fitting::fitting))]
-pub(crate) fn fits(plan: &LooperPlan, first: u32, at: usize, names: &[Text]) -> bool
-    ensures place { IsTrue result → FitsPlace plan.now (first + at) first names.now }
-    ensures at { IsTrue result → at < 8 }
-    ensures first { IsTrue result → first ≤ 32 }
-{
-    are_few(first, names) && is_named(plan, at, names) && differ(names) && plan.knows_loopers(names)
-}
-
-fn are_few(first: u32, names: &[Text]) -> bool
-    ensures some { IsTrue result → length names.now ≤ 8 }
-    ensures numbers { IsTrue result → first + length names.now ≤ 32 }
-{
-    names.len() <= 8 && first <= 32 && first as usize + names.len() <= 32
-}
-
-fn is_named(plan: &LooperPlan, at: usize, names: &[Text]) -> bool
-    ensures named { IsTrue result → slice_get names.now at ≡ Some plan.now.name }
-    ensures within { IsTrue result → at < length names.now }
-{
-    match names.get(at) {
-        Some(name) => is_same(name, &plan.parts().name),
-        None => false,
-    }
-}
-
-#[tactic(auto, using(crate::proofs::Fitting::sameness))]
-fn is_same(name: &Text, other: &Text) -> bool
-    ensures { IsTrue result → name.now ≡ other.now }
-{
-    name.as_bytes() == other.as_bytes()
-}
-
-fn differ(names: &[Text]) -> bool
-    ensures { IsTrue result → AllPairs (λ a b. a ≢ b) names.now }
-{
-    match names {
-        [] => true,
-        [name, rest @ ..] => !contains(rest, name.as_bytes()) && differ(rest),
-    }
-}
-
-fn contains(names: &[Text], name: &[u8]) -> bool
-    ensures { result ≡ contains names.now name.now }
-{
-    names.iter().any(|other| other.as_bytes() == name)
-}
 
 // ---- the list
 /// Whether there are stamps left.

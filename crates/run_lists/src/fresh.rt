@@ -1,11 +1,12 @@
 //! A desk as it was before anything was done on it.
 
-ghost use Rattle.std.specs.Prelude.{◌≡◌, ◌≢◌, ◌+◌, ◌≤◌, None, Some, length, AllPairs, IsTrue, IfOk, IfSome, slice_get};
-ghost use Rattle.ak_action.specs.Opening.{FitsPlace, contains};
+ghost use Rattle.std.specs.Prelude.{◌≡◌, ◌+◌, ◌<◌, ◌≤◌, None, IfOk, IfSome};
+ghost use Rattle.ak_action.specs.Opening.{FitsPlace};
 ghost use Rattle.ak_base.specs.Thread.{looper_thread};
 ghost use Rattle.ak_desk.specs.Machine.{dispatches};
 
 use crate::openings::Opening;
+use crate::place::fits_place;
 use ak_action::{DeskState, LooperPlan};
 use ak_base::{Items, NoMemory, Text, ThreadId};
 use ak_desk::Desk;
@@ -40,7 +41,7 @@ pub(crate) fn fresh(
         return Ok(None);
     };
     let names = names_of(alloc, opening.plans)?;
-    if !fits(plan, opening.first, opening.at, &names) {
+    if !fits_place(plan, opening.first, opening.at, &names) {
         return Ok(None);
     }
     desk_of(alloc, plan, opening, Items::from_vec(names))
@@ -61,7 +62,7 @@ fn desk_of(
     names: Items<Text>,
 ) -> Result<Option<Again>, NoMemory>
     requires fits { FitsPlace plan.now (opening.now.first + opening.now.at) opening.now.first names }
-    requires at { opening.now.at ≤ 8 }
+    requires at { opening.now.at < 8 }
     requires first { opening.now.first ≤ 32 }
     ensures { IfOk result (λ again. IfSome again (λ a. a.desk.begun ≡ None)) }
 {
@@ -80,54 +81,4 @@ fn desk_of(
         },
         count: 0,
     }))
-}
-
-// ---- what a new desk asks of its caller
-// Whether the plan is that of the looper at that place among these, of which the first one has that number.
-#[tactic(auto, using(crate::proofs::Fitting::fitting))]
-fn fits(plan: &LooperPlan, first: u32, at: usize, names: &[Text]) -> bool
-    ensures place { IsTrue result → FitsPlace plan.now (first + at) first names.now }
-    ensures at { IsTrue result → at ≤ 8 }
-    ensures first { IsTrue result → first ≤ 32 }
-{
-    are_few(first, names) && is_named(plan, at, names) && differ(names) && plan.knows_loopers(names)
-}
-
-fn are_few(first: u32, names: &[Text]) -> bool
-    ensures some { IsTrue result → length names.now ≤ 8 }
-    ensures numbers { IsTrue result → first + length names.now ≤ 32 }
-{
-    names.len() <= 8 && first <= 32 && first as usize + names.len() <= 32
-}
-
-fn is_named(plan: &LooperPlan, at: usize, names: &[Text]) -> bool
-    ensures named { IsTrue result → slice_get names.now at ≡ Some plan.now.name }
-    ensures within { IsTrue result → at + 1 ≤ length names.now }
-{
-    match names.get(at) {
-        Some(name) => is_same(name, &plan.parts().name),
-        None => false,
-    }
-}
-
-#[tactic(auto, using(crate::proofs::Fitting::sameness))]
-fn is_same(name: &Text, other: &Text) -> bool
-    ensures { IsTrue result → name.now ≡ other.now }
-{
-    name.as_bytes() == other.as_bytes()
-}
-
-fn differ(names: &[Text]) -> bool
-    ensures { IsTrue result → AllPairs (λ a b. a ≢ b) names.now }
-{
-    match names {
-        [] => true,
-        [name, rest @ ..] => !contains(rest, name.as_bytes()) && differ(rest),
-    }
-}
-
-fn contains(names: &[Text], name: &[u8]) -> bool
-    ensures { result ≡ contains names.now name.now }
-{
-    names.iter().any(|other| other.as_bytes() == name)
 }

@@ -1,6 +1,0 @@
--- Each name is looked at once.
-use Rattle.std.proofs.Common.{length}
-use Rattle.run_lists.proofs.fresh.+differ.Given as goal
-
-abbrev pub decreases-differ : goal.decreases-differ
-decreases-differ l = length l.names.now
