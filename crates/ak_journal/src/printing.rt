@@ -19,6 +19,9 @@ use port::put_port;
 use roster::put_roster;
 use std::alloc::Global;
 
+// Most lines have room in so many bytes, so that they are made without growing.
+const LINE: usize = 256;
+
 /// Adds the line of the entry, without its end: the stamp, the thread, the object and what was done there, as
 /// words behind single blanks (`docs/formats.md`, Journal lines). An `Err` changes nothing. `NoMemory` where
 /// memory ran out.
@@ -26,7 +29,7 @@ pub fn print_entry(alloc: Global, entry: &Entry, out: &mut Bytes) -> Result<(), 
     ensures ok { OnOk result (out.new ≡ out.old ++ entry_line entry.now) }
     ensures err { OnErr result (out.new ≡ out.old) }
 {
-    let mut line = Bytes::new(alloc);
+    let mut line = Bytes::with_capacity(alloc, LINE)?;
     put_entry(alloc, &mut line, entry)?;
     out.extend(line.as_slice())
 }
