@@ -5,4 +5,5 @@ pub use Rattle.ak_headline.proofs.Owing.{told_none, told_some}
 pub use Rattle.ak_headline.proofs.OwnWants.{IsNoForward, IsReplied, has_reply, wants_are_own}
 pub use Rattle.ak_headline.proofs.Paying.{short_left, short_right}
 pub use Rattle.ak_headline.proofs.Replies.{is_short}
+pub use Rattle.ak_headline.proofs.Senders.{accepted_there}
 pub use Rattle.ak_headline.proofs.Wanting.{IsOwnWant}

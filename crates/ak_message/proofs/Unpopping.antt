@@ -7,7 +7,7 @@ use Rattle.ak_message.specs.declared.kind.Kind.{Kind}
 use Rattle.ak_message.specs.Fields.{IsField, IsMessage}
 use Rattle.ak_message.specs.Kind.{kind_letters}
 use Rattle.ak_message.specs.Message.{ValueData, bool_value, int8_value, int16_value, int32_value, int64_value, uint8_value, uint16_value, uint32_value, uint64_value, text_value, message_value, messenger_value, raw_value, NestedValues, no_values, then_value, NestedFields, no_fields, then_field, FieldData, MessageData, kind_of, depth_of, depth_of_value, depth_of_nested_values, depth_of_nested_fields, nested_values, nested_fields, listed_values, listed_fields, message_of_nested}
-use Rattle.ak_message.specs.MessageText.{payload_text, more_values_text, nested_values_text, nested_fields_text, field_texts, message_words}
+use Rattle.ak_message.specs.MessageText.{payload_text, more_values_text, nested_values_text, nested_fields_text, message_text, field_texts, message_words}
 use Rattle.ak_message.specs.Popped.{IsUnpoppedValue, AreUnpoppedValues, AreUnpoppedFields, IsUnpopped, unpopped_value, unpopped_values, unpopped_fields, unpopped_field, unpopped}
 use Rattle.ak_message.specs.Whole.{FitsValue, FitsValues, FitsFields, IsWhole}
 
@@ -159,7 +159,6 @@ pub is_unpopped : (m : MessageData) → IsUnpopped (unpopped m)
 is_unpopped m = (refl, subst AreUnpoppedFields (sym (nested-unpopped_fields m.fields)) (are_unpopped_fields (nested_fields m.fields)))
 
 -- ---- the text
-
 abbrev value_of_text : Kind → List ℕ → List ℕ
 value_of_text kind payload = kind_letters kind ++ 58 ∷ payload
 
@@ -198,3 +197,7 @@ texts-unpopped (then_field name kind vs fs) = λ i. (name ++ 61 ∷ values_text-
 pub words-unpopped : (m : MessageData) → message_words (unpopped m) ≡ message_words m
 words-unpopped m =
     ap (λ (fs : NestedFields). code_text m.what ∷ field_texts fs) (nested-unpopped_fields m.fields) ∙ ap (λ (ts : List (List ℕ)). code_text m.what ∷ ts) (texts-unpopped (nested_fields m.fields))
+
+pub text-unpopped : (m : MessageData) → message_text (unpopped m) ≡ message_text m
+text-unpopped m =
+    ap (λ (t : List ℕ). code_text m.what ++ t) (ap nested_fields_text (nested-unpopped_fields m.fields) ∙ fields_text-unpopped (nested_fields m.fields))

@@ -26,7 +26,7 @@ use Rattle.ak_diary.specs.Wants.{Converses}
 use Rattle.ak_headline.specs.Answers.{GotOneReply, IsAccepted}
 use Rattle.ak_headline.specs.Headline.{EachGotOneReply}
 use Rattle.ak_headline.specs.Run.{HasDone, port_list}
-use Rattle.ak_headline.proofs.Senders.{accepted_there}
+use Rattle.ak_headline.proofs.Surface.{accepted_there}
 use Rattle.ak_script.specs.declared.statement.SessionLine.{SessionLine}
 use Rattle.ak_script.specs.declared.statement.SessionLine.TheVariants as line
 use Rattle.ak_script.specs.declared.statement.SessionLines.{SessionLines}

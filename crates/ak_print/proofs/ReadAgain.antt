@@ -1,21 +1,18 @@
 -- What is printed of a message is read back from those bytes, and from no others.
-use Rattle.std.proofs.Common.{◌≡◌, ℕ, List, [], ◌∷◌, ◌++◌, Option, Some, None, refl, sym, ap, subst, ◌∙◌}
+use Rattle.std.proofs.Common.{◌≡◌, ℕ, List, Option, Some, None, refl, sym, ap, subst, ◌∙◌}
 use Rattle.std.proofs.lemmas.Option.{none-some, same_Some}
 use Rattle.std.specs.Prelude.{option_map}
-use Rattle.ak_base.specs.Code.{code_text}
 use Rattle.ak_base.specs.declared.limited.Limited.{Limited}
 use Rattle.ak_base.specs.declared.limited.Limited.TheVariants.{Within}
-use Rattle.ak_message.specs.declared.kind.Kind.{Kind}
-use Rattle.ak_message.specs.Kind.{kind_letters}
 use Rattle.ak_message.specs.Laws.{PrintedValuesAreRead}
-use Rattle.ak_message.specs.Message.{ValueData, bool_value, int8_value, int16_value, int32_value, int64_value, uint8_value, uint16_value, uint32_value, uint64_value, text_value, message_value, messenger_value, raw_value, NestedValues, no_values, then_value, NestedFields, no_fields, then_field, MessageData, kind_of, nested_fields, value_of_message, message_of_nested}
+use Rattle.ak_message.specs.Message.{ValueData, MessageData, nested_fields, value_of_message, message_of_nested}
 use Rattle.ak_message.specs.MessageCode.{listed_fields-nested}
-use Rattle.ak_message.specs.MessageText.{payload_text, more_values_text, nested_values_text, nested_fields_text, message_text, value_text}
-use Rattle.ak_message.specs.Popped.{unpopped_value, unpopped_values, unpopped_fields, unpopped}
+use Rattle.ak_message.specs.MessageText.{message_text, value_text}
+use Rattle.ak_message.specs.Popped.{unpopped}
 use Rattle.ak_message.specs.Reading.{read_value}
 use Rattle.ak_message.specs.Whole.{FitsValue, IsWhole}
 use Rattle.ak_message.specs.Fields.{IsMessage}
-use Rattle.ak_message.proofs.Surface.{is_unpopped, nested-unpopped_fields, whole-unpopped}
+use Rattle.ak_message.proofs.Surface.{is_unpopped, text-unpopped, whole-unpopped}
 use Rattle.ak_print.specs.Reading.{IsPrintedOf, in_braces, message_among}
 
 -- ---- a message as a value
@@ -31,56 +28,6 @@ text-value : (m : MessageData) → value_text (value_of_message m) ≡ in_braces
 text-value m = refl
 
 -- ---- the text does not tell what is popped
-kind-unpopped : (v : ValueData) → kind_of (unpopped_value v) ≡ kind_of v
-kind-unpopped (bool_value x) = refl
-kind-unpopped (int8_value x) = refl
-kind-unpopped (int16_value x) = refl
-kind-unpopped (int32_value x) = refl
-kind-unpopped (int64_value x) = refl
-kind-unpopped (uint8_value x) = refl
-kind-unpopped (uint16_value x) = refl
-kind-unpopped (uint32_value x) = refl
-kind-unpopped (uint64_value x) = refl
-kind-unpopped (text_value x) = refl
-kind-unpopped (message_value what fs popped) = refl
-kind-unpopped (messenger_value x) = refl
-kind-unpopped (raw_value x) = refl
-
-abbrev value_of_text : Kind → List ℕ → List ℕ
-value_of_text kind payload = kind_letters kind ++ 58 ∷ payload
-
-mutual
-  payload-unpopped : (v : ValueData) → payload_text (unpopped_value v) ≡ payload_text v
-  payload-unpopped (bool_value x) = refl
-  payload-unpopped (int8_value x) = refl
-  payload-unpopped (int16_value x) = refl
-  payload-unpopped (int32_value x) = refl
-  payload-unpopped (int64_value x) = refl
-  payload-unpopped (uint8_value x) = refl
-  payload-unpopped (uint16_value x) = refl
-  payload-unpopped (uint32_value x) = refl
-  payload-unpopped (uint64_value x) = refl
-  payload-unpopped (text_value x) = refl
-  payload-unpopped (message_value what fs popped) = ap (λ (t : List ℕ). 123 ∷ code_text what ++ t ++ 125 ∷ []) (fields_text-unpopped fs)
-  payload-unpopped (messenger_value x) = refl
-  payload-unpopped (raw_value x) = refl
-
-  more-unpopped : (vs : NestedValues) → more_values_text (unpopped_values vs) ≡ more_values_text vs
-  more-unpopped no_values = refl
-  more-unpopped (then_value v vs) = λ i. 44 ∷ value_of_text (kind-unpopped v i) (payload-unpopped v i) ++ more-unpopped vs i
-
-  values_text-unpopped : (vs : NestedValues) → nested_values_text (unpopped_values vs) ≡ nested_values_text vs
-  values_text-unpopped no_values = refl
-  values_text-unpopped (then_value v vs) = λ i. value_of_text (kind-unpopped v i) (payload-unpopped v i) ++ more-unpopped vs i
-
-  fields_text-unpopped : (fs : NestedFields) → nested_fields_text (unpopped_fields fs) ≡ nested_fields_text fs
-  fields_text-unpopped no_fields = refl
-  fields_text-unpopped (then_field name kind vs fs) = λ i. 32 ∷ name ++ 61 ∷ values_text-unpopped vs i ++ fields_text-unpopped fs i
-
-text-unpopped : (m : MessageData) → message_text (unpopped m) ≡ message_text m
-text-unpopped m =
-    ap (λ (t : List ℕ). code_text m.what ++ t) (ap nested_fields_text (nested-unpopped_fields m.fields) ∙ fields_text-unpopped (nested_fields m.fields))
-
 unpopped_is_printed : (m : MessageData) (text : List ℕ) → IsWhole m → message_text m ≡ text → IsPrintedOf (unpopped m) text
 unpopped_is_printed m text whole is = record { printed = text-unpopped m ∙ is; whole = whole-unpopped m whole; unpopped = is_unpopped m }
 

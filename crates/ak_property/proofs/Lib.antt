@@ -1,3 +1,4 @@
 pub mod Firsts
 pub mod Rows
 pub mod Texts
+pub mod Surface

@@ -18,7 +18,7 @@ use Rattle.ak_action.specs.Plan.{IsPlan}
 use Rattle.ak_roster.specs.declared.head.AppHead.{AppHead}
 use Rattle.ak_describe.specs.declared.described.AppText.{AppText}
 use Rattle.ak_describe.specs.Whole.{ActionGoesOn, AreWholeApps, IsWholeApp, ReactionGoesOn, RowGoesOn, head_of, heads_of, looper_names}
-use Rattle.ak_describe.proofs.ground.Places.{all_there}
+use Rattle.ak_describe.proofs.Surface.{all_there}
 use Rattle.ak_script.specs.Generated.{app, bare_row, counting_row, counts_up, looper, loopers, no_error}
 
 -- ---- lists of one to four

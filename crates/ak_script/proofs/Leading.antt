@@ -12,11 +12,7 @@ use Rattle.ak_describe.specs.Pass.{State, Refusal, nothing_read, then_read, or_r
 use Rattle.ak_describe.specs.Read.{lines_read, end_fault, fault_of}
 use Rattle.ak_describe.specs.Says.{IsComplete}
 use Rattle.ak_describe.specs.Words.{behind, texts}
-use Rattle.ak_describe.proofs.ground.Ends.{last_none}
-use Rattle.ak_describe.proofs.lines.Keeping.{nothing_fits}
-use Rattle.ak_describe.proofs.lines.Passing.{follow_read}
-use Rattle.ak_describe.proofs.lines.Reading.{adds_fits, line_adds}
-use Rattle.ak_describe.proofs.lines.Standing.{StateFits, complete_is}
+use Rattle.ak_describe.proofs.Surface.{StateFits, adds_fits, complete_is, follow_read, last_none, line_adds, nothing_fits}
 use Rattle.ak_script.specs.declared.part.Part.TheVariants as part
 use Rattle.ak_script.specs.Blocks.{Block, new_block, with_begun, closed, is_bare, session_begun}
 use Rattle.ak_script.specs.Limits.{session_limit, statement_limit}

@@ -18,10 +18,7 @@ use Rattle.ak_describe.specs.Laws.{DescribedIsRead, FirstFaultIsTold, GoesLineBy
 use Rattle.ak_describe.specs.Pass.{State, Refusal, nothing_read, then_read, or_refused, last_item, may_open_app, number_behind}
 use Rattle.ak_describe.specs.Read.{lines_read, end_fault, number_of, unfinished_behind}
 use Rattle.ak_describe.specs.Says.{IsComplete}
-use Rattle.ak_describe.proofs.ground.Ends.{last_none}
-use Rattle.ak_describe.proofs.lines.Keeping.{nothing_fits}
-use Rattle.ak_describe.proofs.lines.Passing.{fault_read, told_of}
-use Rattle.ak_describe.proofs.lines.Standing.{complete_is}
+use Rattle.ak_describe.proofs.Surface.{complete_is, fault_read, last_none, nothing_fits, told_of}
 use Rattle.ak_script.specs.declared.fault.ScriptFault.{ScriptFault}
 use Rattle.ak_script.specs.declared.fault.ScriptFault.TheVariants as answers
 use Rattle.ak_script.specs.declared.part.Part.{Part}

@@ -12,7 +12,7 @@ use Rattle.ak_message.specs.declared.lines.InputLines.{InputLines}
 use Rattle.ak_message.specs.declared.lines.LineFault.{LineFault}
 use Rattle.ak_message.specs.Lines.{is_silent, lines_from, pieces_of, with_line}
 use Rattle.ak_message.specs.Words.{IsLine, line_words, words_from, words_or_fault}
-use Rattle.ak_message.proofs.WordLaws.{line_again, line_takes}
+use Rattle.ak_message.proofs.Surface.{line_again, line_takes}
 use Rattle.ak_script.specs.InputLines.{HasNoWords, AreLines, AreLinesOf, LinesAreSplit}
 
 -- ---- the words of a line

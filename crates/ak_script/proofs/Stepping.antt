@@ -13,8 +13,7 @@ use Rattle.ak_describe.specs.Describes.{Adds, Follow}
 use Rattle.ak_describe.specs.Pass.{State, nothing_read, read_line, may_open_app}
 use Rattle.ak_describe.specs.Says.{IsComplete}
 use Rattle.ak_describe.specs.Words.{behind, ends, texts}
-use Rattle.ak_describe.proofs.lines.Reading.{Outcome, is_faulty, is_added, outcome}
-use Rattle.ak_describe.proofs.lines.Standing.{StateFits, complete_is}
+use Rattle.ak_describe.proofs.Surface.{Outcome, StateFits, complete_is, is_added, is_faulty, outcome}
 use Rattle.ak_hey.specs.Grammar.{IsHey}
 use Rattle.ak_script.specs.Blocks.{new_block, with_begun, closed, is_bare}
 use Rattle.ak_script.specs.Faulty.{Key, kit_key, script_key, launch_key, hey_key, post_key, lock_key, together_key, session_key, end_key, word_of, IsStatementKey, IsSessionKey, AreOfForm, Opens, IsUnknown, HasFault, StatementFaultsAreTold}

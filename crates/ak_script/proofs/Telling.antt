@@ -12,8 +12,7 @@ use Rattle.ak_describe.specs.Pass.{State, Refusal, nothing_read, then_read, at_l
 use Rattle.ak_describe.specs.Read.{lines_read}
 use Rattle.ak_describe.specs.Says.{IsComplete}
 use Rattle.ak_describe.specs.Words.{behind, ends, texts}
-use Rattle.ak_describe.proofs.lines.Reading.{line_faults}
-use Rattle.ak_describe.proofs.lines.Standing.{StateFits, complete_is}
+use Rattle.ak_describe.proofs.Surface.{StateFits, complete_is, line_faults}
 use Rattle.ak_script.specs.declared.part.Part.TheVariants as part
 use Rattle.ak_script.specs.Blocks as blocks
 use Rattle.ak_script.specs.Blocks.{Block, with_begun, closed, is_bare, has_line, session_begun}

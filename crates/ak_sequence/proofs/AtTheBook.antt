@@ -3,7 +3,7 @@ use Rattle.std.proofs.Common.{◌≡◌, ◌≢◌, ◌∙◌, ℕ, Bool, true, 
 use Rattle.ak_port.specs.declared.reply_entry.ReplyEvent.{ReplyEvent}
 use Rattle.ak_port.specs.declared.reply_entry.ReplyEvent.TheVariants as slot
 use Rattle.ak_port.specs.Reply.{BookStep, SlotData, cancelled_stage, changed, filled_stage, open_stage, slot_of, taken_stage}
-use Rattle.ak_port.proofs.ReplySlots.{get_last}
+use Rattle.ak_port.proofs.Surface.{get_last}
 use Rattle.ak_action.specs.declared.state.DeskState.{DeskState}
 use Rattle.ak_journal.specs.declared.entry.Event.TheVariants as event
 use Rattle.ak_journal.specs.declared.entry.ObjectName.TheVariants as object

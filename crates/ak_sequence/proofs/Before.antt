@@ -21,7 +21,7 @@ use Rattle.ak_world.specs.Merged.{thread_of}
 use Rattle.ak_world.specs.World.{World, WorldRun, WorldStep, first_world}
 use Rattle.ak_sequence.specs.Places.{HasStage, IsSound}
 use Rattle.ak_sequence.specs.Worlds.{DispatchesAt, FillsSlot, IsDispatchedAfterWritten, IsTakenAfterFilled, OfWorlds, WritesAt}
-use Rattle.ak_port.proofs.ReplySlots.{get_push, get_staged}
+use Rattle.ak_port.proofs.Surface.{get_push, get_staged}
 use Rattle.ak_sequence.proofs.Lots.{Holds, Lot, holds_of, lot, undispatched}
 use Rattle.ak_sequence.proofs.Stages.{filled_not_cancelled, filled_not_taken, open_not_filled, stage_on}
 use Rattle.ak_sequence.proofs.Holds.{first_of_hand, hand_unrested}

@@ -9,7 +9,7 @@ use Rattle.ak_journal.specs.declared.entry.Entry.{Entry}
 use Rattle.ak_world.specs.World.{World}
 use Rattle.ak_sequence.specs.Places.{Accepts, HoldsInOrder, IsAt, IsOpen, IsSound, IsWritten, Place, looper_of, position_of}
 use Rattle.ak_sequence.specs.Worlds.{WritesSlot}
-use Rattle.ak_port.proofs.ReplySlots.{get_left, get_push}
+use Rattle.ak_port.proofs.Surface.{get_left, get_push}
 use Rattle.ak_sequence.proofs.Parts.{Comes, stays}
 use Rattle.ak_sequence.proofs.Lots.{Changes, Here, Holds, Lot, Sits, at_hand, due, here_of, holds_of, in_order_of, is_at, lot, place_is, place_of, put_by, sits, waiting}
 use Rattle.ak_sequence.proofs.Keeping.{KeepsItems}

@@ -8,8 +8,7 @@ use Rattle.ak_flatten.specs.Item.{ItemData}
 use Rattle.ak_port.specs.PortMachine.{numbered, pending_count, pending_items}
 use Rattle.ak_world.specs.World.{Held, Owed, held, settled}
 use Rattle.ak_sequence.specs.Places.{taken_of}
-use Rattle.ak_port.proofs.PortItems.{numbered-append}
-use Rattle.ak_port.proofs.Surface.{take-numbered}
+use Rattle.ak_port.proofs.Surface.{numbered-append, take-numbered}
 use Rattle.ak_sequence.proofs.Lots.{Holds, Lot, undispatched}
 
 -- ---- what the steps make of a lot

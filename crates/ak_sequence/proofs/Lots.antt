@@ -7,7 +7,7 @@ use Rattle.ak_flatten.specs.Item.{ItemData}
 use Rattle.ak_port.specs.PortMachine.{PortState, numbered, taken_items}
 use Rattle.ak_world.specs.World.{DeskPlace, Held, Owed, Work, World, put}
 use Rattle.ak_sequence.specs.Places.{HoldsInOrder, IsAmong, IsAt, Place, in_hand, left_over, looper_of, owed, pending, position_of, taken_of}
-use Rattle.ak_port.proofs.PortItems.{drop-numbered}
+use Rattle.ak_port.proofs.Surface.{drop-numbered}
 
 -- ---- a looper's lot
 pub record Lot : Type 0 where

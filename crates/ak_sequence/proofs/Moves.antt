@@ -12,8 +12,7 @@ use Rattle.ak_flatten.specs.Item.{ItemData}
 use Rattle.ak_port.specs.PortMachine.{numbered, pending_count, pending_items}
 use Rattle.ak_world.specs.World.{Held, Owed, held, owed_for}
 use Rattle.ak_sequence.specs.Places.{taken_of}
-use Rattle.ak_port.proofs.Surface.{take-numbered}
-use Rattle.ak_port.proofs.ReplySlots.{get_last, get_left, get_push}
+use Rattle.ak_port.proofs.Surface.{get_last, get_left, get_push, take-numbered}
 use Rattle.ak_sequence.proofs.Lots.{Amid, Here, Holds, IsDue, Lot, Sits, at_hand, due, put_by, undispatched, waiting}
 use Rattle.ak_sequence.proofs.Amid.{Among, amid_either, amid_handed, amid_left, amid_one, amid_right, amid_settled, amid_unsettled, amid_within, get_drop, get_take, get_taken, handed_amid}
 use Rattle.ak_sequence.proofs.Holds.{after_dispatch, after_left, after_paid, after_rest, after_sent, after_took, after_wrote, first_of_hand, hand_unrested}

@@ -6,7 +6,7 @@ use Rattle.std.proofs.lemmas.Option.{slice_get_within}
 use Rattle.ak_port.specs.Reply.{SlotData, Stage, cancelled_stage, filled_stage, open_stage, slot_of, taken_stage, with_stage}
 use Rattle.ak_world.specs.World.{World}
 use Rattle.ak_sequence.specs.Places.{HasStage, IsAt, IsOpen, IsSound, IsWritten, Place}
-use Rattle.ak_port.proofs.ReplySlots.{get_left, get_other, get_push, get_same, get_staged}
+use Rattle.ak_port.proofs.Surface.{get_left, get_other, get_push, get_same, get_staged}
 use Rattle.ak_sequence.proofs.Stages.{open_not_cancelled, open_not_filled, open_not_taken, stage_on, stages_same}
 use Rattle.ak_sequence.proofs.Keeping.{KeepsSlots}
 

@@ -12,7 +12,7 @@ use Rattle.ak_journal.specs.declared.entry.Event.TheVariants as event
 use Rattle.ak_world.specs.World.{BookMove, IsUnwritten, Objects, PaysLeft, PaysOwed, WorkAtBook, World}
 use Rattle.ak_sequence.specs.Places.{HasStage, IsAt, IsOpen, IsSound, IsWritten, Place, left_over, owed}
 use Rattle.ak_sequence.specs.Worlds.{WritesSlot}
-use Rattle.ak_port.proofs.ReplySlots.{get_same}
+use Rattle.ak_port.proofs.Surface.{get_same}
 use Rattle.ak_sequence.proofs.Lots.{Changes, Holds, Lot, changes_none, changes_work, due, holds_of, is_at, lot, put_by}
 use Rattle.ak_sequence.proofs.Amid.{slots_same as duties_same}
 use Rattle.ak_sequence.proofs.Holds.{after_left, after_paid, left_holds, paid_holds}

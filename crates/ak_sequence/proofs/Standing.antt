@@ -9,7 +9,7 @@ use Rattle.ak_flatten.specs.Item.{ItemData}
 use Rattle.ak_roster.specs.declared.head.AppHead.{AppHead}
 use Rattle.ak_roster.specs.declared.entry.RosterEntry.{RosterEntry}
 use Rattle.ak_port.specs.Reply.{SlotData, Stage, open_stage, slot_of, with_stage}
-use Rattle.ak_port.proofs.ReplySlots.{get_left, get_other}
+use Rattle.ak_port.proofs.Surface.{get_left, get_other}
 use Rattle.ak_journal.specs.declared.entry.Event.{Event}
 use Rattle.ak_journal.specs.declared.entry.Event.TheVariants as event
 use Rattle.ak_journal.specs.declared.entry.ObjectName.{ObjectName}

@@ -9,8 +9,7 @@ use Rattle.ak_diary.specs.Diary.{Works}
 use Rattle.ak_diary.specs.Looper.{LooperFacts, desk_list, dispatched_in, in_hand, taken_in}
 use Rattle.ak_diary.specs.Step.{Step, at_desk, at_port, desk_entries}
 use Rattle.ak_diary.specs.Turns.{IsDispatch, IsTake, lacked_if}
-use Rattle.ak_diary.proofs.Surface.{all_serving, are_quiet, quiet_hand_nothing, settles_quiet}
-use Rattle.ak_diary.proofs.Tallied.{entries_both, handed_both, handed_in, own_step, tallied}
+use Rattle.ak_diary.proofs.Surface.{all_serving, are_quiet, entries_both, handed_both, handed_in, own_step, quiet_hand_nothing, settles_quiet, tallied}
 use Rattle.ak_headline.proofs.Surface.{list_both, turn_enters}
 use Rattle.ak_sequence.proofs.Dispatching.{has_come}
 

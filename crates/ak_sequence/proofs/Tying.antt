@@ -8,8 +8,7 @@ use Rattle.ak_port.proofs.Surface.{state_of-push}
 use Rattle.ak_action.specs.declared.state.DeskState.{DeskState}
 use Rattle.ak_desk.specs.Entry.{EntryData}
 use Rattle.ak_desk.specs.Machine.{DeskStep, Replays, counted, dispatches}
-use Rattle.ak_desk.proofs.History.{replays_push}
-use Rattle.ak_desk.proofs.Surface.{counted_push}
+use Rattle.ak_desk.proofs.Surface.{counted_push, replays_push}
 use Rattle.ak_diary.specs.Step.{Step, desk_entries, port_entries}
 use Rattle.ak_headline.specs.Run.{desk_maker}
 use Rattle.ak_journal.specs.declared.entry.Entry.{Entry}

@@ -2,7 +2,7 @@
 use Rattle.std.proofs.Common.{◌<◌, codes, take, length, refl, ap, arith}
 use Rattle.std.proofs.lemmas.List.{length-take}
 use Rattle.ak_message.specs.Message.{MessageData}
-use Rattle.ak_property.proofs.Texts.{text-fits, texts-grown, one-more}
+use Rattle.ak_property.proofs.Surface.{one-more, text-fits, texts-grown}
 use Rattle.ak_script.proofs.messages.add_texts.Goals as goal
 
 pub add_fitting-requires : goal.add_fitting-requires
