@@ -21,3 +21,4 @@ pub mod Sums
 pub mod Tested
 pub mod Surface
 pub mod Behind
+pub mod Fitting

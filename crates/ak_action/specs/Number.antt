@@ -1,5 +1,5 @@
 -- Whole numbers of eight kinds, and their sums.
-use Rattle.std.specs.Prelude.{ℕ, ℤ, pos, negsuc, ◌+ℤ◌, nat_abs, int_le, Bool, ◌&&◌, if◌then◌else◌, Option, None, Some, option_and_then}
+use Rattle.std.specs.Prelude.{ℤ, pos, negsuc, ◌+ℤ◌, nat_abs, int_le, Bool, ◌&&◌, if◌then◌else◌, Option, None, Some}
 use Rattle.ak_message.specs.declared.kind.Kind.{Kind}
 use Rattle.ak_message.specs.declared.kind.Kind.TheVariants as k
 use Rattle.ak_message.specs.Kind.{is_same_kind}

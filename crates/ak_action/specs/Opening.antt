@@ -1,5 +1,5 @@
 -- The state in which a looper begins, as its plan describes it.
-use Rattle.std.specs.Prelude.{◌≡◌, ◌≢◌, ℕ, ◌+◌, ◌-◌, ◌≤◌, Bool, true, List, [], ◌∷◌, length, AllPairs, Option, Some, IsTrue, option_and_then, slice_get}
+use Rattle.std.specs.Prelude.{◌≡◌, ◌≢◌, ℕ, ◌+◌, ◌-◌, ◌≤◌, Bool, true, List, [], ◌∷◌, length, map, AllPairs, Option, Some, IsTrue, option_and_then, slice_get}
 use Rattle.std.specs.List.{list_all, list_any}
 use Rattle.std.specs.Str.{bytes_eq}
 use Rattle.ak_base.specs.Limits.{app_looper_limit, looper_limit}
@@ -31,6 +31,10 @@ described_rows rows = described_from rows 0 rows
 
 abbrev pub opening_handlers : PlanParts → HandlersData DeskRow
 opening_handlers parts = from_rows (described_rows parts.rows) (option_and_then (place_named parts.rows) parts.preferred)
+
+-- ---- the names of an application's loopers
+abbrev pub names_in : List PlanParts → List (List ℕ)
+names_in plans = map (λ (p : PlanParts). p.name) plans
 
 -- ---- what the plan has to fit
 abbrev pub contains : List (List ℕ) → List ℕ → Bool

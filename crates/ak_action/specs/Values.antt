@@ -1,9 +1,8 @@
 -- What a field of a message is given, or a property is set to: values of one kind.
-use Rattle.std.specs.Prelude.{◌≡◌, ℕ, ◌<◌, ◌≤◌, ◌++◌, Bool, nat_lt, if◌then◌else◌, List, [], ◌∷◌, length, map, drop, All, Option, None, Some, refl}
+use Rattle.std.specs.Prelude.{◌≡◌, ◌<◌, ◌≤◌, ◌++◌, Bool, nat_lt, if◌then◌else◌, List, [], ◌∷◌, length, map, drop, All, Option, None, Some, refl}
 use Rattle.std.specs.Coded.{Coded, code_by, coded×, coded_list}
 use Rattle.ak_message.specs.declared.kind.Kind.{Kind}
 use Rattle.ak_message.specs.Kind.{is_same_kind, coded_kind}
-use Rattle.ak_message.specs.declared.message.Value.{Value}
 use Rattle.ak_message.specs.Message.{ValueData, kind_of, depth_of_value}
 use Rattle.ak_message.specs.MessageCode.{coded_value}
 use Rattle.ak_message.specs.Seen.{value_of}

@@ -13,6 +13,7 @@ mod interp;
 mod laws;
 mod number;
 mod opening;
+mod place;
 mod plan;
 mod properties;
 mod row;
@@ -35,6 +36,7 @@ pub use laws::{
     words_replay,
 };
 pub use number::Number;
+pub use opening::looper_names;
 pub use plan::{LooperPlan, PlanFault, PlanParts, PlanRow, SUITE_LIMIT, plans_are_whole};
 pub use properties::ElementsList;
 pub use row::DeskRow;

@@ -1,5 +1,5 @@
 ghost use Rattle.std.specs.Prelude.{◌≡◌, IfOk, length, option_and_then};
-ghost use Rattle.ak_action.specs.Opening.{FitsPlace, Opens, contains, fits_dest, knows_loopers, names_loopers, reaction_knows_loopers, row_knows_loopers};
+ghost use Rattle.ak_action.specs.Opening.{FitsPlace, Opens, contains, fits_dest, knows_loopers, names_in, names_loopers, reaction_knows_loopers, row_knows_loopers};
 ghost use Rattle.ak_action.specs.OpeningInside.{described_row, described_with, nexts_from};
 ghost use Rattle.ak_action.specs.Plan.{next_place, place_named};
 
@@ -57,6 +57,17 @@ impl LooperPlan {
     }
 }
 
+/// The names of the loopers of these plans, in their order: those that `DeskState::from_plan` takes. `NoMemory` where memory ran out.
+pub fn looper_names(alloc: Global, plans: &[LooperPlan]) -> Result<Items<Text>, NoMemory>
+    ensures { IfOk result (λ names. names ≡ names_in plans.now) }
+{
+    let mut names = Vec::new(alloc);
+    for plan in plans {
+        names.push(plan.parts().name.try_clone()?)?;
+    }
+    Ok(Items::from_vec(names))
+}
+
 fn row_knows_loopers(row: &PlanRow, names: &[Text]) -> bool
     ensures { result ≡ row_knows_loopers names.now row.now }
 {
@@ -98,7 +109,7 @@ fn fits_dest(to: &Dest, names: &[Text]) -> bool
     }
 }
 
-fn contains(names: &[Text], name: &[u8]) -> bool
+pub(crate) fn contains(names: &[Text], name: &[u8]) -> bool
     ensures { result ≡ contains names.now name.now }
 {
     names.iter().any(|other| other.as_bytes() == name)

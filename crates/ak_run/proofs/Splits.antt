@@ -20,7 +20,7 @@ use Rattle.ak_port.specs.declared.port_entry.PortEntry.{PortEntry}
 use Rattle.ak_port.specs.ReplySeats as books
 use Rattle.ak_port.specs.ReplySeats.{ReplySeat}
 use Rattle.ak_action.specs.declared.plan.PlanParts.{PlanParts}
-use Rattle.ak_action.specs.Opening.{Opens}
+use Rattle.ak_action.specs.Opening.{Opens, names_in}
 use Rattle.ak_action.specs.declared.state.DeskState.{DeskState}
 use Rattle.ak_desk.specs.Shared.{DeskSeat}
 use Rattle.ak_describe.specs.Whole.{IsWholeApp, heads_of, looper_names}
@@ -43,7 +43,6 @@ use Rattle.ak_run.specs.Jobs.{CanStart, IsJobOf, StartsAt, facts_in}
 use Rattle.ak_run.specs.Members.{IsLifeOf, StillLeads}
 use Rattle.ak_run.specs.NewLooper.{IsNewLooper}
 use Rattle.ak_run.specs.Opened.{IsLaunchOf}
-use Rattle.ak_run.specs.Opening.{names_in}
 use Rattle.ak_run.specs.Recording.{member_desk_front}
 use Rattle.ak_run.specs.Running.{AreBelow, IsBelow, IsMember, IsOpenedAs, KeepsRest, Stands}
 use Rattle.ak_run.specs.Sessions.{session_count, session_limit, told_in}

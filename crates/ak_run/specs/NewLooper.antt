@@ -8,7 +8,7 @@ use Rattle.ak_base.specs.declared.thread.ThreadId.{ThreadId}
 use Rattle.ak_port.specs.PortCalls.{CanTake}
 use Rattle.ak_action.specs.declared.plan.PlanParts.{PlanParts}
 use Rattle.ak_action.specs.declared.state.DeskState.{DeskState}
-use Rattle.ak_action.specs.Opening.{Opens}
+use Rattle.ak_action.specs.Opening.{Opens, names_in}
 use Rattle.ak_looper.specs.declared.door.Door.{Door}
 use Rattle.ak_looper.specs.declared.kept_door.KeptDoor.{KeptDoor}
 use Rattle.ak_looper.specs.Doors.{IsNewDoor}
@@ -17,7 +17,7 @@ use Rattle.ak_run.specs.declared.new_looper.Other.{Other}
 use Rattle.ak_run.specs.declared.new_looper.Own.{Own}
 use Rattle.ak_run.specs.declared.new_looper.Shared.{Shared}
 use Rattle.ak_run.specs.Doors.{HasNoNames}
-use Rattle.ak_run.specs.Opening.{names_in}
+
 
 -- the same reply book and the same roster
 pub record AreSame (shared other : Shared) : Type 0 where

@@ -1,5 +1,5 @@
 -- Loopers whose ports and desks were made.
-use Rattle.std.specs.Prelude.{◌≡◌, ℕ, suc, ◌+◌, ◌-◌, ◌<◌, List, [], ◌∷◌, map, Some, slice_get}
+use Rattle.std.specs.Prelude.{◌≡◌, ℕ, suc, ◌+◌, ◌-◌, ◌<◌, List, [], ◌∷◌, Some, slice_get}
 use Rattle.std.specs.VecDeque.{deque_len, deque_capacity}
 use Rattle.ak_base.specs.Limits.{looper_limit}
 use Rattle.ak_base.specs.Thread.{main_thread, looper_thread}
@@ -8,13 +8,10 @@ use Rattle.ak_port.specs.PortCalls.{CanTake}
 use Rattle.ak_port.specs.declared.port_entry.PortEntry.{PortEntry}
 use Rattle.ak_action.specs.declared.plan.PlanParts.{PlanParts}
 use Rattle.ak_action.specs.declared.state.DeskState.{DeskState}
-use Rattle.ak_action.specs.Opening.{FitsPlace, Opens}
+use Rattle.ak_action.specs.Opening.{FitsPlace, Opens, names_in}
 use Rattle.ak_run.specs.declared.opening.Opened.{Opened}
 use Rattle.ak_run.specs.declared.opening.Place.{Place}
 use Rattle.ak_run.specs.Doors.{HasNames, KnowsBoth}
-
-abbrev pub names_in : List PlanParts → List (List ℕ)
-names_in plans = map (λ (p : PlanParts). p.name) plans
 
 -- what main has seen of its port
 abbrev pub opened_front : Opened → List PortEntry

@@ -3,10 +3,10 @@ ghost use Rattle.std.specs.Prelude.{◌≡◌, ◌∷◌, [], length, map, IfOk}
 ghost use Rattle.ak_base.specs.Thread.{main_thread};
 ghost use Rattle.ak_action.specs.Opening.{FitsPlace};
 ghost use Rattle.ak_run.specs.Greeting.{AreMains, EachMains, capacities_in, made_event, made_events};
-ghost use Rattle.ak_run.specs.Opening.{AreOpened, FitPlaces, IsOpened, names_in, opened_front};
+ghost use Rattle.ak_run.specs.Opening.{AreOpened, FitPlaces, IsOpened, opened_front};
 ghost use Rattle.ak_run.specs.Recording.{AreEntriesInTime, AreMadeInTime};
 
-use ak_action::{LooperPlan, plans_are_whole};
+use ak_action::{LooperPlan, looper_names, plans_are_whole};
 use ak_base::{Items, NoMemory, Text, ThreadId};
 use ak_desk::Desk;
 use ak_flatten::Taken;
@@ -31,17 +31,6 @@ pub(crate) struct Opened {
     pub(crate) number: u32,
     pub(crate) door: Door,
     pub(crate) queue: VecDeque<Taken>,
-}
-
-// The names of these loopers.
-fn names_of(alloc: Global, plans: &[LooperPlan]) -> Result<Items<Text>, NoMemory>
-    ensures { IfOk result (λ names. names ≡ names_in plans.now) }
-{
-    let mut names = Vec::new(alloc);
-    for plan in plans {
-        names.push(plan.parts().name.try_clone()?)?;
-    }
-    Ok(Items::from_vec(names))
 }
 
 // A new desk and a new port for the looper of that plan. The making of the port is its first entry.
@@ -105,7 +94,7 @@ pub(crate) fn open_loopers<R: Wait>(
             team,
             first,
         };
-        let names = names_of(alloc, plans)?;
+        let names = looper_names(alloc, plans)?;
         all.push(open_looper(alloc, rt, clock, plan, place, names)?)?;
     }
     Ok(all)

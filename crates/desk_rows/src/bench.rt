@@ -4,13 +4,12 @@ ghost use Rattle.std.specs.Prelude.{◌≡◌, ◌+◌, None, IfOk, IfSome};
 ghost use Rattle.ak_base.specs.Thread.{looper_thread};
 
 use crate::place::{Place, place_of};
-use ak_action::LooperPlan;
+use ak_action::{LooperPlan, looper_names};
 use ak_base::{Items, NoMemory, Text, ThreadId};
 use ak_describe::{AppText, DescribeFault, read_description};
 use ak_desk::Desk;
 use ak_message::{InputLines, LinesFault, split_lines};
 use ak_turn::Clock;
-use run_lists::fits_place;
 use std::alloc::Global;
 
 /// A desk with the clock of its looper's own thread.
@@ -71,22 +70,14 @@ fn app_of(alloc: Global, text: &[u8]) -> Result<Option<AppText>, NoMemory> {
 fn bench_at(alloc: Global, app: AppText, place: Place) -> Result<Option<Bench>, NoMemory>
     ensures { IfOk result (λ bench. IfSome bench (λ b. b.desk.begun ≡ None)) }
 {
-    let names = names_of(alloc, app.loopers.as_slice())?;
-    let Some(at) = names.iter().position(|name| name.as_bytes() == place.name) else {
+    let names = looper_names(alloc, app.loopers.as_slice())?;
+    let Some(at) = names.as_slice().iter().position(|name| name.as_bytes() == place.name) else {
         return Ok(None);
     };
     match app.loopers.into_vec().into_iter().nth(at) {
-        Some(plan) => desk_of(alloc, plan, place, at, Items::from_vec(names)),
+        Some(plan) => desk_of(alloc, plan, place, at, names),
         None => Ok(None),
     }
-}
-
-fn names_of(alloc: Global, loopers: &[LooperPlan]) -> Result<Vec<Text>, NoMemory> {
-    let mut names = Vec::with_capacity(alloc, loopers.len())?;
-    for looper in loopers {
-        names.push(looper.parts().name.try_clone()?)?;
-    }
-    Ok(names)
 }
 
 // The desk of that plan, which is that of the looper at that place, where the numbers are small enough.
@@ -100,7 +91,7 @@ fn desk_of(
     ensures { IfOk result (λ bench. IfSome bench (λ b. b.desk.begun ≡ None)) }
 {
     let Place { team, first, .. } = place;
-    if !fits_place(&plan, first, at, names.as_slice()) {
+    if !plan.fits_place(first, at, names.as_slice()) {
         return Ok(None);
     }
     let looper = first + at as u32;

@@ -16,13 +16,6 @@ use ak_turn::{Book, Clock};
 use std::alloc::Global;
 
 // ---- the list
-/// Whether there are stamps left.
-pub(crate) fn may_stamp(desk: &Desk, clock: &Clock) -> bool
-    ensures { IsTrue result → (clock.now.time < 2 ^ 63) × (stamp_in desk.now.entries < 2 ^ 63) }
-{
-    clock.time < 1 << 63 && desk.last_stamp() < 1 << 63
-}
-
 /// How many messages were dispatched, and whether one of them was given up.
 #[derive(Clone, Copy)]
 pub(crate) struct Counts {

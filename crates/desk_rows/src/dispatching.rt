@@ -4,7 +4,7 @@ ghost use Rattle.std.specs.Prelude.{◌≡◌, None, OnOk};
 ghost use Rattle.ak_desk.specs.Desk.{DeskAwaits, DeskIsDone, DeskMayWant};
 
 use crate::bench::Bench;
-use crate::conditions::{counts_of, hand, hand_reply, may_stamp};
+use crate::conditions::{counts_of, hand, hand_reply};
 use crate::ending::tell_end;
 use crate::operation::Hear;
 use crate::stop::Stop;
@@ -13,6 +13,7 @@ use ak_action::{Answer, Want};
 use ak_base::Bytes;
 use ak_desk::Desk;
 use ak_flatten::{Item, Taken};
+use run_lists::may_stamp;
 use std::alloc::Global;
 
 /// Carries out the message with these answers, and tells what is wanted and what it comes to.

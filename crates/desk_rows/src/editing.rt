@@ -3,12 +3,12 @@
 ghost use Rattle.std.specs.Prelude.{◌≡◌, None, OnOk};
 
 use crate::bench::Bench;
-use crate::conditions::may_stamp;
 use crate::stop::Stop;
 use crate::telling::{number, put_number, word};
 use ak_base::{Bytes, NoMemory};
 use ak_desk::{Edit, EditAnswer};
 use ak_handler::HandlerFault;
+use run_lists::may_stamp;
 
 /// Makes the edit, and tells its answer.
 pub(crate) fn edit(bench: &mut Bench, e: Edit, told: &mut Bytes) -> Result<(), Stop>

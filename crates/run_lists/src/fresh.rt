@@ -6,8 +6,7 @@ ghost use Rattle.ak_base.specs.Thread.{looper_thread};
 ghost use Rattle.ak_desk.specs.Machine.{dispatches};
 
 use crate::openings::Opening;
-use crate::place::fits_place;
-use ak_action::{DeskState, LooperPlan};
+use ak_action::{DeskState, LooperPlan, looper_names};
 use ak_base::{Items, NoMemory, Text, ThreadId};
 use ak_desk::Desk;
 use ak_turn::Clock;
@@ -40,19 +39,11 @@ pub(crate) fn fresh(
     let Some(plan) = opening.plans.get(opening.at) else {
         return Ok(None);
     };
-    let names = names_of(alloc, opening.plans)?;
-    if !fits_place(plan, opening.first, opening.at, &names) {
+    let names = looper_names(alloc, opening.plans)?;
+    if !plan.fits_place(opening.first, opening.at, names.as_slice()) {
         return Ok(None);
     }
-    desk_of(alloc, plan, opening, Items::from_vec(names))
-}
-
-fn names_of(alloc: Global, plans: &[LooperPlan]) -> Result<Vec<Text>, NoMemory> {
-    let mut names = Vec::with_capacity(alloc, plans.len())?;
-    for plan in plans {
-        names.push(plan.parts().name.try_clone()?)?;
-    }
-    Ok(names)
+    desk_of(alloc, plan, opening, names)
 }
 
 fn desk_of(

@@ -3,8 +3,6 @@
 //! it left; and whether a new desk of its plan, on which its edits and messages are carried out once more, answers and routes as its
 //! list tells, with the same words and the same mark of its end. Of each slot, whether who waited on it had one reply, and that the
 //! one that the new desk makes. Programs and tests tell what is faulty by it.
-//!
-//! What has to hold before a new desk is made of a plan is tested by `fits_place`, which other tests of desks call too.
 #![tactic(auto)]
 
 mod accounts;
@@ -12,7 +10,6 @@ mod faults;
 mod fresh;
 mod heard;
 mod openings;
-mod place;
 mod replays;
 mod replies;
 mod slots;
@@ -21,6 +18,6 @@ mod telling;
 
 pub use accounts::{Account, account_of, tell_account};
 pub use faults::tell_faults;
-pub use place::fits_place;
+pub use replays::may_stamp;
 pub use slots::{SlotAccount, count_answered, slot_accounts, slot_of};
 pub use telling::{Told, tell};

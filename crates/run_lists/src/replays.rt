@@ -51,8 +51,8 @@ fn same(is_same: bool, difference: Difference) -> Result<(), Stop> {
     }
 }
 
-// Whether there are stamps left.
-fn may_stamp(desk: &Desk, clock: &Clock) -> bool
+/// Whether there are stamps left for an entry more on the desk by the clock's thread.
+pub fn may_stamp(desk: &Desk, clock: &Clock) -> bool
     ensures { IsTrue result → (clock.now.time < 2 ^ 63) × (stamp_in desk.now.entries < 2 ^ 63) }
 {
     clock.time < 1 << 63 && desk.last_stamp() < 1 << 63
