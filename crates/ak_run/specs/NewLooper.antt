@@ -18,7 +18,6 @@ use Rattle.ak_run.specs.declared.new_looper.Own.{Own}
 use Rattle.ak_run.specs.declared.new_looper.Shared.{Shared}
 use Rattle.ak_run.specs.Doors.{HasNoNames}
 
-
 -- the same reply book and the same roster
 pub record AreSame (shared other : Shared) : Type 0 where
   pub book : arc_value shared.book ≡ arc_value other.book

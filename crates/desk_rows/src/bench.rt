@@ -71,7 +71,11 @@ fn bench_at(alloc: Global, app: AppText, place: Place) -> Result<Option<Bench>, 
     ensures { IfOk result (λ bench. IfSome bench (λ b. b.desk.begun ≡ None)) }
 {
     let names = looper_names(alloc, app.loopers.as_slice())?;
-    let Some(at) = names.as_slice().iter().position(|name| name.as_bytes() == place.name) else {
+    let Some(at) = names
+        .as_slice()
+        .iter()
+        .position(|name| name.as_bytes() == place.name)
+    else {
         return Ok(None);
     };
     match app.loopers.into_vec().into_iter().nth(at) {

@@ -9,9 +9,9 @@ returns-then-not-contains-clause-apart t c told =
 pub returns-then-not-contains-clause-only : goal.returns-then-not-contains-clause-only
 returns-then-not-contains-clause-only t c apart =
     c.differ.ensures.only
-      (rest_apart c.args.names.now c.name-item.result c.as_bytes.result.now c.contains.result (omega (arith, c.in-len1-up.len_at_least)) c.name-item.is c.as_bytes.ensures.value c.contains.ensures apart).1
+    (rest_apart c.args.names.now c.name-item.result c.as_bytes.result.now c.contains.result (omega (arith, c.in-len1-up.len_at_least)) c.name-item.is c.as_bytes.ensures.value c.contains.ensures apart).1
 
 pub returns-else-not-contains-clause-only : goal.returns-else-not-contains-clause-only
 returns-else-not-contains-clause-only t c apart =
     ap not
-      (rest_apart c.args.names.now c.name-item.result c.as_bytes.result.now c.contains.result (omega (arith, c.in-len1-up.len_at_least)) c.name-item.is c.as_bytes.ensures.value c.contains.ensures apart).0
+    (rest_apart c.args.names.now c.name-item.result c.as_bytes.result.now c.contains.result (omega (arith, c.in-len1-up.len_at_least)) c.name-item.is c.as_bytes.ensures.value c.contains.ensures apart).0
