@@ -7,7 +7,8 @@ ghost use Rattle.ak_describe.specs.Whole.{heads_of};
 ghost use Rattle.ak_headline.specs.Headline.{EachGotOneReply, EachLooper, IsAccounted, IsByRule};
 ghost use Rattle.ak_play.specs.Play.{IsRunOf, IsShort};
 ghost use Rattle.ak_run.specs.Opened.{WereOpened};
-ghost use Rattle.ak_script.specs.Script.{ScriptData, script_of};
+ghost use Rattle.ak_script.specs.Refusals.{ScriptOf};
+ghost use Rattle.ak_script.specs.Script.{ScriptData};
 ghost use Rattle.ak_kit.specs.Journal.{JournalsAndCloses};
 ghost use Rattle.ak_kit.specs.Kit as kit;
 
@@ -77,7 +78,7 @@ pub(crate) fn kit_run<
         → Stayed (W.faults spawner.old) (W.faults spawner.new)
         → (input : List ℕ) (script : ScriptData)
         → S.left source.old ≡ Some input
-        → script_of input ≡ Ok script
+        → ScriptOf input script
         → (result.ending ≡ Ending.Done) ⊎ (result.ending ≡ Ending.NoMemory) }
 {
     match script_from(alloc, source) {
