@@ -37,7 +37,7 @@ use Rattle.ak_messenger.specs.declared.asking.Reply.{Reply}
 use Rattle.ak_messenger.specs.declared.envelope.Envelope.{Envelope}
 use Rattle.ak_messenger.specs.declared.fault.SendFault.{SendFault}
 use Rattle.ak_messenger.specs.declared.fault.SendFault.TheVariants as fault
-use Rattle.ak_diary.specs.Step.{Step, at_book, at_port, at_roster, desk_entries, port_sights, saw_book, saw_port}
+use Rattle.ak_diary.specs.Step.{Step, at_book, at_port, at_roster, desk_entries, saw_book, saw_port}
 use Rattle.ak_diary.specs.Turns.{FindsShut, Shuts}
 use Rattle.ak_diary.specs.Wants.{AsksInVain, Cancels, Converses, IsRefusedBy, Withdraws}
 use Rattle.ak_diary.specs.Wants as wants

@@ -3,7 +3,7 @@ use Rattle.std.proofs.Common.{◌≡◌, ◌≢◌, ℕ, zero, suc, ◌<◌, con
 use Rattle.std.specs.Prelude.{set}
 use Rattle.std.specs.List.{flat_map}
 use Rattle.std.proofs.lemmas.List.Concat.{flat_map-append}
-use Rattle.std.proofs.lemmas.List.Elements.{All-append, All-head, All-nil, All-tail}
+use Rattle.std.proofs.lemmas.List.Elements.{All-append, All-cons, All-head, All-nil, All-tail}
 use mathlib.Core.Logic.{dite}
 use native.Mathlib.Decide.{ℕ_discrete}
 use Rattle.ak_base.specs.Thread.{main_thread}
@@ -15,11 +15,11 @@ use Rattle.ak_port.specs.declared.port_entry.PortEntry.{PortEntry}
 use Rattle.ak_port.specs.declared.reply_entry.ReplyEntry.{ReplyEntry}
 use Rattle.ak_port.specs.PortCalls as at_ports
 use Rattle.ak_port.specs.ReplySeats as at_books
-use Rattle.ak_diary.specs.Step.{AreStamped, Step, at_port, book_entries, book_entry, book_sight, book_sights, desk_entries, desk_entry, port_entries, port_entry, port_sight, port_sights, roster_entries, roster_entry, roster_sight, roster_sights, time_of}
-use Rattle.ak_headline.specs.Main.{IsAct, IsMainDiary, MayEnterPort, begun, enters_port, went_on}
+use Rattle.ak_diary.specs.Step.{AreStamped, Step, at_port, book_entries, book_entry, book_sight, book_sights, desk_entries, desk_entry, port_entries, port_entry, port_sight, port_sights, roster_entries, roster_entry, roster_sight, roster_sights, saw_roster, time_of}
+use Rattle.ak_headline.specs.Main.{IsAct, IsMainDiary, MayEnterPort, begun, enters_port, finds_gone, went_on}
 use Rattle.ak_looper.specs.Rosters.{maker_of}
 use Rattle.ak_looper.proofs.Surface.{stamped_on, time_on}
-use Rattle.ak_run.specs.Recording.{AddsAtPort, AreInTime, AreNotesInTime, Fronts, GoesBy, IsRecorded, Records, fronts, list_at}
+use Rattle.ak_run.specs.Recording.{AreInTime, AreNotesInTime, Fronts, GoesBy, IsRecorded, Records, RecordsSo, fronts, list_at}
 
 -- ---- steps
 pub diary-append : (xs ys : List Step) → IsMainDiary xs → IsMainDiary ys → IsMainDiary (xs ++ ys)
@@ -76,6 +76,23 @@ records_then a b c one two = record {
   no_edits = λ looper. nothing_after (desk_entry looper) one.steps two.steps (one.no_edits looper) (two.no_edits looper);
 }
 
+-- acts of the one kind and then of the other
+pub records_so_then : (P Q S : List Step → Type 0) (a b c : Fronts) → ((xs ys : List Step) → P xs → Q ys → S (xs ++ ys)) → RecordsSo P a b → RecordsSo Q b c → RecordsSo S a c
+records_so_then P Q S a b c tells one two = record {
+  steps = one.steps ++ two.steps;
+  so = tells one.steps two.steps one.so two.so;
+  goes = goes_then one.steps two.steps a b c one.goes two.goes;
+  no_edits = λ looper. nothing_after (desk_entry looper) one.steps two.steps (one.no_edits looper) (two.no_edits looper);
+}
+
+-- acts of which one thing holds are acts of which another does
+pub records_so_as : (P Q : List Step → Type 0) (a b : Fronts) → ((steps : List Step) → P steps → Q steps) → RecordsSo P a b → RecordsSo Q a b
+records_so_as P Q a b tells one = record { steps = one.steps; so = tells one.steps one.so; goes = one.goes; no_edits = one.no_edits }
+
+-- whatever holds of them
+pub records_any : (P : List Step → Type 0) (a b : Fronts) → RecordsSo P a b → Records a b
+records_any P a b one = record { steps = one.steps; goes = one.goes; no_edits = one.no_edits }
+
 -- main's diary goes on by them
 pub recorded_on : (steps more : List Step) (a b : Fronts) → GoesBy more a b → IsRecorded steps a → IsRecorded (steps ++ more) b
 recorded_on steps more a b goes is = record {
@@ -109,8 +126,28 @@ nothing_goes a b time roster roster_on book on ports ports_on = record {
 pub same_goes : (a b : Fronts) → b ≡ a → GoesBy [] a b
 same_goes a b same = subst (GoesBy [] a) (sym same) (nothing_goes a a refl refl (starts_itself a.roster) refl (starts_itself a.book) (λ looper. refl) (λ looper. starts_itself (list_at a.ports looper)))
 
+-- what main saw of the roster, without an entry there
+pub sees_roster : (team : ℕ) (a b : Fronts) → GoesBy [] a b → GoesBy (saw_roster b.roster ∷ []) a b
+sees_roster team a b quiet = record {
+  acts = one_act (saw_roster b.roster ∷ []) (finds_gone team tt b.roster refl);
+  in_time = record { stamped = (tt, tt); time_is = quiet.in_time.time_is };
+  roster = quiet.roster;
+  roster_on = quiet.roster_on;
+  roster_seen = All-cons (StartsWith b.roster) b.roster [] (starts_itself b.roster) (All-nil (StartsWith b.roster));
+  book = quiet.book;
+  book_on = quiet.book_on;
+  book_seen = quiet.book_seen;
+  ports = quiet.ports;
+  ports_on = quiet.ports_on;
+  ports_seen = quiet.ports_seen;
+}
+
 pub same_fronts : (a b : Fronts) → b ≡ a → Records a b
 same_fronts a b same = record { steps = []; goes = same_goes a b same; no_edits = λ looper. refl }
+
+-- no act at all
+pub so_same : (P : List Step → Type 0) (a : Fronts) → P [] → RecordsSo P a a
+so_same P a none = record { steps = []; so = none; goes = same_goes a a refl; no_edits = λ looper. refl }
 
 -- ---- at the book and at one port
 -- from one time to the other the lists of both went on by these steps, from main's seats there
@@ -235,12 +272,6 @@ module _ (looper : ℕ) where
         (λ same. subst (λ (n : ℕ). noted at_ports.by_number main_thread (list_at ports' n) ≡ noted at_ports.by_number main_thread (list_at ports n) ++ port_entries n steps) (sym same) goes.noted_port)
         (λ differ. ap (noted at_ports.by_number main_thread) (others other differ) ∙ sym (ap (λ l. noted at_ports.by_number main_thread (list_at ports other) ++ l) (goes.elsewhere other differ) ∙ append-nil (noted at_ports.by_number main_thread (list_at ports other))));
   }
-
-  pub port_records : (time later : ℕ) (roster : List RosterEntry) (book : List ReplyEntry) (ports ports' : List (List PortEntry)) → AddsAtPort time later (list_at ports looper) (list_at ports' looper) → ((other : ℕ) → other ≢ looper → list_at ports' other ≡ list_at ports other)
-      → Records (fronts time roster book ports) (fronts later roster book ports')
-  port_records time later roster book ports ports' adds others =
-      let goes = adds_there time later adds.added book (list_at ports looper) (list_at ports' looper) adds.in_time adds.on adds.noted_is in
-      record { steps = steps_there adds.added; goes = both_goes (steps_there adds.added) time later roster book book ports ports' (there_diary adds.added adds.may) goes others; no_edits = goes.no_edits }
 
 -- ---- one port of the list
 -- behind those

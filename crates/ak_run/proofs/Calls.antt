@@ -31,7 +31,7 @@ use Rattle.ak_run.specs.Counting.{started_by_main}
 use Rattle.ak_run.specs.Doing.{AskedSo, DoesSo, EnteredSo, desk_front}
 use Rattle.ak_run.specs.Doors.{KeepsDoor, KeepsSeats}
 use Rattle.ak_run.specs.Entering.{AreAtPorts}
-use Rattle.ak_run.specs.Recording.{AddsAtPort, RecordsAtNew, fronts_of}
+use Rattle.ak_run.specs.Recording.{AddsAtPort, fronts_of}
 use Rattle.ak_run.specs.Running.{IsMember, IsRunning, IsStanding, KeepsRest, Stands}
 use Rattle.ak_run.specs.Sending.{desk_seat_of, port_seat_of}
 use Rattle.ak_run.specs.Starting.{GoesOn, GoesOnAtNew}
@@ -40,7 +40,7 @@ use Rattle.ak_run.proofs.Acts.{same_goes}
 use Rattle.ak_run.proofs.Doing.{does_so}
 use Rattle.ak_run.proofs.GoingOn.{desks_then, goes_beside, plain_on, same_desks, set_desks}
 use Rattle.ak_run.proofs.RosterTurn.{RosterOn}
-use Rattle.ak_run.proofs.Recorded.{at_new, beside_same, beside_then_at_new, call_goes, fronts_same, record_by, sees_front}
+use Rattle.ak_run.proofs.Recorded.{beside_same, call_goes, fronts_same, record_by, sees_front}
 use Rattle.ak_run.proofs.Standing.{BookOn, nothing_entered, one_called, same_book, same_loopers, stands_on}
 
 -- ---- seats
@@ -134,8 +134,8 @@ goes_same r r' rest time members roster book =
     (beside_same r r' time members (ap (λ s. s.front) roster) (ap (λ s. s.front) book)) (same_desks r r' members)
 
 -- nothing but at the port of a looper that is about to start
-pub goes_at_new : (r r' : Run) (port port' : List PortEntry) → KeepsRest r r' → r'.members ≡ r.members → r'.roster_seat ≡ r.roster_seat → r'.hands.book_seat ≡ r.hands.book_seat → RecordsAtNew port port' r r' → GoesOnAtNew port port' r r'
-goes_at_new r r' port port' rest members roster book recorded =
+pub goes_at_new : (r r' : Run) → KeepsRest r r' → r'.members ≡ r.members → r'.roster_seat ≡ r.roster_seat → r'.hands.book_seat ≡ r.hands.book_seat → GoesOnAtNew r r'
+goes_at_new r r' rest members roster book =
     let entered : (heads : List AppHead) (next : ℕ) → Stands next heads r → RosterOn heads 0 r.roster_seat r'.roster_seat = λ heads next stands. nothing_entered heads r.roster_seat r'.roster_seat roster stands.roster_known in
     record {
       stands = λ next heads k. stands_on next heads 0 r r' rest (entered heads next k) (same_book r r' book) (same_loopers next heads r r' members k) k;
@@ -145,21 +145,15 @@ goes_at_new r r' port port' rest members roster book recorded =
       shared = rest.shared;
       apps = rest.apps;
       slots = rest.slots;
-      recorded = recorded;
       desks_on = same_desks r r' members;
     }
   where
     nothing_more : (n : ℕ) → n + 0 ≡ n
     nothing_more n = omega arith
 
--- where main made entries there
-pub adds_at_new : (r r' : Run) (port port' : List PortEntry) → KeepsRest r r' → r'.members ≡ r.members → r'.roster_seat ≡ r.roster_seat → r'.hands.book_seat ≡ r.hands.book_seat → AddsAtPort r.hands.clock.time r'.hands.clock.time port port' → GoesOnAtNew port port' r r'
-adds_at_new r r' port port' rest members roster book adds =
-    goes_at_new r r' port port' rest members roster book (at_new r r' port port' members (ap (λ s. s.front) roster) (ap (λ s. s.front) book) adds)
-
 -- where main called elsewhere before
-pub goes_then_at_new : (r s t : Run) (port port' : List PortEntry) → GoesOn r s → GoesOnAtNew port port' s t → GoesOnAtNew port port' r t
-goes_then_at_new r s t port port' a b = record {
+pub goes_then_at_new : (r s t : Run) → GoesOn r s → GoesOnAtNew s t → GoesOnAtNew r t
+goes_then_at_new r s t a b = record {
   stands = λ next heads k. b.stands next heads (a.stands next heads k);
   started = λ next heads k. b.started next heads (a.stands next heads k) ∙ a.started next heads k;
   count = b.count ∙ a.count;
@@ -167,7 +161,6 @@ goes_then_at_new r s t port port' a b = record {
   shared = b.shared ∙ a.shared;
   apps = b.apps ∙ a.apps;
   slots = b.slots ∙ a.slots;
-  recorded = beside_then_at_new r s t port port' a.recorded b.recorded;
   desks_on = desks_then r s t a.desks_on b.desks_on;
 }
 
@@ -176,6 +169,10 @@ pub does_same : (P : List Step → Type 0) (r r' : Run) → P [] → r'.hands.cl
 does_same P r r' so time members roster book =
     let front = ap (λ s. s.front) roster in
     does_so P [] r r' so (same_goes (fronts_of r) (fronts_of r') (fronts_same r r' time members front book [])) (plain_on r.roster_seat r'.roster_seat ([], front ∙ sym (append-nil r.roster_seat.front))) (same_desks r r' members) (λ looper. refl)
+
+-- a run that runs stands
+pub running_stands : (r : Run) → IsRunning r → IsStanding r
+running_stands r is = record { next = length r.members.items; heads = is.heads; stands = is.stands }
 
 -- it stands further
 pub stands_further : (r r' : Run) → GoesOn r r' → IsStanding r → IsStanding r'

@@ -14,7 +14,7 @@ use Rattle.ak_port.specs.declared.port_entry.PortEntry.{PortEntry}
 use Rattle.ak_run.specs.declared.run.Run.{Run}
 use Rattle.ak_run.specs.Doing.{Does, DoesSo, HasDoneSoFar, IsQuietAtDesks, desk_front}
 use Rattle.ak_run.specs.Entering.{DoesWith}
-use Rattle.ak_run.specs.Recording.{GoesBy, Records, fronts_of, fronts_with}
+use Rattle.ak_run.specs.Recording.{GoesBy, RecordsSo, fronts_of, fronts_with}
 use Rattle.ak_run.proofs.Acts.{goes_then, nothing_after, recorded_on, then_those}
 use Rattle.ak_run.proofs.GoingOn.{desks_then, plain_on}
 
@@ -78,7 +78,7 @@ module _ (P : List Step → Type 0) (new : List (List PortEntry)) (r s t : Run) 
   pub then_quiet : (Q : List Step → Type 0) → ((steps : List Step) → P steps → Q steps) → fronts_of t ≡ fronts_with s new → DoesSo Q r t
   then_quiet Q tells same = does_so Q does.steps r t (tells does.steps does.so) (subst (GoesBy does.steps (fronts_of r)) (sym same) does.goes) roster_then (desks_then r s t does.desks_on desks) does.no_edits
 
-  pub then_records : Records (fronts_with s new) (fronts_of t) → DoesSo (λ steps. Unit {0}) r t
-  then_records more =
-      does_so (λ steps. Unit {0}) (does.steps ++ more.steps) r t tt (goes_then does.steps more.steps (fronts_of r) (fronts_with s new) (fronts_of t) does.goes more.goes) roster_then (desks_then r s t does.desks_on desks)
+  pub then_records : (S Q : List Step → Type 0) → ((xs ys : List Step) → P xs → S ys → Q (xs ++ ys)) → RecordsSo S (fronts_with s new) (fronts_of t) → DoesSo Q r t
+  then_records S Q tells more =
+      does_so Q (does.steps ++ more.steps) r t (tells does.steps more.steps does.so more.so) (goes_then does.steps more.steps (fronts_of r) (fronts_with s new) (fronts_of t) does.goes more.goes) roster_then (desks_then r s t does.desks_on desks)
       (λ looper. nothing_after (desk_entry looper) does.steps more.steps (does.no_edits looper) (more.no_edits looper))

@@ -1,5 +1,5 @@
 -- A looper whose thread was joined.
-use Rattle.std.proofs.Common.{◌≡◌, ℕ, List, ◌∷◌, All, Any, Contains, Option, None, Some, refl, sym, ap, ◌∙◌, subst, arith}
+use Rattle.std.proofs.Common.{◌≡◌, ℕ, List, ◌∷◌, All, Any, Contains, Option, Some, refl, sym, ap, ◌∙◌, subst, arith}
 use Rattle.std.specs.Prelude.{slice_get}
 use Rattle.std.proofs.lemmas.List.Elements.{All-weaker, Contains-append_left, Contains-append_right}
 use Rattle.ak_base.specs.Thread.{looper_thread}

@@ -1,10 +1,9 @@
 -- What main did by a launch, by its answer.
-use Rattle.std.proofs.Common.{◌≡◌, ◌<◌, ℕ, List, [], length, Option, refl, sym, subst}
+use Rattle.std.proofs.Common.{◌≡◌, ◌<◌, inr, ℕ, List, [], ◌++◌, length, Option, refl, sym, ap, ◌∙◌, subst, append-nil}
 use Rattle.std.specs.Prelude.{IfSome, get_or, set}
 use Rattle.ak_base.specs.Thread.{main_thread}
 use Rattle.ak_base.specs.declared.app_word.AppWord.{AppWord}
 use Rattle.ak_message.specs.Message.{MessageData}
-use Rattle.ak_turn.specs.Entries.{StartsWith}
 use Rattle.ak_describe.specs.declared.described.AppText.{AppText}
 use Rattle.ak_diary.specs.Step.{Step}
 use Rattle.ak_port.specs.PortCalls as at_ports
@@ -19,7 +18,7 @@ use Rattle.ak_headline.specs.Main.{MayEnterPort}
 use Rattle.ak_looper.specs.declared.door.Door.{Door}
 use Rattle.ak_run.specs.declared.member.Member.{Member}
 use Rattle.ak_run.specs.declared.run.Run.{Run}
-use Rattle.ak_run.specs.Doing.{DoesSo, EnteredSo, FindsRunning, LaunchedSo}
+use Rattle.ak_run.specs.Doing.{DoesSo, EnteredSo, FindsRunning, LaunchedSo, LaunchesInVain}
 use Rattle.ak_run.specs.Entering.{DoesWith, EntersLaunch, EntersRunning, GreetsAgain, GreetsSo}
 use Rattle.ak_run.specs.Greeting.{SendsEach, arguments_told}
 use Rattle.ak_run.proofs.Acting.{ActsAtBoth}
@@ -47,8 +46,18 @@ module _ (apps : List AppText) (word : AppWord) (arguments : Option MessageData)
         is = refl;
       }) at_roster sends)
   runs_so answer.NoMemory is sends =
-      let P : List Step → Type 0 = λ steps. Unit {0} in
-      does_so_then P P P r s t (λ xs ys one two. tt) (does_with (EntersLaunch apps word arguments (launch.Running team first) s) P r s (λ steps last. tt) entered) sends
+      let at_roster : DoesSo Entered r s = does_with (EntersLaunch apps word arguments (launch.Running team first) s) Entered r s (λ steps last. last) entered in
+      does_so_then Entered (λ steps. steps ≡ []) (LaunchesInVain word) r s t
+      (λ xs ys enters none. inr (record {
+        team = team;
+        place = length enters.launches.noted.before;
+        launches = record {
+          noted = enters.launches.noted;
+          event_is = enters.launches.event_is;
+          place_is = refl;
+          is = ap (λ (l : List Step). xs ++ l) none ∙ append-nil xs ∙ enters.launches.is;
+        };
+      })) at_roster sends
   runs_so (answer.Started number place) is sends = absurd is
   runs_so (answer.NotFound place) is sends = absurd is
   runs_so (answer.Limit place) is sends = absurd is

@@ -1,7 +1,6 @@
 -- The launch of each looper's team stands in the roster that was kept.
 use Rattle.std.proofs.Common.{◌≡◌, ℕ, true, List, Any, Some, sym, ◌∙◌, subst}
 use Rattle.std.specs.Prelude.{slice_get}
-use Rattle.ak_action.specs.declared.state.DeskState.{DeskState}
 use Rattle.ak_roster.specs.declared.entry.EntryWithObjects.{EntryWithObjects}
 use Rattle.ak_roster.specs.declared.head.AppHead.{AppHead}
 use Rattle.ak_roster.specs.Roster.{RosterData}

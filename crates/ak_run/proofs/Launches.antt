@@ -1,16 +1,14 @@
 -- Behind main's turn at the roster, in which it launched.
 use Rattle.std.proofs.Common.{◌≡◌, ℕ, ◌+◌, ◌<◌, ◌≤◌, List, [], ◌∷◌, ◌++◌, length, length-append, map, Option, None, Some, refl, sym, ap, ◌∙◌, subst, append-nil, inl, inr, arith, All}
-use Rattle.std.proofs.lemmas.List.Elements.{All-cons, All-head, All-nil}
+use Rattle.std.proofs.lemmas.List.Elements.{All-head}
 use Rattle.std.proofs.lemmas.List.{length-map}
 use Rattle.std.specs.Prelude.{slice_get}
 use Rattle.std.specs.List.{Any, find}
 use Rattle.ak_base.specs.declared.app_word.AppWord.{AppWord}
-use Rattle.ak_turn.specs.Entries.{StartsWith}
 use Rattle.ak_message.specs.Message.{MessageData}
 use Rattle.ak_turn.specs.Noted.{note, noted}
 use Rattle.ak_base.specs.Thread.{main_thread}
 use Rattle.ak_turn.specs.Seats.{IsGiven, IsNext, KnowsWhole, at_leisure, entered_by}
-use Rattle.ak_turn.proofs.Surface.{starts_itself}
 use Rattle.ak_roster.specs.declared.answer.FindAnswer.{FindAnswer}
 use Rattle.ak_roster.specs.declared.answer.FindAnswer.TheVariants as found_by
 use Rattle.ak_roster.specs.declared.entry.EntryWithObjects.{EntryWithObjects}
@@ -25,7 +23,6 @@ use Rattle.ak_roster.specs.Machine.{outcome_found, runs_team, state_of}
 use Rattle.ak_roster.specs.Roster.{objects_of, plain_entries, state}
 use Rattle.ak_describe.specs.Whole.{heads_of}
 use Rattle.ak_diary.specs.Step.{Step, at_roster, desk_entries, desk_entry, saw_roster}
-use Rattle.ak_headline.specs.Main.{finds_gone}
 use Rattle.ak_headline.specs.Run.{roster_maker}
 use Rattle.ak_describe.specs.declared.described.AppText.{AppText}
 use Rattle.ak_port.specs.declared.port_entry.PortEntry.{PortEntry}
@@ -51,7 +48,7 @@ use Rattle.ak_run.specs.Recording.{GoesBy, fronts, fronts_of, fronts_with, membe
 use Rattle.ak_run.specs.Running.{IsRunning, KeepsRest, Stands}
 use Rattle.ak_run.specs.Starting.{HasEnteredLaunch, launched_fronts}
 use Rattle.ak_run.proofs.Acting.{turn_no_edits}
-use Rattle.ak_run.proofs.Acts.{goes_then, nothing_after, one_act}
+use Rattle.ak_run.proofs.Acts.{goes_then, nothing_after, sees_roster}
 use Rattle.ak_run.proofs.Doing.{does_with}
 use Rattle.ak_run.proofs.GoingOn.{last_of, plain_on, same_desks, some_same}
 use Rattle.ak_run.proofs.Opened.{launch_seen}
@@ -225,19 +222,7 @@ module _ (r r' : Run) (is : IsRunning r) (keeps : KeepsRest r r') (members : r'.
       let list : seen ≡ plain_entries book.entries = ap (λ (l : List (EntryWithObjects Object)). plain_entries l) (whole None 0 entered ∙ entered.entries ∙ ap (λ l. book.entries ++ l) none ∙ append-nil book.entries) in
       let heads : book.heads ≡ heads_of r.apps.items = heads_same ∙ is.stands.heads_are in
       let quiet : GoesBy [] (fronts_of r) (fronts_of r') = subst (λ (l : List (EntryWithObjects Object)). GoesBy (map (turn_step book.entries) l) (fronts_of r) (fronts_of r')) none (turn_beside None 0 entered r.hands.clock.time in_time []) in
-      let goes : GoesBy steps (fronts_of r) (fronts_of r') = record {
-        acts = one_act steps (finds_gone team tt seen refl);
-        in_time = record { stamped = (tt, tt); time_is = quiet.in_time.time_is };
-        roster = quiet.roster;
-        roster_on = quiet.roster_on;
-        roster_seen = All-cons (StartsWith seen) seen [] (starts_itself seen) (All-nil (StartsWith seen));
-        book = quiet.book;
-        book_on = quiet.book_on;
-        book_seen = quiet.book_seen;
-        ports = quiet.ports;
-        ports_on = quiet.ports_on;
-        ports_seen = quiet.ports_seen;
-      } in
+      let goes : GoesBy steps (fronts_of r) (fronts_of r') = sees_roster team (fronts_of r) (fronts_of r') quiet in
       closes (λ so_far. FindsGone (heads_of r.apps.items) so_far team) steps
       (λ so_far is_told. record { seen = seen; mine = quiet.roster ∙ append-nil (noted roster_maker main_thread (plain_of r.roster_seat)) ∙ is_told; gone = ap (λ (l : List RosterEntry). find (runs_team team) (state_of (heads_of r.apps.items) l).running) list ∙ ap (λ hs. find (runs_team team) (state_of hs (plain_entries book.entries)).running) (sym heads) ∙ left.0; is = refl })
       goes (λ looper. refl)
@@ -289,12 +274,15 @@ module _ (r r' : Run) (is : IsRunning r) (keeps : KeepsRest r r') (members : r'.
           (subst (λ (n : ℕ). MakesPorts (made_from n capacities ++ at_looper n written) (fronts time (plain_of r.roster_seat) r.hands.book_seat.front ports) made_to) first
           (team_begins (plain_of r.roster_seat) r.hands.book_seat.front time between ports capacities written new (one_at_least (new_front t.new.own) (map new_front t.new.others.items)) greeted.ports in_time.1)) in
           let turn = map (turn_step book.entries) h.entered.added in
+          let app_there : slice_get r.apps.items h.description ≡ Some greeted.app = subst (λ (n : ℕ). slice_get r.apps.items n ≡ Some greeted.app) place greeted.described in
+          let same_app : greeted.app ≡ h.described.app = some_same greeted.app h.described.app (sym app_there ∙ h.described.there) in
           record {
             steps = made.steps ++ turn;
             so = record {
               description = h.description;
               app = greeted.app;
-              described = subst (λ (n : ℕ). slice_get r.apps.items n ≡ Some greeted.app) place greeted.described;
+              described = app_there;
+              count = ap (λ (a : AppText). length a.loopers) same_app ∙ ap length (sym h.described.plans_are) ∙ sym h.count;
               ports = made.steps;
               enters = made.enters;
               entry = turn;
@@ -313,7 +301,8 @@ module _ (r r' : Run) (is : IsRunning r) (keeps : KeepsRest r r') (members : r'.
       enters (launch.Running team first) comes told in_time = running_last in_time team first comes.0 told
       enters launch.NotFound comes told in_time = launches_last in_time outcome.NotFound comes
       enters launch.Limit comes told in_time = launches_last in_time outcome.Limit comes
-      enters launch.NoMemory comes told in_time = does_turn None 0 comes in_time (λ steps. Unit {0}) tt
+      enters launch.NoMemory comes told in_time =
+          does_turn None 0 comes in_time (λ steps. steps ≡ []) (ap (map (turn_step book.entries)) (no_event comes.added comes.events))
 
       -- a team was started
       team_starts : (t : StartedTeam) → HasStarted r.apps.items r.shared word book book' t → TellsTeam r.apps.items arguments word book (launch.Started t) → LaunchInTime r.hands.clock.time r'.hands.clock.time book book' (launch.Started t) → HasEnteredLaunch r r' (launch.Started t)

@@ -37,6 +37,7 @@ pub mod SlotsStand
 pub mod Splits
 pub mod Standing
 pub mod Started
+pub mod Stopping
 pub mod Surface
 pub mod Taking
 pub mod TeamEnds

@@ -1,19 +1,17 @@
 -- A session is opened or closed: main did nothing, and the run goes on running.
-use Rattle.std.proofs.Common.{◌≡◌, ◌≤◌, ◌<◌, ◌+◌, ℕ, List, [], ◌∷◌, ◌++◌, length, length-append, length-set, map, set, All, None, Some, Option, refl, sym, ap, ◌∙◌, subst, append-nil, arith, vec_capacity}
+use Rattle.std.proofs.Common.{◌≡◌, ◌≤◌, ◌<◌, ◌+◌, ℕ, List, [], ◌∷◌, ◌++◌, length, length-append, length-set, map, set, All, None, Some, Option, sym, ap, ◌∙◌, subst, append-nil, arith, vec_capacity}
 use Rattle.std.specs.Prelude.{slice_get}
 use Rattle.std.specs.List.{range_with_len}
 use Rattle.std.proofs.lemmas.List.{length-map}
 use Rattle.std.proofs.lemmas.List.Elements.{All-nil, All-weaker}
 use Rattle.std.proofs.lemmas.Option.{slice_get_within}
-use Rattle.std.specs.Arc.{arc_value}
 use Rattle.ak_base.specs.Limits.{looper_limit}
 use Rattle.ak_base.specs.Thread.{main_thread}
 use Rattle.ak_desk.specs.Shared as at_desks
 use Rattle.ak_turn.specs.Entries.{StartsWith}
 use Rattle.ak_turn.specs.Noted.{StandsIn, noted}
-use Rattle.ak_turn.specs.Seats.{KnowsWhole, new_seat, titled_seat}
-use Rattle.ak_turn.specs.Steps.{IsNewName, names_with}
-use Rattle.ak_roster.specs.declared.head.AppHead.{AppHead}
+use Rattle.ak_turn.specs.Seats.{KnowsWhole, new_seat}
+use Rattle.ak_turn.specs.Steps.{IsNewName}
 use Rattle.ak_port.specs.ReplySeats as books
 use Rattle.ak_port.specs.ReplySeats.{ReplySeat}
 use Rattle.ak_describe.specs.Whole.{IsWholeApp, heads_of}
@@ -25,12 +23,11 @@ use Rattle.ak_run.specs.declared.member.Member.{Member}
 use Rattle.ak_run.specs.declared.new_looper.Shared.{Shared}
 use Rattle.ak_run.specs.declared.run.Run.{Run}
 use Rattle.ak_run.specs.declared.slots.Slot.{Slot}
-use Rattle.ak_run.specs.declared.slots.Slots.{Slots}
 use Rattle.ak_run.specs.Counting.{started_by_main}
 use Rattle.ak_run.specs.Doing.{Does, desk_front}
 use Rattle.ak_run.specs.Gathering.{HasRoomFor, HoldsNothing}
 use Rattle.ak_run.specs.Recording.{HasRecord, IsRecorded, fronts_of}
-use Rattle.ak_run.specs.Running.{AreBelow, HasRoomToEnd, IsMember, IsOpenedAs, IsRunning, Stands}
+use Rattle.ak_run.specs.Running.{AreBelow, IsMember, IsOpenedAs, IsRunning}
 use Rattle.ak_run.specs.Sessions.{HasLocksOf, HasSlots, IsSessionAt, KeepsButSlots, MayClose, Told, session_count, session_limit, sessions_of, told_in, told_of}
 use Rattle.ak_run.specs.Starting.{HasSplit}
 use Rattle.ak_run.proofs.Acts.{same_goes}

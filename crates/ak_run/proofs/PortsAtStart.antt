@@ -1,6 +1,6 @@
 -- What main enters at the ports of a team that starts, and what it tells the first looper.
 use Rattle.std.proofs.Common.{◌≡◌, ◌≢◌, ℕ, zero, suc, ◌+◌, ◌<◌, ◌≤◌, Bool, true, false, List, [], ◌∷◌, ◌++◌, length, length-append, map, All, Contains, Option, None, Some, Result, Ok, Err, refl, sym, ap, ◌∙◌, subst, append_assoc, append-nil, lt-ltb, ltb-true, arith}
-use Rattle.std.specs.Prelude.{◌↔◌, IfSome, IsErrOf, IsSomeAnd, OnOk, nat_lt, slice_get, take, if◌then◌else◌}
+use Rattle.std.specs.Prelude.{◌↔◌, IfSome, IsErrOf, IsSomeAnd, OnErr, OnOk, nat_lt, slice_get, take, if◌then◌else◌}
 use Rattle.std.specs.List.{flat_map}
 use Rattle.std.proofs.lemmas.List.{map-append}
 use Rattle.std.proofs.lemmas.List.Elements.{All-append, All-cons, All-head, All-nil, All-tail}
@@ -27,9 +27,10 @@ use Rattle.ak_port.specs.declared.port_entry.PortEvent.{PortEvent}
 use Rattle.ak_port.specs.declared.port_entry.PortEvent.TheVariants as event
 use Rattle.ak_port.specs.declared.reply_entry.ReplyEntry.{ReplyEntry}
 use Rattle.ak_messenger.specs.Sends.{IfReached, post_event}
+use Rattle.ak_messenger.specs.declared.envelope.Envelope.{Envelope}
 use Rattle.ak_messenger.specs.declared.fault.SendFault.{SendFault}
 use Rattle.ak_messenger.specs.declared.fault.SendFault.TheVariants as fault
-use Rattle.ak_diary.specs.Step.{Step, at_port, desk_entry}
+use Rattle.ak_diary.specs.Step.{Step, desk_entry}
 use Rattle.ak_headline.specs.Main.{MayEnterPort}
 use Rattle.ak_action.specs.declared.plan.PlanParts.{PlanParts}
 use Rattle.ak_run.specs.declared.opening.Opened.{Opened}
@@ -374,3 +375,12 @@ sends_each looper m r' steps (Err fault.NoMemory) entered long block want = absu
 pub on_ok : {T E : Type 0} (A B : Type 0) (r : Result T E) → (A → B) → OnOk r A → OnOk r B
 on_ok A B (Ok x) f a = f a
 on_ok A B (Err e) f a = tt
+
+-- and where it did not
+pub on_err : {T E : Type 0} (A B : Type 0) (r : Result T E) → (A → B) → OnErr r A → OnErr r B
+on_err A B (Ok x) f a = tt
+on_err A B (Err e) f a = f a
+
+-- a post without memory has no entry
+pub no_entry : (e : Envelope) (m : MessageData) (sent : Result ℕ SendFault) → IsErrOf sent fault.NoMemory → post_event e m sent ≡ None
+no_entry e m sent wanting = ap (λ (r : Result ℕ SendFault). post_event e m r) wanting

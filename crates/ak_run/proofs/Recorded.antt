@@ -24,9 +24,9 @@ use Rattle.ak_looper.specs.Rosters.{Object, RosterSeat, by_number, plain_of}
 use Rattle.ak_run.specs.declared.member.Member.{Member}
 use Rattle.ak_run.specs.declared.run.Run.{Run}
 use Rattle.ak_run.specs.Launching.{Book, HasEntered, IsTurnInTime, turn_step}
-use Rattle.ak_run.specs.Recording.{AddsAtPort, Fronts, GoesBy, HasRecord, IsRecorded, Records, RecordsAtNew, RecordsBeside, RecordsStart, StartsQuietly, fronts, fronts_of, fronts_with, list_at, member_front}
-use Rattle.ak_run.proofs.Acting.{roster_goes, turn_no_edits}
-use Rattle.ak_run.proofs.Acts.{GoesAtBoth, both_goes, no_time, port_records, recorded_on, records_then, same_fronts, seam_other, set_before, then_those}
+use Rattle.ak_run.specs.Recording.{Fronts, GoesBy, HasRecord, IsRecorded, Records, RecordsAtNew, RecordsBeside, RecordsSo, RecordsStart, StartsQuietly, fronts, fronts_of, fronts_with, list_at, member_front}
+use Rattle.ak_run.proofs.Acting.{ActsAtBoth, roster_goes, turn_no_edits}
+use Rattle.ak_run.proofs.Acts.{GoesAtBoth, both_goes, no_time, recorded_on, records_then, same_fronts, seam_other, set_before, then_those}
 use Rattle.ak_run.proofs.RosterTurn.{sees_all}
 
 -- ---- main's diary
@@ -137,36 +137,41 @@ module _ (r r' : Run) (place : ℕ) (m : Member) (door : Door) (within : place <
 
 -- ---- a new port
 -- main made entries there, while it is the first one of the new ones
-pub new_port_acts : (time later : ℕ) (roster : List RosterEntry) (book : List ReplyEntry) (xs ys : List (List PortEntry)) (x y : List PortEntry) → AddsAtPort time later x y → Records (fronts time roster book (xs ++ x ∷ ys)) (fronts later roster book (xs ++ y ∷ ys))
-new_port_acts time later roster book xs ys x y adds =
-    port_records (length xs) time later roster book (xs ++ x ∷ ys) (xs ++ y ∷ ys)
-    (subst (λ (p : List PortEntry). AddsAtPort time later p (list_at (xs ++ y ∷ ys) (length xs))) (sym (get_or-append_seam xs x ys [])) (subst (λ (p : List PortEntry). AddsAtPort time later x p) (sym (get_or-append_seam xs y ys [])) adds))
-    (λ other differ. seam_other xs ys x y other differ)
+pub new_port_acts : (P : List Step → Type 0) (time later : ℕ) (roster : List RosterEntry) (book : List ReplyEntry) (xs ys : List (List PortEntry)) (x y : List PortEntry) → ActsAtBoth (length xs) time later P book book x y
+    → RecordsSo P (fronts time roster book (xs ++ x ∷ ys)) (fronts later roster book (xs ++ y ∷ ys))
+new_port_acts P time later roster book xs ys x y acts = record {
+  steps = acts.steps;
+  so = acts.so;
+  goes = both_goes (length xs) acts.steps time later roster book book (xs ++ x ∷ ys) (xs ++ y ∷ ys) acts.acts
+      (subst (λ (p : List PortEntry). GoesAtBoth (length xs) time later acts.steps book book p (list_at (xs ++ y ∷ ys) (length xs))) (sym (get_or-append_seam xs x ys []))
+      (subst (λ (p : List PortEntry). GoesAtBoth (length xs) time later acts.steps book book x p) (sym (get_or-append_seam xs y ys [])) acts.goes))
+      (λ other differ. seam_other xs ys x y other differ);
+  no_edits = acts.goes.no_edits;
+}
 
 -- no other list changed
-pub at_new : (r r' : Run) (x y : List PortEntry) → r'.members ≡ r.members → r'.roster_seat.front ≡ r.roster_seat.front → r'.hands.book_seat.front ≡ r.hands.book_seat.front → AddsAtPort r.hands.clock.time r'.hands.clock.time x y → RecordsAtNew x y r r'
-at_new r r' x y members roster book adds = λ new.
+pub at_new : (P : List Step → Type 0) (r r' : Run) (x y : List PortEntry) → r'.members ≡ r.members → r'.roster_seat.front ≡ r.roster_seat.front → r'.hands.book_seat.front ≡ r.hands.book_seat.front
+    → ActsAtBoth (length r.members.items) r.hands.clock.time r'.hands.clock.time P r.hands.book_seat.front r.hands.book_seat.front x y → RecordsAtNew P x y r r'
+at_new P r r' x y members roster book acts =
     let ms = map member_front r.members.items in
+    let time = r.hands.clock.time in
     let later = r'.hands.clock.time in
-    let same : fronts_with r' (y ∷ new) ≡ fronts later (plain_of r.roster_seat) r.hands.book_seat.front (ms ++ y ∷ new) =
-    ap (λ l. fronts later (plain_entries l) r'.hands.book_seat.front (map member_front r'.members.items ++ y ∷ new)) roster
-    ∙ ap (λ l. fronts later (plain_of r.roster_seat) l (map member_front r'.members.items ++ y ∷ new)) book
-    ∙ ap (λ v. fronts later (plain_of r.roster_seat) r.hands.book_seat.front (map member_front v.items ++ y ∷ new)) members in
-    subst (Records (fronts_with r (x ∷ new))) (sym same) (new_port_acts r.hands.clock.time later (plain_of r.roster_seat) r.hands.book_seat.front ms new x y adds)
-
--- main called elsewhere before
-pub beside_then_at_new : (r s t : Run) (x y : List PortEntry) → RecordsBeside r s → RecordsAtNew x y s t → RecordsAtNew x y r t
-beside_then_at_new r s t x y one two = λ new. records_then (fronts_with r (x ∷ new)) (fronts_with s (x ∷ new)) (fronts_with t (y ∷ new)) (one (x ∷ new)) (two new)
-
--- nothing was done
-pub at_new_same : (r : Run) (x y : List PortEntry) → y ≡ x → RecordsAtNew x y r r
-at_new_same r x y same = λ new. same_fronts (fronts_with r (x ∷ new)) (fronts_with r (y ∷ new)) (ap (λ (l : List PortEntry). fronts_with r (l ∷ new)) same)
+    let replies = r.hands.book_seat.front in
+    let there = subst (λ (n : ℕ). ActsAtBoth n time later P replies replies x y) (sym (length-map r.members.items member_front)) acts in
+    record {
+      beside = λ new.
+          let same : fronts_with r' (y ∷ new) ≡ fronts later (plain_of r.roster_seat) replies (ms ++ y ∷ new) =
+          ap (λ l. fronts later (plain_entries l) r'.hands.book_seat.front (map member_front r'.members.items ++ y ∷ new)) roster
+          ∙ ap (λ l. fronts later (plain_of r.roster_seat) l (map member_front r'.members.items ++ y ∷ new)) book
+          ∙ ap (λ v. fronts later (plain_of r.roster_seat) replies (map member_front v.items ++ y ∷ new)) members in
+          subst (RecordsSo P (fronts_with r (x ∷ new))) (sym same) (new_port_acts P time later (plain_of r.roster_seat) replies ms new x y there);
+    }
 
 -- ---- a looper that starts
--- the run goes on, main shuts its port or does nothing there, and the looper is put behind the others
-pub start_acts : (r s u v : Run) (door : Door) (front : List PortEntry) (x : Member) → s.hands.clock.time ≡ r.hands.clock.time → s.members ≡ r.members → s.roster_seat.front ≡ r.roster_seat.front → s.hands.book_seat.front ≡ r.hands.book_seat.front
-    → RecordsAtNew front door.port_seat.front s u → x.door ≡ door → v.members.items ≡ u.members.items ++ x ∷ [] → v.roster_seat ≡ u.roster_seat → v.hands ≡ u.hands → RecordsStart front r v
-start_acts r s u v door front x time members roster book goes x_door v_items v_roster v_hands = record {
+-- the run goes on, by acts at its port and elsewhere, and the looper is put behind the others
+pub start_acts : (P : List Step → Type 0) (r s u v : Run) (door : Door) (front : List PortEntry) (x : Member) → s.hands.clock.time ≡ r.hands.clock.time → s.members ≡ r.members → s.roster_seat.front ≡ r.roster_seat.front → s.hands.book_seat.front ≡ r.hands.book_seat.front
+    → RecordsAtNew P front door.port_seat.front s u → x.door ≡ door → v.members.items ≡ u.members.items ++ x ∷ [] → v.roster_seat ≡ u.roster_seat → v.hands ≡ u.hands → RecordsStart P front r v
+start_acts P r s u v door front x time members roster book goes x_door v_items v_roster v_hands = record {
   beside = λ new.
       let last = door.port_seat.front in
       let us = map member_front u.members.items in
@@ -176,7 +181,7 @@ start_acts r s u v door front x time members roster book goes x_door v_items v_r
       ap (λ (y : RosterSeat). fronts v.hands.clock.time (plain_of y) v.hands.book_seat.front (map member_front v.members.items ++ new)) v_roster
       ∙ ap (λ h. fronts h.clock.time (plain_of u.roster_seat) h.book_seat.front (map member_front v.members.items ++ new)) v_hands
       ∙ ap (fronts u.hands.clock.time (plain_of u.roster_seat) u.hands.book_seat.front) pushed in
-      records_then (fronts_with r (front ∷ new)) (fronts_with s (front ∷ new)) (fronts_with v new) (beside_same r s time members roster book (front ∷ new)) (subst (Records (fronts_with s (front ∷ new))) (sym same) (goes new));
+      subst (λ (f : Fronts). RecordsSo P f (fronts_with v new)) (fronts_same r s time members roster book (front ∷ new)) (subst (RecordsSo P (fronts_with s (front ∷ new))) (sym same) (goes.beside new));
 }
 
 -- nothing was done at its port, and nothing else changed

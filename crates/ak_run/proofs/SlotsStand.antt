@@ -1,6 +1,6 @@
 -- The sessions of a run stand: there are none, there is room for one more, one is put behind the others, and one is closed.
 use Rattle.std.proofs.Common.{◌≡◌, ◌⊎◌, ◌≤◌, ◌<◌, ◌+◌, ◌&&◌, ℕ, zero, suc, Bool, true, false, List, [], ◌∷◌, ◌++◌, length, length-append, length-set, map, set, All, Option, None, Some, is_some, inl, inr, ⊎_elim, refl, sym, ap, ◌∙◌, subst, arith, vec_capacity}
-use Rattle.std.specs.Prelude.{IfSome, Vec, get_or, option_map, slice_get}
+use Rattle.std.specs.Prelude.{IfSome, Vec, option_map, slice_get}
 use Rattle.std.specs.declared.alloc.Global.{Global}
 use Rattle.std.specs.List.{list_all}
 use Rattle.std.specs.Arc.{arc_value}

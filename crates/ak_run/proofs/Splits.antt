@@ -16,7 +16,6 @@ use Rattle.ak_roster.specs.declared.head.AppHead.{AppHead}
 use Rattle.ak_roster.specs.declared.entry.EntryWithObjects.{EntryWithObjects}
 use Rattle.ak_roster.specs.declared.entry.RosterEntry.{RosterEntry}
 use Rattle.ak_roster.specs.Roster.{plain_entries}
-use Rattle.ak_port.specs.declared.port_entry.PortEntry.{PortEntry}
 use Rattle.ak_port.specs.ReplySeats as books
 use Rattle.ak_port.specs.ReplySeats.{ReplySeat}
 use Rattle.ak_action.specs.declared.plan.PlanParts.{PlanParts}
@@ -208,14 +207,18 @@ module _ (heads : List AppHead) (plans : List PlanParts) (k : ℕ) (t : Team) (n
     }
 
     -- there is room for it, however the run went on
-    pub room_there : (u : Run) (port port' : List PortEntry) → GoesOnAtNew port port' s u → length u.members.items < vec_capacity u.members
-    room_there u port port' goes =
+    pub room_there : (u : Run) → GoesOnAtNew s u → length u.members.items < vec_capacity u.members
+    room_there u goes =
         let stood = goes.stands (count + 1) heads stands_split in
         let same : length u.members.items ≡ count = goes.count ∙ ap (λ w. length w.items) split.members in
         omega (arith, same, stood.room, m.new.within, m.next)
 
+    -- the loopers of its team that started before it are there
+    pub first_there : t.first ≤ length s.members.items
+    first_there = omega (arith, m.next, ap (λ w. length w.items) split.members)
+
     -- then the run went on, and the looper was put behind the others
-    module _ (u : Run) (port port' : List PortEntry) (goes : GoesOnAtNew port port' s u) (v : Run) (kept : KeepsRest u v) (v_hands : v.hands ≡ u.hands) (v_roster : v.roster_seat ≡ u.roster_seat)
+    module _ (u : Run) (goes : GoesOnAtNew s u) (v : Run) (kept : KeepsRest u v) (v_hands : v.hands ≡ u.hands) (v_roster : v.roster_seat ≡ u.roster_seat)
         (x : Member) (v_items : v.members.items ≡ u.members.items ++ x ∷ []) (v_room : vec_capacity v.members ≡ vec_capacity u.members)
         (door : Door) (job : LooperJob) (book : ReplySeat) (roster : RosterSeat) (book_so : book ≡ book_seat) (roster_so : roster ≡ roster_seat)
         (job_is : IsJobOf t n book roster job) (ready : IsReady job) (leads : StillLeads n.door door) (x_number : x.number ≡ n.number) (x_door : x.door ≡ door) (x_job : x.job.value ≡ job) (life : IsLifeOf job x.life) where

@@ -1,16 +1,10 @@
 -- Main ends team after team.
-use Rattle.std.proofs.Common.{◌≡◌, ℕ, zero, suc, ◌+◌, ◌<◌, ◌≤◌, Bool, true, false, cond, ◌||◌, List, [], ◌∷◌, ◌++◌, length, All, Option, None, Some, refl, sym, ap, ◌∙◌, subst, append_assoc, append-nil, arith}
-use Rattle.std.specs.Prelude.{IfSome, IsFalse, IsTrue, get_or, is_some, set}
+use Rattle.std.proofs.Common.{◌≡◌, ℕ, zero, suc, ◌+◌, ◌≤◌, Bool, true, false, cond, ◌||◌, List, [], ◌∷◌, ◌++◌, length, Option, None, Some, refl, sym, ap, ◌∙◌, subst, append_assoc, append-nil, arith}
+use Rattle.std.specs.Prelude.{IfSome, IsFalse, IsTrue, is_some}
 use Rattle.std.specs.List.{find, list_any, range_with_len}
-use Rattle.std.proofs.lemmas.List.Concat.{flat_map-append}
-use Rattle.std.proofs.lemmas.List.Elements.{All-append, All-nil, All-weaker}
-use mathlib.Core.Logic.{dite}
-use native.Mathlib.Decide.{ℕ_discrete}
 use Rattle.ak_base.specs.Thread.{main_thread}
-use Rattle.ak_turn.specs.Entries.{StartsWith}
 use Rattle.ak_turn.specs.Noted.{noted}
 use Rattle.ak_turn.specs.declared.clock.Clock.{Clock}
-use Rattle.ak_turn.proofs.Surface.{starts_then_starts}
 use Rattle.ak_roster.specs.Heads.{IsHeads}
 use Rattle.ak_roster.specs.Machine.{IsHistory, runs_team}
 use Rattle.ak_roster.specs.Roster.{Enters, Stays, plain_entries, state}
@@ -18,21 +12,17 @@ use Rattle.ak_roster.specs.declared.entry.RosterEvent.{RosterEvent}
 use Rattle.ak_roster.specs.declared.entry.RosterEvent.TheVariants as event
 use Rattle.ak_roster.specs.declared.head.AppHead.{AppHead}
 use Rattle.ak_roster.specs.declared.team.Running.{Running}
-use Rattle.ak_port.specs.declared.port_entry.PortEntry.{PortEntry}
-use Rattle.ak_diary.specs.Step.{Step, desk_entry, port_sight, port_sights, roster_entry, roster_sight, roster_sights}
+use Rattle.ak_diary.specs.Step.{Step, desk_entry, roster_entry}
 use Rattle.ak_diary.specs.Turns.{Shuts, ShutsAll}
 use Rattle.ak_headline.specs.Run.{roster_maker}
 use Rattle.ak_looper.specs.Rosters.{plain_of}
-use Rattle.ak_looper.specs.declared.door.Door.{Door}
-use Rattle.ak_run.specs.declared.member.Member.{Member}
 use Rattle.ak_run.specs.declared.run.Run.{Run}
 use Rattle.ak_run.specs.Closing.{ClosesSo, EndsTeam, EndsTeams, IsRecordedAtRoster, LeavesBook, LeavesSo, ports_of}
 use Rattle.ak_run.specs.Launching.{Book, HasEntered}
-use Rattle.ak_run.specs.Recording.{GoesBy, fronts_of, list_at}
-use Rattle.ak_run.proofs.Acting.{ActsAtBoth}
+use Rattle.ak_run.specs.Recording.{GoesBy, RecordsSo, fronts_of}
 use Rattle.ak_run.proofs.Acts.{goes_then, nothing_after, same_goes, then_those}
 use Rattle.ak_run.proofs.Entering.{all_started, none_entered, one_entered}
-use Rattle.ak_run.proofs.Recorded.{call_goes, fronts_same, others_still, saw_front, sees_front}
+use Rattle.ak_run.proofs.Recorded.{fronts_same}
 
 -- ---- steps
 -- one port more
@@ -77,6 +67,10 @@ closes_same P r r' so time members roster book =
     let same = fronts_same r r' time members (ap (λ s. s.front) roster) book [] in
     record { steps = []; so = λ so_far is. so so_far; goes = same_goes (fronts_of r) (fronts_of r') same; no_edits = λ looper. refl }
 
+-- where it does not matter what was done before
+pub closes_by : (P : List Step → Type 0) (r r' : Run) → RecordsSo P (fronts_of r) (fronts_of r') → ClosesSo (λ so_far. P) r r'
+closes_by P r r' one = record { steps = one.steps; so = λ so_far is. one.so; goes = one.goes; no_edits = one.no_edits }
+
 -- the team is gone, and its ports are shut
 pub ends_so : (heads : List AppHead) (so_far : List Step) (team : ℕ) (running : Option Running) (xs ys : List Step) → LeavesSo heads so_far team running xs → ShutsAll (ports_of running) ys → EndsTeam heads so_far team (xs ++ ys)
 ends_so heads so_far team running xs ys leaves shuts = record { running = running; gone = xs; leaves = leaves; shut = ys; shuts = shuts; is = refl }
@@ -84,14 +78,9 @@ ends_so heads so_far team running xs ys leaves shuts = record { running = runnin
 pub ends_gone : (heads : List AppHead) (so_far : List Step) (team : ℕ) (steps : List Step) → LeavesSo heads so_far team None steps → EndsTeam heads so_far team steps
 ends_gone heads so_far team steps leaves = record { running = None; gone = steps; leaves = leaves; shut = []; shuts = refl; is = sym (append-nil steps) }
 
--- ---- a port is shut
-module _ (r r' : Run) (place : ℕ) (m : Member) (door : Door) (within : place < length r.members.items) (here : get_or r.members.items place m ≡ m) (is : r'.members.items ≡ set r.members.items place (record m { door = door })) (roster : r'.roster_seat ≡ r.roster_seat) where
-  pub shut_closes : ActsAtBoth place r.hands.clock.time r'.hands.clock.time (Shuts place) r.hands.book_seat.front r'.hands.book_seat.front m.door.port_seat.front door.port_seat.front → ClosesSo (λ so_far. Shuts place) r r'
-  shut_closes acts = record { steps = acts.steps; so = λ so_far is. acts.so; goes = call_goes r r' place m door within here is acts.steps roster acts.acts acts.goes []; no_edits = acts.goes.no_edits }
-
 -- ---- in main's turn at the roster
 -- a team is found exactly where the search tells so
-any_found : (test : Running → Bool) (xs : List Running) (o : Option Running) → find test xs ≡ o → list_any test xs ≡ is_some o
+pub any_found : (test : Running → Bool) (xs : List Running) (o : Option Running) → find test xs ≡ o → list_any test xs ≡ is_some o
 any_found test [] o is = ap is_some is
 any_found test (x ∷ xs) o is = by_case (any_found test xs o) (test x) is
   where

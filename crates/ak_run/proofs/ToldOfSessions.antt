@@ -1,14 +1,13 @@
 -- What the kept lists tell of each session.
-use Rattle.std.proofs.Common.{◌≡◌, ◌≢◌, ◌⊎◌, ◌<◌, ◌≤◌, ◌+◌, ◌==◌, ℕ, zero, suc, Bool, cond, List, [], ◌∷◌, ◌++◌, length, map, All, Contains, Option, None, Some, inl, inr, ⊎_elim, refl, sym, ap, ◌∙◌, subst, ne_eqb, arith}
-use Rattle.std.specs.Prelude.{IfSome, IsSomeAnd, get_or, option_map, slice_get, unwrap_or, Vec, if◌then◌else◌}
+use Rattle.std.proofs.Common.{◌≡◌, ◌≢◌, ◌<◌, ◌≤◌, ◌+◌, ◌==◌, ℕ, zero, suc, Bool, cond, List, [], ◌∷◌, ◌++◌, length, All, Contains, Option, None, Some, ⊎_elim, refl, sym, ap, ◌∙◌, subst, ne_eqb, arith}
+use Rattle.std.specs.Prelude.{IfSome, get_or, option_map, slice_get, unwrap_or, Vec, if◌then◌else◌}
 use Rattle.std.specs.declared.alloc.Global.{Global}
 use Rattle.std.proofs.lemmas.List.Elements.{All-contains, All-cons, All-head, All-map, All-nil, All-tail, All-weaker}
 use Rattle.std.proofs.lemmas.Option.{slice_get_cases, slice_get_within}
-use Rattle.ak_base.specs.Thread.{keeper_thread, looper_thread, main_thread}
 use Rattle.ak_base.specs.declared.thread.ThreadId.{ThreadId}
 use Rattle.ak_turn.specs.Entries.{AreByOthers, StartsWith, made_by}
-use Rattle.ak_turn.specs.Noted.{Noted, StandsIn, noted}
-use Rattle.ak_turn.specs.Seats.{LockId, part_of}
+use Rattle.ak_turn.specs.Noted.{StandsIn, noted}
+use Rattle.ak_turn.specs.Seats.{part_of}
 use Rattle.ak_turn.proofs.Surface.{known_is_made, noted_stands, noted-others, seen_still, starts_then_starts}
 use Rattle.ak_roster.specs.declared.entry.EntryWithObjects.{EntryWithObjects}
 use Rattle.ak_roster.specs.declared.entry.RosterEntry.{RosterEntry}
@@ -27,9 +26,8 @@ use Rattle.ak_desk.specs.Desk.{DeskData}
 use Rattle.ak_desk.specs.Entry.{EntryData}
 use Rattle.ak_desk.specs.Shared as desks
 use Rattle.ak_diary.specs.declared.histories.Histories.{Histories}
-use Rattle.ak_diary.specs.Looper.{doors_got}
 use Rattle.ak_diary.specs.Step.{Step, at_roster, at_book, at_port, at_desk, saw_roster, saw_book, saw_port, lacked, book_entries, book_sights, desk_entries, desk_entry, port_entries, port_entry, port_sight, port_sights, roster_entries, roster_sights}
-use Rattle.ak_headline.specs.Run.{HasDone, desk_list, port_list}
+use Rattle.ak_headline.specs.Run.{desk_list, port_list}
 use Rattle.ak_looper.specs.declared.door.Door.{Door}
 use Rattle.ak_looper.specs.declared.kept_door.KeptDoor.{KeptDoor}
 use Rattle.ak_looper.specs.Rosters as rosters

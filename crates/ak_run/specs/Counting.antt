@@ -1,5 +1,5 @@
 -- How many loopers main has started, as its own entries at the roster tell.
-use Rattle.std.specs.Prelude.{◌≡◌, ℕ, ◌+◌, List, [], ◌∷◌, map}
+use Rattle.std.specs.Prelude.{ℕ, ◌+◌, List, [], ◌∷◌}
 use Rattle.ak_base.specs.Thread.{main_thread}
 use Rattle.ak_turn.specs.Entries.{made_by}
 use Rattle.ak_roster.specs.declared.head.AppHead.{AppHead}

@@ -1,9 +1,8 @@
 -- What main does by one call, step by step, and what the call answers.
-use Rattle.std.specs.Prelude.{◌≡◌, ◌≤◌, ◌+◌, ℕ, List, [], ◌∷◌, ◌++◌, length, All, Option, None, Some, option_map, slice_get, unwrap_or, Result, Ok, Err}
+use Rattle.std.specs.Prelude.{◌≡◌, ◌⊎◌, ◌≤◌, ◌+◌, ℕ, List, [], ◌∷◌, ◌++◌, length, All, Option, None, Some, option_map, slice_get, unwrap_or, Result, Ok, Err}
 use Rattle.std.specs.List.{find}
 use Rattle.ak_base.specs.Thread.{main_thread}
 use Rattle.ak_base.specs.declared.app_word.AppWord.{AppWord}
-use Rattle.ak_message.specs.declared.address.Address.{Address}
 use Rattle.ak_message.specs.Message.{MessageData}
 use Rattle.ak_flatten.specs.Item.{ItemData}
 use Rattle.ak_turn.specs.Entries.{StartsWith}
@@ -12,10 +11,8 @@ use Rattle.ak_roster.specs.declared.entry.LaunchOutcome.{LaunchOutcome}
 use Rattle.ak_roster.specs.declared.entry.LaunchOutcome.TheVariants as outcome
 use Rattle.ak_roster.specs.declared.entry.RosterEntry.{RosterEntry}
 use Rattle.ak_roster.specs.declared.entry.RosterEvent.TheVariants as roster_event
-use Rattle.ak_roster.specs.declared.head.AppHead.{AppHead}
 use Rattle.ak_roster.specs.declared.team.Running.{Running}
-use Rattle.ak_roster.specs.Heads.{team_for}
-use Rattle.ak_roster.specs.Machine.{outcome_found, runs_team, state_of}
+use Rattle.ak_roster.specs.Machine.{runs_team, state_of}
 use Rattle.ak_describe.specs.Whole.{heads_of}
 use Rattle.ak_describe.specs.declared.described.AppText.{AppText}
 use Rattle.ak_port.specs.declared.port_entry.PortEvent.{PortEvent}
@@ -25,22 +22,18 @@ use Rattle.ak_messenger.specs.declared.envelope.Envelope.{Envelope}
 use Rattle.ak_messenger.specs.declared.fault.SendFault.{SendFault}
 use Rattle.ak_messenger.specs.declared.fault.SendFault.TheVariants as fault
 use Rattle.ak_messenger.specs.Sends.{post_event}
-use Rattle.ak_desk.specs.declared.entry.Edit.{Edit}
-use Rattle.ak_desk.specs.declared.entry.EditAnswer.{EditAnswer}
-use Rattle.ak_desk.specs.declared.entry.DeskEvent.TheVariants as desk_event
 use Rattle.ak_desk.specs.Entry.{EntryData}
 use Rattle.ak_desk.specs.Shared as at_desks
-use Rattle.ak_diary.specs.Step.{Step, at_desk, at_roster, desk_entries}
+use Rattle.ak_diary.specs.Step.{Step, at_roster, desk_entries}
 use Rattle.ak_diary.specs.Wants.{AsksInVain, EntersPort, Withdraws}
 use Rattle.ak_looper.specs.Rosters.{plain_of}
 use Rattle.ak_run.specs.declared.run.Run.{Run}
 use Rattle.ak_run.specs.Greeting.{EntersEach, SendsEach, arguments_told, capacities_in, start_entries}
 use Rattle.ak_run.specs.Recording.{GoesBy, IsRecorded, fronts_of, list_at, member_desk_front}
+use Rattle.ak_run.specs.Stopping.{StopsTeam}
 use Rattle.ak_session.specs.Doing.{Answered, address_of}
 use Rattle.ak_session.specs.declared.answers.Found.{Found}
 use Rattle.ak_session.specs.declared.answers.Found.TheVariants as found
-use Rattle.ak_session.specs.declared.answers.Edited.{Edited}
-use Rattle.ak_session.specs.declared.answers.Edited.TheVariants as edited
 use Rattle.ak_run.specs.declared.answers.LaunchAnswer.{LaunchAnswer}
 use Rattle.ak_run.specs.declared.answers.LaunchAnswer.TheVariants as answer
 
@@ -118,14 +111,34 @@ pub record FindsRunning (apps : List AppText) (word : AppWord) (arguments : Opti
   pub sends : SendsEach running.first (arguments_told arguments) told
   pub is : steps ≡ entry ++ told
 
+-- the team runs, and memory ran out for what was to be sent to it: nothing is entered behind the entry
+pub record FindsRunningInVain (word : AppWord) (steps : List Step) : Type 0 where
+  pub team : ℕ
+  pub place : ℕ
+  pub launches : LaunchesAt word (outcome.AlreadyRunning team) place steps
+
+-- without memory nothing was entered, or no more than that
+abbrev pub LaunchesInVain : AppWord → List Step → Type 0
+LaunchesInVain word steps = (steps ≡ []) ⊎ FindsRunningInVain word steps
+
+-- a team was started, of which a looper got no thread; behind its launch the team was ended, with all its loopers
+pub record StartsInVain (apps : List AppText) (word : AppWord) (arguments : Option MessageData) (steps : List Step) : Type 0 where
+  pub team : ℕ
+  pub place : ℕ
+  pub started : List Step
+  pub starts : StartsTeam apps word arguments team place started
+  pub ended : List Step
+  pub stops : StopsTeam (heads_of apps) (starts.launches.noted.before ++ starts.launches.noted.entry ∷ []) team starts.first (length starts.app.loopers) ended
+  pub is : steps ≡ started ++ ended
+
 -- by its answer; nothing else is entered anywhere
 abbrev pub LaunchedSo : List AppText → AppWord → Option MessageData → LaunchAnswer → List Step → Type 0
 LaunchedSo apps word arguments (answer.Started team place) steps = StartsTeam apps word arguments team place steps
 LaunchedSo apps word arguments (answer.Running team place) steps = FindsRunning apps word arguments team place steps
 LaunchedSo apps word arguments (answer.NotFound place) steps = LaunchesAt word outcome.NotFound place steps
 LaunchedSo apps word arguments (answer.Limit place) steps = LaunchesAt word outcome.Limit place steps
-LaunchedSo apps word arguments answer.ThreadFault steps = Unit {0}
-LaunchedSo apps word arguments answer.NoMemory steps = Unit {0}
+LaunchedSo apps word arguments answer.ThreadFault steps = StartsInVain apps word arguments steps
+LaunchedSo apps word arguments answer.NoMemory steps = LaunchesInVain word steps
 
 -- ---- sends
 -- one entry at that port with that event, the last that main has seen there

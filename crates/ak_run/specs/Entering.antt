@@ -1,5 +1,5 @@
 -- What main did in a call that launches, before the loopers of the team start.
-use Rattle.std.specs.Prelude.{◌≡◌, ◌+◌, ℕ, List, [], ◌∷◌, ◌++◌, Option, Some, slice_get}
+use Rattle.std.specs.Prelude.{◌≡◌, ◌+◌, ℕ, List, [], ◌∷◌, ◌++◌, length, Option, Some, slice_get}
 use Rattle.std.specs.List.{find}
 use Rattle.ak_base.specs.declared.app_word.AppWord.{AppWord}
 use Rattle.ak_turn.specs.Entries.{StartsWith}
@@ -47,11 +47,12 @@ pub record LaunchesLast (word : AppWord) (came : LaunchOutcome) (r' : Run) (step
   pub last : plain_of r'.roster_seat ≡ noted.before ++ noted.entry ∷ []
   pub is : steps ≡ at_roster noted ∷ []
 
--- the ports of a team are made, its first looper is greeted, and then its launch is entered
-pub record EntersStart (apps : List AppText) (word : AppWord) (arguments : Option MessageData) (team first : ℕ) (r' : Run) (steps : List Step) : Type 0 where
+-- the ports of a team of so many loopers are made, its first looper is greeted, and then its launch is entered
+pub record EntersStart (apps : List AppText) (word : AppWord) (arguments : Option MessageData) (team first loopers : ℕ) (r' : Run) (steps : List Step) : Type 0 where
   pub description : ℕ
   pub app : AppText
   pub described : slice_get apps description ≡ Some app
+  pub count : length app.loopers ≡ loopers
   pub ports : List Step
   pub enters : EntersEach (start_entries first (capacities_in app.loopers) arguments) ports
   pub entry : List Step
@@ -65,13 +66,13 @@ pub record EntersRunning (apps : List AppText) (word : AppWord) (team first : �
   pub runs : find (runs_team team) (state_of (heads_of apps) launches.noted.before).running ≡ Some running
   pub first_is : running.first ≡ first
 
--- whatever it comes to, but for want of memory
+-- whatever it comes to; without memory nothing is entered
 abbrev pub EntersLaunch : List AppText → AppWord → Option MessageData → Launch → Run → List Step → Type 0
-EntersLaunch apps word arguments (launch.Started s) r' steps = EntersStart apps word arguments s.team.number s.team.first r' steps
+EntersLaunch apps word arguments (launch.Started s) r' steps = EntersStart apps word arguments s.team.number s.team.first s.team.loopers r' steps
 EntersLaunch apps word arguments (launch.Running team first) r' steps = EntersRunning apps word team first r' steps
 EntersLaunch apps word arguments launch.NotFound r' steps = LaunchesLast word outcome.NotFound r' steps
 EntersLaunch apps word arguments launch.Limit r' steps = LaunchesLast word outcome.Limit r' steps
-EntersLaunch apps word arguments launch.NoMemory r' steps = Unit {0}
+EntersLaunch apps word arguments launch.NoMemory r' steps = steps ≡ []
 
 -- the team runs, by the last of so many entries; or memory ran out
 abbrev pub GreetsAgain : ℕ → ℕ → LaunchAnswer → Type 0
@@ -79,7 +80,7 @@ GreetsAgain team seen (answer.Running number place) = (number ≡ team) × (seen
 GreetsAgain team seen answer.NoMemory = Unit {0}
 GreetsAgain team seen _ = ⊥
 
--- what was sent to its first looper then
+-- what was sent to its first looper then; nothing without memory
 abbrev pub GreetsSo : ℕ → Option MessageData → LaunchAnswer → List Step → Type 0
 GreetsSo first arguments (answer.Running number place) steps = SendsEach first (arguments_told arguments) steps
-GreetsSo first arguments _ steps = Unit {0}
+GreetsSo first arguments _ steps = steps ≡ []

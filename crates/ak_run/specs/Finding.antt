@@ -4,12 +4,9 @@ use Rattle.ak_base.specs.declared.app_word.AppWord.{AppWord}
 use Rattle.ak_roster.specs.declared.answer.FindAnswer.{FindAnswer}
 use Rattle.ak_roster.specs.declared.answer.FindAnswer.TheVariants as answer
 use Rattle.ak_roster.specs.declared.entry.RosterEvent.TheVariants as event
-use Rattle.ak_roster.specs.declared.team.Running.{Running}
 use Rattle.ak_roster.specs.Heads.{team_for}
 use Rattle.ak_roster.specs.Machine.{outcome_found}
 use Rattle.ak_roster.specs.Roster.{state}
-use Rattle.ak_session.specs.declared.answers.Found.{Found}
-use Rattle.ak_session.specs.declared.answers.Found.TheVariants as found
 use Rattle.ak_run.specs.Launching.{Book, HasEntered}
 
 -- by one entry that team was found, whose loopers were started, or none

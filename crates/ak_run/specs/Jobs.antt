@@ -19,7 +19,6 @@ use Rattle.ak_looper.specs.Rosters.{LeadsTo, Object, RosterSeat, maker_of, plain
 use Rattle.ak_looper.specs.Stands.{StartsTeam, doors_kept}
 use Rattle.ak_run.specs.declared.launching.Team.{Team}
 use Rattle.ak_run.specs.declared.new_looper.NewLooper.{NewLooper}
-use Rattle.ak_run.specs.declared.new_looper.Shared.{Shared}
 use Rattle.ak_run.specs.NewLooper.{IsNewLooper}
 use Rattle.ak_run.specs.NewTeam.{IsOneOf}
 use Rattle.ak_run.specs.Opened.{IsLaunchOf}

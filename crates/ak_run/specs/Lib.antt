@@ -20,3 +20,4 @@ pub mod Running
 pub mod Sending
 pub mod Sessions
 pub mod Starting
+pub mod Stopping

@@ -1,5 +1,5 @@
 -- The loopers of a team that is about to start.
-use Rattle.std.specs.Prelude.{◌≡◌, ℕ, suc, ◌+◌, List, [], ◌∷◌, length, Some, slice_get}
+use Rattle.std.specs.Prelude.{◌≡◌, ℕ, suc, ◌+◌, List, [], ◌∷◌, Some, slice_get}
 use Rattle.ak_action.specs.declared.plan.PlanParts.{PlanParts}
 use Rattle.ak_describe.specs.declared.described.AppText.{AppText}
 use Rattle.ak_looper.specs.declared.door.Door.{Door}

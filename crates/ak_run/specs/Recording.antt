@@ -119,17 +119,27 @@ pub record Records (a b : Fronts) : Type 0 where
   pub goes : GoesBy steps a b
   pub no_edits : (looper : ℕ) → desk_entries looper steps ≡ []
 
+-- by acts of which that holds
+pub record RecordsSo (P : List Step → Type 0) (a b : Fronts) : Type 0 where
+  pub steps : List Step
+  pub so : P steps
+  pub goes : GoesBy steps a b
+  pub no_edits : (looper : ℕ) → desk_entries looper steps ≡ []
+
 -- by a call of main's, whatever new ports there are
 abbrev pub RecordsBeside : Run → Run → Type 0
 RecordsBeside r r' = (new : List (List PortEntry)) → Records (fronts_with r new) (fronts_with r' new)
 
+pub record RecordsBesideSo (P : List Step → Type 0) (r r' : Run) : Type 0 where
+  pub beside : (new : List (List PortEntry)) → RecordsSo P (fronts_with r new) (fronts_with r' new)
+
 -- by a call in which the list of the first of them went on too
-abbrev pub RecordsAtNew : List PortEntry → List PortEntry → Run → Run → Type 0
-RecordsAtNew port port' r r' = (new : List (List PortEntry)) → Records (fronts_with r (port ∷ new)) (fronts_with r' (port' ∷ new))
+pub record RecordsAtNew (P : List Step → Type 0) (port port' : List PortEntry) (r r' : Run) : Type 0 where
+  pub beside : (new : List (List PortEntry)) → RecordsSo P (fronts_with r (port ∷ new)) (fronts_with r' (port' ∷ new))
 
 -- by the start of the looper with that port, which is new no more
-pub record RecordsStart (port : List PortEntry) (r r' : Run) : Type 0 where
-  pub beside : (new : List (List PortEntry)) → Records (fronts_with r (port ∷ new)) (fronts_with r' new)
+pub record RecordsStart (P : List Step → Type 0) (port : List PortEntry) (r r' : Run) : Type 0 where
+  pub beside : (new : List (List PortEntry)) → RecordsSo P (fronts_with r (port ∷ new)) (fronts_with r' new)
 
 -- the same without an act: the fronts are as they were
 pub record StartsQuietly (port : List PortEntry) (r r' : Run) : Type 0 where

@@ -1,5 +1,5 @@
 -- What main does at a looper that was started.
-use Rattle.std.specs.Prelude.{◌≡◌, ◌+◌, ℕ, length, Option, None, Some, Result, option_map, slice_get}
+use Rattle.std.specs.Prelude.{◌≡◌, ℕ, length, Option, Some, Result, option_map, slice_get}
 use Rattle.ak_messenger.specs.declared.asking.Reply.{Reply}
 use Rattle.ak_messenger.specs.declared.fault.SendFault.{SendFault}
 use Rattle.ak_messenger.specs.Asks.{AskTells}
@@ -8,12 +8,8 @@ use Rattle.ak_port.specs.declared.port_entry.PortEvent.{PortEvent}
 use Rattle.ak_port.specs.PortCalls as ports
 use Rattle.ak_port.specs.PortCalls.{PortSeat}
 use Rattle.ak_desk.specs.declared.entry.DeskEvent.{DeskEvent}
-use Rattle.ak_desk.specs.declared.entry.DeskEvent.TheVariants as event
-use Rattle.ak_desk.specs.declared.entry.Edit.{Edit}
 use Rattle.ak_desk.specs.Shared as desks
 use Rattle.ak_desk.specs.Shared.{DeskSeat}
-use Rattle.ak_session.specs.declared.answers.Edited.{Edited}
-use Rattle.ak_session.specs.declared.answers.Edited.TheVariants as edited
 use Rattle.ak_run.specs.declared.member.Member.{Member}
 use Rattle.ak_run.specs.declared.run.Run.{Run}
 

@@ -1,5 +1,5 @@
 -- Loopers that start, one after another.
-use Rattle.std.specs.Prelude.{◌≡◌, ℕ, suc, ◌+◌, ◌≤◌, ◌<◌, List, [], ◌∷◌, length, All}
+use Rattle.std.specs.Prelude.{◌≡◌, ℕ, ◌+◌, ◌≤◌, ◌<◌, List, [], ◌∷◌, length, All}
 use Rattle.std.specs.Arc.{arc_value}
 use Rattle.ak_base.specs.Limits.{app_looper_limit, looper_limit}
 use Rattle.ak_turn.specs.Entries.{StartsWith}
@@ -18,7 +18,6 @@ use Rattle.ak_run.specs.declared.launching.Launch.{Launch}
 use Rattle.ak_run.specs.declared.launching.Launch.TheVariants as launch
 use Rattle.ak_run.specs.declared.launching.Team.{Team}
 use Rattle.ak_run.specs.declared.new_looper.NewLooper.{NewLooper}
-use Rattle.ak_run.specs.declared.new_looper.Shared.{Shared}
 use Rattle.ak_run.specs.declared.new_team.NewTeam.{NewTeam}
 use Rattle.ak_run.specs.declared.run.Run.{Run}
 use Rattle.ak_run.specs.Counting.{started_by_main}
@@ -26,7 +25,7 @@ use Rattle.ak_run.specs.Doing.{IsQuietAtDesks, desk_front}
 use Rattle.ak_run.specs.Jobs.{HasWays, IsStartedFrom, IsStartedIn, facts_in}
 use Rattle.ak_run.specs.NewLooper.{IsNewLooper}
 use Rattle.ak_run.specs.NewTeam.{AreOthers, IsNewTeam}
-use Rattle.ak_run.specs.Recording.{HasRecord, RecordsAtNew, RecordsBeside, fronts_with, team_fronts}
+use Rattle.ak_run.specs.Recording.{HasRecord, RecordsBeside, fronts_with, team_fronts}
 use Rattle.ak_run.specs.Running.{IsRunning, KeepsRest, Stands}
 
 -- the run goes on with the loopers that it has; main launched nothing, and edited nothing
@@ -41,8 +40,8 @@ pub record GoesOn (r r' : Run) : Type 0 where
   pub desks_on : IsQuietAtDesks r r'
   pub recorded : RecordsBeside r r'
 
--- the same, while main's list of the port of a looper that is about to start went on from the one to the other
-pub record GoesOnAtNew (port port' : List PortEntry) (r r' : Run) : Type 0 where
+-- the same, where main may have made entries at the port of a looper that is about to start
+pub record GoesOnAtNew (r r' : Run) : Type 0 where
   pub stands : (next : ℕ) (heads : List AppHead) → Stands next heads r → Stands next heads r'
   pub started : (next : ℕ) (heads : List AppHead) → Stands next heads r → started_by_main heads r'.roster_seat ≡ started_by_main heads r.roster_seat
   pub count : length r'.members.items ≡ length r.members.items
@@ -51,7 +50,6 @@ pub record GoesOnAtNew (port port' : List PortEntry) (r r' : Run) : Type 0 where
   pub apps : r'.apps ≡ r.apps
   pub slots : r'.slots ≡ r.slots
   pub desks_on : IsQuietAtDesks r r'
-  pub recorded : RecordsAtNew port port' r r'
 
 -- the same, with so many loopers more that have their threads
 pub record GoesOnWith (more : ℕ) (r r' : Run) : Type 0 where

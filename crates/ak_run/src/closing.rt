@@ -6,12 +6,15 @@ ghost use Rattle.ak_roster.specs.Machine.{runs_team};
 ghost use Rattle.ak_roster.specs.Roster.{IsAtRest, last_stamp};
 ghost use Rattle.ak_describe.specs.Whole.{heads_of};
 ghost use Rattle.ak_diary.specs.Turns.{Shuts, ShutsAll};
+ghost use Rattle.ak_looper.specs.Rosters.{plain_of};
 ghost use Rattle.ak_run.specs.Closing.{ClosesSo, EndsAllTeams, EndsTeam, LeavesBook, LeavesSo};
 ghost use Rattle.ak_run.specs.Launching.{ByMain, IsTurnInTime};
+ghost use Rattle.ak_run.specs.Recording.{RecordsBesideSo};
 ghost use Rattle.ak_run.specs.Running.{IsRunning, IsStanding};
 ghost use Rattle.ak_run.specs.Starting.{GoesOn};
+ghost use Rattle.ak_run.specs.Stopping.{LeavesOrSees, StopsBeside};
 
-use crate::launching::count_by_main;
+use crate::launching::{Team, count_by_main};
 use crate::run::Run;
 use ak_looper::KeptDoor;
 use ak_port::close;
@@ -20,45 +23,29 @@ use ak_turn::Clock;
 use std::sync::Wait;
 
 impl Run {
-    /// Enters that the team no longer runs, where it runs, and shuts the ports of those of its loopers that were started.
-    pub(crate) fn stop_team<R: Wait>(&mut self, rt: &R, team: u32)
+    /// Enters that the team no longer runs, where it runs, and shuts the ports of those of its loopers that were started: no later team
+    /// was, so they are the last ones.
+    pub(crate) fn stop_team<R: Wait>(&mut self, rt: &R, team: Team)
         requires stands { IsStanding self.old }
-        ensures { GoesOn self.old self.new }
+        requires first { team.first ≤ length self.old.members.items }
+        ensures goes { GoesOn self.old self.new }
+        ensures stops { StopsBeside team self.old self.new }
     {
-        self.leave(rt, team);
-        self.shut(rt, team);
+        self.leave(rt, team.number);
+        let started = self.members.len() as u32 - team.first;
+        self.shut_ports(rt, team.first, started);
     }
 
     // Enters that the team no longer runs, where it runs.
     fn leave<R: Wait>(&mut self, rt: &R, team: u32)
-        ensures { GoesOn self.old self.new }
+        requires stands { IsStanding self.old }
+        ensures goes { GoesOn self.old self.new }
+        ensures left { RecordsBesideSo (LeavesOrSees (heads_of self.old.apps.items) (plain_of self.old.roster_seat) team) self.old self.new }
     {
         let mut turn = self.shared.roster.lock(rt, &mut self.roster_seat);
         self.hands.clock.ready(rt);
         turn.book().gone(team, &mut self.hands.clock);
         turn.finish(&mut self.roster_seat);
-    }
-
-    // Shuts the ports of a team, in order.
-    fn shut<R: Wait>(&mut self, rt: &R, team: u32)
-        requires stands { IsStanding self.old }
-        ensures { GoesOn self.old self.new }
-    {
-        for place in 0..self.members.len() {
-            self.shut_one(rt, team, place);
-        }
-    }
-
-    // Shuts the port of that looper, where it is of that team.
-    fn shut_one<R: Wait>(&mut self, rt: &R, team: u32, place: usize)
-        requires stands { IsStanding self.old }
-        requires there { place < length self.old.members.items }
-        ensures { GoesOn self.old self.new }
-    {
-        if self.members[place].team == team {
-            let door = &mut self.members[place].door;
-            close(&door.port, rt, &mut door.port_seat, &mut self.hands.clock);
-        }
     }
 
     /// Ends each team that still runs, in order. No team has a number past the limit.
@@ -100,10 +87,10 @@ impl Run {
 
     // Shuts so many ports, in order, from that looper's on.
     fn shut_ports<R: Wait>(&mut self, rt: &R, first: u32, loopers: u32)
-        requires running { IsRunning self.old }
+        requires stands { IsStanding self.old }
         requires there { first + loopers ≤ length self.old.members.items }
         ensures goes { GoesOn self.old self.new }
-        ensures closed { ClosesSo (λ so_far. ShutsAll (range_with_len first loopers)) self.old self.new }
+        ensures shut { RecordsBesideSo (ShutsAll (range_with_len first loopers)) self.old self.new }
     {
         for place in 0..loopers {
             self.shut_port(rt, first + place);
@@ -112,10 +99,10 @@ impl Run {
 
     // Shuts the port of that looper, where it is not shut.
     fn shut_port<R: Wait>(&mut self, rt: &R, looper: u32)
-        requires running { IsRunning self.old }
+        requires stands { IsStanding self.old }
         requires there { looper < length self.old.members.items }
         ensures goes { GoesOn self.old self.new }
-        ensures closed { ClosesSo (λ so_far. Shuts looper) self.old self.new }
+        ensures shut { RecordsBesideSo (Shuts looper) self.old self.new }
     {
         let door = &mut self.members[looper as usize].door;
         close(&door.port, rt, &mut door.port_seat, &mut self.hands.clock);

@@ -112,7 +112,6 @@ pub(crate) fn join_one<R: Threads>(
 {
     let Member {
         number,
-        team: _,
         mut door,
         job,
         life,

@@ -1,8 +1,8 @@
 //! What an application's own looper gets before it starts.
-ghost use Rattle.std.specs.Prelude.{◌≡◌, ◌≤◌, ◌∷◌, [], ℕ, option_map, IsErrOf, OnOk, false};
+ghost use Rattle.std.specs.Prelude.{◌≡◌, ◌≤◌, ◌∷◌, [], ℕ, option_map, IsErrOf, None, OnErr, OnOk, false};
 ghost use Rattle.ak_base.specs.declared.thread.ThreadId.{ThreadId};
 ghost use Rattle.ak_turn.specs.Called.{KeepsSeat};
-ghost use Rattle.ak_port.specs.PortCalls.{CanTake};
+ghost use Rattle.ak_port.specs.PortCalls.{CanTake, HasAnswered};
 ghost use Rattle.ak_run.specs.Doors.{KeepsDoor};
 ghost use Rattle.ak_base.specs.Thread.{main_thread};
 ghost use Rattle.ak_run.specs.Recording.{AddsAtPort};
@@ -24,7 +24,8 @@ const FROM_MAIN: Envelope = Envelope {
     back: None,
 };
 
-/// Sends it to the looper that the door leads to, and waits for room. A port that refuses it changes nothing.
+/// Sends it to the looper that the door leads to, and waits for room. A port that refuses it changes nothing; without memory nothing is
+/// entered there.
 pub(crate) fn send<R: Wait>(
     alloc: Global,
     rt: &R,
@@ -36,6 +37,7 @@ pub(crate) fn send<R: Wait>(
     ensures door { KeepsDoor door.old door.new }
     ensures adds { door.old.port_seat.thread ≡ main_thread → AddsAtPort hands.old.clock.time hands.new.clock.time door.old.port_seat.front door.new.port_seat.front }
     ensures sent { OnOk result (HasSent message.now hands.old.clock hands.new.clock door.old.port_seat door.new.port_seat) }
+    ensures unsent { OnErr result (HasAnswered None hands.old.clock hands.new.clock door.old.port_seat door.new.port_seat) }
     ensures book { hands.new.book ≡ hands.old.book }
     ensures book_seat { hands.new.book_seat ≡ hands.old.book_seat }
     ensures clock { hands.new.clock.thread ≡ hands.old.clock.thread }
@@ -53,7 +55,8 @@ pub(crate) fn send<R: Wait>(
 
 // Want of memory alone is a fault: it is main's, and no answer of the port.
 fn unless_memory_ran_out(sent: Result<u64, SendFault>) -> Result<(), NoMemory>
-    ensures { OnOk result (IsErrOf sent SendFault.NoMemory → ⊥) }
+    ensures sent { OnOk result (IsErrOf sent SendFault.NoMemory → ⊥) }
+    ensures wanting { OnErr result (IsErrOf sent SendFault.NoMemory) }
 {
     match sent {
         Err(SendFault::NoMemory) => Err(NoMemory),

@@ -35,11 +35,10 @@ impl Life {
     }
 }
 
-/// A looper that was started: its team, main's door to it, what it was started with, and its life.
+/// A looper that was started: main's door to it, what it was started with, and its life.
 #[derive(Drop)]
 pub(crate) struct Member {
     pub(crate) number: u32,
-    pub(crate) team: u32,
     pub(crate) door: Door,
     pub(crate) job: Snapshot<LooperJob>,
     pub(crate) life: Life,

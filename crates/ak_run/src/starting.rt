@@ -1,13 +1,17 @@
 //! Starting the thread of a looper.
-ghost use Rattle.std.specs.Prelude.{◌≡◌, ◌≤◌, IfOk, IfErr, OnOk, OnErr};
+ghost use Rattle.std.specs.Prelude.{◌≡◌, ◌≤◌, length, IfOk, IfErr, OnOk, OnErr};
 ghost use Rattle.ak_base.specs.Thread.{main_thread};
 ghost use Rattle.ak_outside.specs.Faults.{Rose};
 ghost use Rattle.ak_outside.specs.Spawner.{HasGivenBack, HasStarted};
+ghost use Rattle.ak_diary.specs.Turns.{Shuts};
 ghost use Rattle.ak_looper.specs.Job.{HasLived, IsReady};
 ghost use Rattle.ak_run.specs.Members.{StillLeads};
+ghost use Rattle.ak_run.specs.Recording.{RecordsAtNew};
 ghost use Rattle.ak_run.specs.Running.{IsStanding};
 ghost use Rattle.ak_run.specs.Starting.{GoesOnAtNew};
+ghost use Rattle.ak_run.specs.Stopping.{StopsAtNew};
 
+use crate::launching::Team;
 use crate::member::Lives;
 use crate::run::Run;
 use ak_looper::{Door, LooperEnd, LooperJob, run_looper};
@@ -30,12 +34,13 @@ impl Run {
         spawner: &mut W,
         gate: G,
         job: LooperJob,
-        team: u32,
+        team: Team,
         door: &mut Door,
     ) -> Result<PromisedHandle<LooperEnd, Lives>, LooperEnd>
         requires stands { IsStanding self.old }
         requires ready { IsReady job }
         requires main { door.old.port_seat.thread ≡ main_thread }
+        requires first { team.first ≤ length self.old.members.items }
         ensures ok { IfOk result (λ handle. handle.promise.0.value ≡ job) }
         ensures started { OnOk result (HasStarted (W.calls spawner.old) (W.calls spawner.new)) }
         ensures kept { OnOk result (W.faults spawner.new ≡ W.faults spawner.old) }
@@ -43,7 +48,8 @@ impl Run {
         ensures given_back { OnErr result (HasGivenBack (W.calls spawner.old) (W.calls spawner.new)) }
         ensures cause { OnErr result (Rose (W.faults spawner.old) (W.faults spawner.new)) }
         ensures never_falls { W.faults spawner.old ≤ W.faults spawner.new }
-        ensures run { GoesOnAtNew door.old.port_seat.front door.new.port_seat.front self.old self.new }
+        ensures run { GoesOnAtNew self.old self.new }
+        ensures stops { OnErr result (StopsAtNew team door.old.port_seat.front door.new.port_seat.front self.old self.new) }
         ensures quiet { OnOk result (self.new ≡ self.old) }
         ensures door { StillLeads door.old door.new }
         ensures door_kept { OnOk result (door.new ≡ door.old) }
@@ -75,17 +81,19 @@ impl Run {
         requires ready { IsReady job }
         requires main { door.old.port_seat.thread ≡ main_thread }
         ensures lived { HasLived job result }
-        ensures run { GoesOnAtNew door.old.port_seat.front door.new.port_seat.front self.old self.new }
+        ensures run { GoesOnAtNew self.old self.new }
+        ensures shut { RecordsAtNew (Shuts (length self.old.members.items)) door.old.port_seat.front door.new.port_seat.front self.old self.new }
         ensures door { StillLeads door.old door.new }
     {
         self.shut_door(rt, door);
         run_looper(job, gate, rt)
     }
 
-    // Shuts the port to which the door leads.
+    // Shuts the port to which the door leads, of the looper that follows those that main has.
     fn shut_door<R: Wait>(&mut self, rt: &R, door: &mut Door)
         requires main { door.old.port_seat.thread ≡ main_thread }
-        ensures run { GoesOnAtNew door.old.port_seat.front door.new.port_seat.front self.old self.new }
+        ensures run { GoesOnAtNew self.old self.new }
+        ensures shut { RecordsAtNew (Shuts (length self.old.members.items)) door.old.port_seat.front door.new.port_seat.front self.old self.new }
         ensures door { StillLeads door.old door.new }
     {
         close(&door.port, rt, &mut door.port_seat, &mut self.hands.clock);

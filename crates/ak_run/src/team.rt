@@ -7,12 +7,14 @@ ghost use Rattle.ak_turn.specs.Seats.{new_seat};
 ghost use Rattle.ak_turn.specs.Steps.{IsNewName};
 ghost use Rattle.ak_action.specs.declared.plan.PlanParts.{PlanParts};
 ghost use Rattle.ak_roster.specs.declared.head.AppHead.{AppHead};
+ghost use Rattle.ak_diary.specs.Turns.{Shuts};
 ghost use Rattle.ak_looper.specs.declared.kept_door.KeptDoor.{KeptDoor};
 ghost use Rattle.ak_looper.specs.Job.{IsReady};
 ghost use Rattle.ak_run.specs.Members.{IsLifeOf, StillLeads};
-ghost use Rattle.ak_run.specs.Recording.{Records, RecordsStart, StartsQuietly, fronts_of, fronts_with, team_fronts};
+ghost use Rattle.ak_run.specs.Recording.{RecordsAtNew, RecordsSo, RecordsStart, StartsQuietly, fronts_of, fronts_with, team_fronts};
 ghost use Rattle.ak_run.specs.Running.{IsStanding};
 ghost use Rattle.ak_run.specs.Starting.{GoesOnAtNew, GoesOnWith, HasSplit, MayStart, MayStartTeam};
+ghost use Rattle.ak_run.specs.Stopping.{Stops, StopsAtNew, StopsStart};
 
 use crate::launching::Team;
 use crate::member::{Life, Member};
@@ -61,8 +63,8 @@ impl Run {
         requires start { (heads : List AppHead) × (plans : List PlanParts) × (kept : List KeptDoor) × MayStartTeam heads plans kept team new self.old }
         requires gates { team.loopers ≤ length gates.items }
         ensures started { GoesOnWith team.loopers self.old self.new }
-        ensures recorded { Records (fronts_with self.old (team_fronts new)) (fronts_of self.new) }
         ensures quiet { IsTrue result → fronts_of self.new ≡ fronts_with self.old (team_fronts new) }
+        ensures stops { IsFalse result → RecordsSo (Stops team self.old team.loopers) (fronts_with self.old (team_fronts new)) (fronts_of self.new) }
         ensures kept { IsTrue result → W.faults spawner.new ≡ W.faults spawner.old }
         ensures cause { IsFalse result → Rose (W.faults spawner.old) (W.faults spawner.new) }
         ensures never_falls { W.faults spawner.old ≤ W.faults spawner.new }
@@ -105,17 +107,20 @@ impl Run {
         spawner: &mut W,
         gate: G,
         job: LooperJob,
-        team: u32,
+        team: Team,
         door: &mut Door,
         start: bool,
     ) -> (Life, bool)
         requires stands { IsStanding self.old }
         requires ready { IsReady job }
         requires main { door.old.port_seat.thread ≡ main_thread }
+        requires first { team.first ≤ length self.old.members.items }
         ensures life { IsLifeOf job result.0 }
-        ensures run { GoesOnAtNew door.old.port_seat.front door.new.port_seat.front self.old self.new }
+        ensures run { GoesOnAtNew self.old self.new }
         ensures door { StillLeads door.old door.new }
         ensures only { IsTrue result.1 → IsTrue start }
+        ensures stops { IsTrue start → IsFalse result.1 → StopsAtNew team door.old.port_seat.front door.new.port_seat.front self.old self.new }
+        ensures shut { IsFalse start → RecordsAtNew (Shuts (length self.old.members.items)) door.old.port_seat.front door.new.port_seat.front self.old self.new }
         ensures quiet { IsTrue result.1 → self.new ≡ self.old }
         ensures door_kept { IsTrue result.1 → door.new ≡ door.old }
         ensures kept { IsTrue result.1 → W.faults spawner.new ≡ W.faults spawner.old }
@@ -144,9 +149,10 @@ impl Run {
     ) -> bool
         requires start { (heads : List AppHead) × (plans : List PlanParts) × (k : ℕ) × MayStart heads plans k team new ways.items self.old }
         ensures started { GoesOnWith 1 self.old self.new }
-        ensures recorded { RecordsStart new.door.port_seat.front self.old self.new }
         ensures only { IsTrue result → IsTrue start }
         ensures quiet { IsTrue result → StartsQuietly new.door.port_seat.front self.old self.new }
+        ensures stops { IsTrue start → IsFalse result → StopsStart team new.door.port_seat.front self.old self.new }
+        ensures shut { IsFalse start → RecordsStart (Shuts (length self.old.members.items)) new.door.port_seat.front self.old self.new }
         ensures kept { IsTrue result → W.faults spawner.new ≡ W.faults spawner.old }
         ensures cause { IsTrue start → IsFalse result → Rose (W.faults spawner.old) (W.faults spawner.new) }
         ensures never_falls { W.faults spawner.old ≤ W.faults spawner.new }
@@ -155,10 +161,9 @@ impl Run {
         let (book_seat, roster_seat) = self.split_seats(ThreadId::looper(number));
         let (mut door, job) = new.into_job(team, ways, book_seat, roster_seat);
         let snapshot = Snapshot::of(&job);
-        let (life, started) = self.life_of(rt, spawner, gate, job, team.number, &mut door, start);
+        let (life, started) = self.life_of(rt, spawner, gate, job, team, &mut door, start);
         self.members.push_reserved(Member {
             number,
-            team: team.number,
             door,
             job: snapshot,
             life,

@@ -1,5 +1,5 @@
 -- Main's seats take in what its seats knew.
-use Rattle.std.proofs.Common.{◌≡◌, Option, is_some, refl, sym, ap, ◌∙◌}
+use Rattle.std.proofs.Common.{Option, is_some, refl, sym, ap, ◌∙◌}
 use Rattle.ak_session.specs.declared.session.Session.{Session}
 use Rattle.ak_run.proofs.GoingOn.{some_same}
 use Rattle.ak_run.proofs.Joining.{goes_on_knowing, took}

@@ -1,5 +1,5 @@
 -- Main's seats know what those so far knew, and the rest are closed; once they are joined, all are.
-use Rattle.std.proofs.Common.{◌≡◌, ◌+◌, ◌≤◌, ℕ, List, ◌++◌, length, map, All, vec_capacity}
+use Rattle.std.proofs.Common.{◌+◌, ◌≤◌, ℕ, List, ◌++◌, length, map, All, vec_capacity}
 use Rattle.std.specs.Prelude.{Vec}
 use Rattle.std.specs.declared.alloc.Global.{Global}
 use Rattle.ak_port.specs.ReplySeats.{ReplySeat}

@@ -1,12 +1,10 @@
 -- Its thread is a new one, and main's seats are the heads still.
-use Rattle.std.proofs.Common.{◌≡◌, ◌+◌, ◌++◌, ◌∷◌, [], ℕ, List, length, None, Some, refl, sym, ap, ◌∙◌, subst, arith}
+use Rattle.std.proofs.Common.{◌≡◌, ◌+◌, ◌++◌, ◌∷◌, [], ℕ, List, length, None, Some, refl, sym, ap, ◌∙◌, subst}
 use Rattle.ak_roster.specs.declared.head.AppHead.{AppHead}
 use Rattle.ak_run.specs.declared.slots.Slots.{Slots}
-use Rattle.ak_turn.specs.Seats.{KnowsWhole, new_seat}
+use Rattle.ak_turn.specs.Seats.{new_seat}
 use Rattle.ak_turn.specs.Steps.{IsNewName}
-use Rattle.ak_port.specs.ReplySeats as books
 use Rattle.ak_port.specs.ReplySeats.{ReplySeat}
-use Rattle.ak_looper.specs.Rosters as rosters
 use Rattle.ak_looper.specs.Rosters.{RosterSeat}
 use Rattle.ak_run.specs.Sessions.{Told, session_count, told_in}
 use Rattle.ak_run.specs.Starting.{HasSplit}

@@ -6,9 +6,10 @@ use Rattle.ak_outside.proofs.Surface.{Rose-after, Rose-before}
 use Rattle.std.proofs.lemmas.Grind.{common_steps}
 use Rattle.ak_looper.specs.declared.door.Door.{Door}
 use Rattle.ak_run.specs.declared.new_looper.NewLooper.{NewLooper}
-use Rattle.ak_run.specs.Recording.{Records, fronts_with, new_front, team_fronts}
+use Rattle.ak_run.specs.Recording.{fronts_with, new_front, team_fronts}
 use Rattle.ak_run.specs.Starting.{IsStarting, MayStart}
-use Rattle.ak_run.proofs.Acts.{records_then}
+use Rattle.ak_run.specs.Stopping.{StopsSince}
+use Rattle.ak_run.proofs.Stopping.{has_all, own_stops, stops_on}
 use Rattle.ak_run.proofs.TeamStarts.{all_started, next_may_start, next_started, others_follow, own_may_start}
 use Rattle.ak_run.proofs.run.Run.start_team.Goals as goal
 
@@ -29,8 +30,10 @@ loop-other-init g c =
     let same = c.into_iter-other-iterator.ensures.into_iter_gives.0 in
     record {
       starting = subst (IsStarting c.args.team c.args.self.now now) (sym same) (others_follow s.0 s.1 s.2 c.args.team c.args.new c.args.self.now now s.3 c.start_one-all.ensures.started);
-      recorded = subst (λ (ns : List NewLooper). Records (fronts_with c.args.self.now (team_fronts c.args.new)) (fronts_with now (map new_front ns))) (sym same) (c.start_one-all.ensures.recorded.beside (map new_front c.args.new.others.items));
       quiet = λ all. subst (λ (ns : List NewLooper). fronts_with now (map new_front ns) ≡ fronts_with c.args.self.now (team_fronts c.args.new)) (sym same) ((c.start_one-all.ensures.quiet all).same (map new_front c.args.new.others.items));
+      stops = λ none.
+          subst (λ (ns : List NewLooper). StopsSince c.args.team c.args.self.now (team_fronts c.args.new) now (map new_front ns)) (sym same)
+          (own_stops c.args.team c.args.self.now now c.args.new s.3.next c.start_one-all.ensures.started (c.start_one-all.ensures.stops refl none));
       kept = c.start_one-all.ensures.kept;
       cause = c.start_one-all.ensures.cause refl;
       never_falls = c.start_one-all.ensures.never_falls;
@@ -56,7 +59,6 @@ loop-other-preserved g c =
     let is = subst (IsStarting c.args.team c.args.self.now was.self) next was.invariant.starting in
     let now = c.start_one-all-in-loop-other.new.self in
     let begun = fronts_with c.args.self.now (team_fronts c.args.new) in
-    let so_far = subst (λ (ns : List NewLooper). Records begun (fronts_with was.self (map new_front ns))) next was.invariant.recorded in
     let one = c.start_one-all-in-loop-other.ensures in
     let before = g.W.Spawner.faults c.args.spawner.now in
     let between = g.W.Spawner.faults was.spawner in
@@ -64,8 +66,9 @@ loop-other-preserved g c =
     let quiet_so_far = λ (all : IsTrue was.all). subst (λ (ns : List NewLooper). fronts_with was.self (map new_front ns) ≡ begun) next (was.invariant.quiet all) in
     record {
       starting = next_started c.args.team c.args.self.now was.self now x rest is one.started;
-      recorded = records_then begun (fronts_with was.self (new_front x ∷ map new_front rest)) (fronts_with now (map new_front rest)) so_far (one.recorded.beside (map new_front rest));
       quiet = λ all. (one.quiet all).same (map new_front rest) ∙ quiet_so_far (one.only all);
+      stops = stops_on c.args.team c.args.self.now was.self now (team_fronts c.args.new) x rest is one.started was.all c.start_one-all-in-loop-other.result quiet_so_far
+          (λ none. subst (λ (ns : List NewLooper). StopsSince c.args.team c.args.self.now (team_fronts c.args.new) was.self (map new_front ns)) next (was.invariant.stops none)) one.stops one.shut;
       kept = λ all. one.kept all ∙ was.invariant.kept (one.only all);
       cause = λ none. rose_so_far before between after was.all was.invariant.kept was.invariant.cause was.invariant.never_falls (λ all. one.cause all none) one.never_falls;
       never_falls = omega (arith, was.invariant.never_falls, one.never_falls);
@@ -76,9 +79,12 @@ pub returns : goal.returns
 returns g c =
     let was = c.loop-other in
     let none : was.other-iterator.rest.items ≡ [] = grind (arith, common_steps) in
+    let is = subst (IsStarting c.args.team c.args.self.now was.self) none was.invariant.starting in
     record {
-      started = all_started c.args.team c.args.self.now was.self (subst (IsStarting c.args.team c.args.self.now was.self) none was.invariant.starting);
-      recorded = subst (λ (ns : List NewLooper). Records (fronts_with c.args.self.now (team_fronts c.args.new)) (fronts_with was.self (map new_front ns))) none was.invariant.recorded;
+      started = all_started c.args.team c.args.self.now was.self is;
+      stops = λ failed.
+          subst (λ (ns : List NewLooper). StopsSince c.args.team c.args.self.now (team_fronts c.args.new) was.self (map new_front ns)) none (was.invariant.stops failed) c.args.team.loopers
+          (has_all c.args.team c.args.self.now was.self is);
       quiet = λ all. subst (λ (ns : List NewLooper). fronts_with was.self (map new_front ns) ≡ fronts_with c.args.self.now (team_fronts c.args.new)) none (was.invariant.quiet all);
       kept = was.invariant.kept;
       cause = was.invariant.cause;
