@@ -225,6 +225,7 @@ module _ {A : Type 0} (apps : List AppText) (statements : List Statement) (playe
           stopped = to.more;
           none_stopped = to.none_more;
           none_inside = to.none_inside;
+          stopped_at = to.stopped_at;
           closing = at_end.closing;
           closes = at_end.closes;
           diary = diary_at_end heads h steps to.more at_end;

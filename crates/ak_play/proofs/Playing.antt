@@ -21,7 +21,7 @@ use Rattle.ak_play.specs.declared.run_end.Lines.{Lines}
 use Rattle.ak_play.specs.declared.run_end.Lines.TheVariants as lines
 use Rattle.ak_play.specs.declared.stop.Stop.{Stop}
 use Rattle.ak_play.specs.declared.stop.Stop.TheVariants as stop
-use Rattle.ak_play.specs.Blocks.{IsLaunch}
+use Rattle.ak_play.specs.Blocks.{IsLaunch, MayStopAt}
 use Rattle.ak_play.specs.Gathered.{GatheredData, gathered_and, nothing_gathered, of_part, of_parts}
 use Rattle.ak_play.specs.Parts.{AreParts, IsCut, IsPart, Part, all_sessions, all_steps, all_tolds, sessions_in}
 use Rattle.ak_play.specs.Play.{AreWritten, IsCutText, IsFrontText, first_tolds, last_tolds, text_of}
@@ -160,6 +160,7 @@ module _ (apps : List AppText) (statements : List Statement) where
         more = [];
         none_more = λ all. refl;
         none_inside = tt;
+        stopped_at = inl refl;
         none_at_a_write = λ so. (refl, refl);
         none_when_done = λ done. absurd (not_done done);
         at_a_start = λ refused. absurd (started refused);
@@ -199,6 +200,7 @@ module _ (apps : List AppText) (statements : List Statement) where
       more = [];
       none_more = λ all. refl;
       none_inside = refl;
+      stopped_at = inl refl;
       none_at_a_write = λ at_a_write. absurd (other at_a_write);
       none_when_done = λ done. absurd (not_done done);
       at_a_start = λ refused. inr (some refused);
@@ -211,7 +213,7 @@ module _ (apps : List AppText) (statements : List Statement) where
 
     -- ---- it has none, and no line was due
     stops_before : (why : Stop) (Failed Kept1 : Type 0) → (Kept0 → Kept1 → Kept) → stopped_as {A = Unit {0}} (Err why) ≢ ending.WriteFault → stopped_as {A = Unit {0}} (Err why) ≢ ending.Done → (stopped_as {A = Unit {0}} (Err why) ≡ ending.ThreadFault → IsLaunch s)
-        → (stopped_as {A = Unit {0}} (Err why) ≡ ending.ThreadFault → is_lack {A = Unit {0}} (Err why) ≡ true → ⊥) → StopsShort k k' r r' mid new Kept1 → lines_after {A = Unit {0}} (Err why) ≡ lines.Whole
+        → (stopped_as {A = Unit {0}} (Err why) ≡ ending.ThreadFault → is_lack {A = Unit {0}} (Err why) ≡ true → ⊥) → StopsShort apps s k k' r r' mid new Kept1 → lines_after {A = Unit {0}} (Err why) ≡ lines.Whole
         → IsPlayedTo {A = Unit {0}} apps statements k' (Err why) r' old new Failed Kept
     stops_before why Failed Kept1 joined other not_done launch not_lacking short whole =
         let still = no_sessions_more r r' short.sessions in
@@ -225,6 +227,7 @@ module _ (apps : List AppText) (statements : List Statement) where
           more = short.steps;
           none_more = λ all. absurd (omega (arith, all, slice_get_within statements (length so_far.parts) s at_parts));
           none_inside = tt;
+          stopped_at = inr (subst (λ (o : Option Statement). IsSomeAnd o (λ (x : Statement). MayStopAt apps x short.steps)) (sym at_parts) short.at);
           none_at_a_write = λ at_a_write. absurd (other at_a_write);
           none_when_done = λ done. absurd (not_done done);
           at_a_start = λ refused. inl (subst (λ (o : Option Statement). IsSomeAnd o IsLaunch) (sym at_parts) (launch refused));
@@ -267,6 +270,7 @@ module _ (apps : List AppText) (statements : List Statement) where
     more = [];
     none_more = λ all. refl;
     none_inside = tt;
+    stopped_at = inl refl;
     none_at_a_write = λ at_a_write. (refl, refl);
     none_when_done = λ done. (so_far.count, refl);
     at_a_start = λ refused. absurd (cc refused);

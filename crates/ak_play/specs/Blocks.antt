@@ -1,8 +1,9 @@
 -- What main does for a statement, step by step; what the statement came to; and what is told of it.
-use Rattle.std.specs.Prelude.{◌≡◌, List, None}
+use Rattle.std.specs.Prelude.{◌≡◌, ◌⊎◌, List, [], None}
 use Rattle.ak_roster.specs.declared.entry.LaunchOutcome.TheVariants as outcome
 use Rattle.ak_roster.specs.declared.head.AppHead.{AppHead}
 use Rattle.ak_diary.specs.Step.{Step}
+use Rattle.ak_diary.specs.Wants.{AsksInVain}
 use Rattle.ak_script.specs.declared.statement.Hey.{Hey}
 use Rattle.ak_script.specs.declared.statement.Launch.{Launch}
 use Rattle.ak_script.specs.declared.statement.Lock.{Lock}
@@ -10,12 +11,12 @@ use Rattle.ak_script.specs.declared.statement.Post.{Post}
 use Rattle.ak_script.specs.declared.statement.Statement.{Statement}
 use Rattle.ak_script.specs.declared.statement.Statement.TheVariants as statement
 use Rattle.ak_print.specs.declared.told.Told.{Told}
-use Rattle.ak_lines.specs.Blocks.{FindingLooper, FindingNone, IsAnswered, IsEdited, IsPostRefused, IsPosted, IsRefused, hey_item, post_item}
+use Rattle.ak_lines.specs.Blocks.{FindingLooper, FindingNone, IsAnswered, IsEdited, IsNothing, IsPostRefused, IsPosted, IsRefused, hey_item, post_item}
 use Rattle.ak_print.specs.declared.told.Told.TheVariants as told
 use Rattle.ak_describe.specs.Whole.{heads_of}
 use Rattle.ak_describe.specs.declared.described.AppText.{AppText}
-use Rattle.ak_run.specs.Doing.{FindsRunning, LaunchesAt, StartsTeam}
-use Rattle.ak_session.specs.Doing.{FindsAt}
+use Rattle.ak_run.specs.Doing.{FindsRunning, LaunchesAt, LaunchesInVain, StartsInVain, StartsTeam}
+use Rattle.ak_session.specs.Doing.{FindsAt, address_of}
 use Rattle.ak_lines.specs.declared.outcome.Outcome.{Outcome}
 use Rattle.ak_lines.specs.declared.outcome.Outcome.TheVariants as came
 
@@ -69,3 +70,23 @@ IsBlock apps (statement.Hey h) o t steps = IsHeyBlock (heads_of apps) h o t step
 IsBlock apps (statement.Post p) o t steps = IsPostBlock (heads_of apps) p o t steps
 IsBlock apps (statement.Lock l) o t steps = IsLockBlock (heads_of apps) l o t steps
 IsBlock apps (statement.Together b) o t steps = ⊥
+
+-- ---- a statement at which main stopped
+-- a hey line: nothing was done; or a team was found, and the ask was in vain
+abbrev pub CutsHey : List AppHead → Hey → List Step → Type 0
+CutsHey heads h steps = (steps ≡ []) ⊎ FindingLooper heads h.app 0 (λ looper. AsksInVain (address_of looper (hey_item h)) (hey_item h)) steps
+
+-- a post and an edit: they made no entry behind that of the look-up
+abbrev pub CutsPost : List AppHead → Post → List Step → Type 0
+CutsPost heads p steps = (steps ≡ []) ⊎ FindingLooper heads p.app p.looper (λ looper. IsNothing) steps
+
+abbrev pub CutsLock : List AppHead → Lock → List Step → Type 0
+CutsLock heads l steps = (steps ≡ []) ⊎ FindingLooper heads l.app l.looper (λ looper. IsNothing) steps
+
+-- what main may have done for a statement at which it stopped: what it did in vain; of a block nothing
+abbrev pub MayStopAt : List AppText → Statement → List Step → Type 0
+MayStopAt apps (statement.Launch l) steps = LaunchesInVain l.word steps ⊎ StartsInVain apps l.word l.arguments steps
+MayStopAt apps (statement.Hey h) steps = CutsHey (heads_of apps) h steps
+MayStopAt apps (statement.Post p) steps = CutsPost (heads_of apps) p steps
+MayStopAt apps (statement.Lock l) steps = CutsLock (heads_of apps) l steps
+MayStopAt apps (statement.Together b) steps = steps ≡ []

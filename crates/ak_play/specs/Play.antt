@@ -26,7 +26,7 @@ use Rattle.ak_play.specs.declared.run_end.Lines.{Lines}
 use Rattle.ak_play.specs.declared.run_end.Lines.TheVariants as lines
 use Rattle.ak_play.specs.declared.run_end.RunEnd.{RunEnd}
 use Rattle.ak_play.specs.declared.run_end.Short.{Short}
-use Rattle.ak_play.specs.Blocks.{IsLaunch}
+use Rattle.ak_play.specs.Blocks.{IsLaunch, MayStopAt}
 use Rattle.ak_play.specs.Parts.{AreParts, IsCut, Part, all_outcomes, all_sessions, all_short, all_steps, all_tolds, sessions_in}
 use Rattle.ak_play.specs.Sessions.{HasCarried}
 
@@ -51,7 +51,8 @@ cut_short (Some part) = part.short
 -- Each of the first statements has its part. Main's diary is the steps of these, in order, then what it did for the statement at which it
 -- stopped, which is nothing where each was carried out, and then the end of the run. The diary has all that main made at the roster, at the reply
 -- book, at each port and at each desk, and its entries have the stamps that are due, from 0 on. The sessions of a block begin at the time that main
--- had come to by the parts before it. The statement at which it stopped may be a block of which some sessions were carried out
+-- had come to by the parts before it. The statement at which it stopped may be a block of which some sessions were carried out; of any other one
+-- main did no more than what that may do in vain: it found no memory, or a thread could not be started
 pub record HasPlayed (apps : List AppText) (statements : List Statement) (outcomes : List Outcome) (tolds : List Told) (short : List ℕ) (h : Histories) : Type 0 where
   pub parts : List Part
   pub are : AreParts (HasCarried (heads_of apps) h) apps 0 1 statements parts
@@ -63,6 +64,8 @@ pub record HasPlayed (apps : List AppText) (statements : List Statement) (outcom
   pub stopped : List Step
   pub none_stopped : length parts ≡ length statements → stopped ≡ []
   pub none_inside : IfSome cut (λ (part : Part). stopped ≡ [])
+  -- what it did for the statement at which it stopped is what that may have done in vain
+  pub stopped_at : (stopped ≡ []) ⊎ IsSomeAnd (slice_get statements (length parts)) (λ (s : Statement). MayStopAt apps s stopped)
   pub closing : List Step
   pub closes : IsClosing (heads_of apps) (all_steps parts ++ stopped) h closing
   pub diary : IsMainDiary (all_steps parts ++ (stopped ++ closing))

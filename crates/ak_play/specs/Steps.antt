@@ -19,7 +19,7 @@ use Rattle.ak_play.specs.declared.stop.Stop.{Stop}
 use Rattle.ak_play.specs.declared.stop.Stop.TheVariants as stop
 use Rattle.ak_play.specs.declared.stop.Untold.{Untold}
 use Rattle.ak_play.specs.declared.stop.Untold.TheVariants as untold
-use Rattle.ak_play.specs.Blocks.{IsLaunch}
+use Rattle.ak_play.specs.Blocks.{IsLaunch, MayStopAt}
 use Rattle.ak_play.specs.Gathered.{GatheredData, gathered_and, of_cut, of_part, of_parts}
 use Rattle.ak_play.specs.Parts.{AreParts, IsCut, IsPart, Part, all_sessions, all_steps, all_tolds, sessions_in}
 use Rattle.ak_play.specs.Play.{AreWritten, IsCutText, IsFrontText, cut_sessions, first_tolds, last_tolds, text_of}
@@ -88,9 +88,10 @@ pub record StopsInside (apps : List AppText) (s : Statement) (g g' : GatheredDat
   pub gathered : g' ≡ gathered_and g (of_part part)
   pub written : Written part.tolds
 
--- it has none, and nothing was written
-pub record StopsShort (g g' : GatheredData) (r r' : Run) (old new : Option (List ℕ)) (Kept : Type 0) : Type 0 where
+-- it has none, main did for it what it may have done in vain, and nothing was written
+pub record StopsShort (apps : List AppText) (s : Statement) (g g' : GatheredData) (r r' : Run) (old new : Option (List ℕ)) (Kept : Type 0) : Type 0 where
   pub steps : List Step
+  pub at : MayStopAt apps s steps
   pub does : Does steps r r'
   pub sessions : sessions_of r' ≡ sessions_of r
   pub same : g' ≡ g
@@ -104,10 +105,10 @@ module _ (apps : List AppText) (s : Statement) (g g' : GatheredData) (r r' : Run
   HasStepped (Ok _) = StepsOn apps s g g' r r' (λ tolds. AreWritten lines.Whole Failed Kept [] tolds old new)
   HasStepped (Err stop.WriteFault) = StepsOn apps s g g' r r' (λ tolds. AreWritten lines.Cut Failed Kept [] tolds old new)
   HasStepped (Err (stop.ThreadFault told)) =
-      (IsLaunch s × (told ≡ lines.Whole) × StopsShort g g' r r' old new Kept)
+      (IsLaunch s × (told ≡ lines.Whole) × StopsShort apps s g g' r r' old new Kept)
       ⊎ StopsInside apps s g g' r r' (λ part. 1 ≤ part.sessions) (λ tolds. AreWritten told Failed Kept [] tolds old new)
   HasStepped (Err (stop.NoMemory told)) =
-      ((told ≡ lines.Whole) × StopsShort g g' r r' old new Kept)
+      ((told ≡ lines.Whole) × StopsShort apps s g g' r r' old new Kept)
       ⊎ (((told ≡ lines.Lacking) × StepsOn apps s g g' r r' (λ tolds. AreWritten lines.Lacking Failed Kept [] tolds old new))
       ⊎ StopsInside apps s g g' r r' (λ part. part.sessions < sessions_in s) (λ tolds. AreWritten told Failed Kept [] tolds old new))
 
@@ -154,6 +155,7 @@ pub record IsPlayedTo {A : Type 0} (apps : List AppText) (statements : List Stat
   pub more : List Step
   pub none_more : length parts ≡ length statements → more ≡ []
   pub none_inside : IfSome cut (λ (part : Part). more ≡ [])
+  pub stopped_at : (more ≡ []) ⊎ IsSomeAnd (slice_get statements (length parts)) (λ (s : Statement). MayStopAt apps s more)
   pub none_at_a_write : stopped_as result ≡ ending.WriteFault → (more ≡ []) × (cut ≡ None)
   pub none_when_done : stopped_as result ≡ ending.Done → (length parts ≡ length statements) × (cut ≡ None)
   pub at_a_start : stopped_as result ≡ ending.ThreadFault → IsSomeAnd (slice_get statements (length parts)) IsLaunch ⊎ IsSomeAnd cut (λ (part : Part). 1 ≤ part.sessions)

@@ -5,8 +5,8 @@ ghost use Rattle.ak_run.specs.Running.{IsRunning};
 ghost use Rattle.ak_run.specs.Sessions.{sessions_of};
 ghost use Rattle.ak_run.specs.Sending.{looper_count};
 ghost use Rattle.ak_run.specs.Doing.{DoesSo};
-ghost use Rattle.ak_play.specs.Blocks.{IsHeyBlock};
-ghost use Rattle.ak_play.specs.Came.{IsAsked, MayCome};
+ghost use Rattle.ak_play.specs.Blocks.{CutsHey, IsHeyBlock};
+ghost use Rattle.ak_play.specs.Came.{IsAsked, IsAskedInVain, MayCome};
 
 use crate::refusing::{envelope, refusal};
 use ak_base::NoMemory;
@@ -20,7 +20,7 @@ use std::sync::Wait;
 /// Asks the preferred handler of the team's first looper, and waits for the reply.
 pub(crate) fn hey<R: Wait>(run: &mut Run, rt: &R, hey: &Hey) -> Result<Came, NoMemory>
     requires running { IsRunning run.old }
-    ensures did { DoesSo (MayCome (IsHeyBlock (heads_of run.old.apps.items) hey.now) result) run.old run.new }
+    ensures did { DoesSo (MayCome (IsHeyBlock (heads_of run.old.apps.items) hey.now) (CutsHey (heads_of run.old.apps.items) hey.now) result) run.old run.new }
     ensures running { IsRunning run.new }
     ensures apps { run.new.apps ≡ run.old.apps }
     ensures sessions { sessions_of run.new ≡ sessions_of run.old }
@@ -36,7 +36,7 @@ pub(crate) fn hey<R: Wait>(run: &mut Run, rt: &R, hey: &Hey) -> Result<Came, NoM
 fn ask_looper<R: Wait>(run: &mut Run, rt: &R, looper: u32, hey: &Hey) -> Result<Came, NoMemory>
     requires running { IsRunning run.old }
     requires there { looper < looper_count run.old }
-    ensures did { DoesSo (MayCome (IsAsked hey.now looper) result) run.old run.new }
+    ensures did { DoesSo (MayCome (IsAsked hey.now looper) (IsAskedInVain hey.now looper) result) run.old run.new }
     ensures running { IsRunning run.new }
     ensures apps { run.new.apps ≡ run.old.apps }
     ensures sessions { sessions_of run.new ≡ sessions_of run.old }

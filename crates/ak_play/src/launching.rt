@@ -1,9 +1,9 @@
 //! Launches.
-ghost use Rattle.std.specs.Prelude.{◌≡◌, ◌≤◌, IsErrOf};
+ghost use Rattle.std.specs.Prelude.{◌≡◌, ◌≤◌, ◌⊎◌, IsErrOf};
 ghost use Rattle.ak_outside.specs.Faults.{Rose};
 ghost use Rattle.ak_run.specs.Running.{IsRunning};
 ghost use Rattle.ak_run.specs.Sessions.{sessions_of};
-ghost use Rattle.ak_run.specs.Doing.{DoesSo};
+ghost use Rattle.ak_run.specs.Doing.{DoesSo, LaunchesInVain, StartsInVain};
 ghost use Rattle.ak_play.specs.Blocks.{IsLaunchBlock};
 ghost use Rattle.ak_play.specs.Came.{MayCome};
 ghost use Rattle.ak_play.specs.Steps.{IsThreadFault, StopsBeforeLines};
@@ -38,7 +38,7 @@ pub(crate) fn launch<W: Spawner, G: Gate + 'static, R: Threads + Wait + Copy + S
     launch: &Launch,
 ) -> Result<Came, Stop>
     requires running { IsRunning run.old }
-    ensures did { DoesSo (MayCome (IsLaunchBlock run.old.apps.items launch.now) result) run.old run.new }
+    ensures did { DoesSo (MayCome (IsLaunchBlock run.old.apps.items launch.now) (λ steps. LaunchesInVain launch.now.word steps ⊎ StartsInVain run.old.apps.items launch.now.word launch.now.arguments steps) result) run.old run.new }
     ensures not_written { IsErrOf result Stop.WriteFault → ⊥ }
     ensures lines { StopsBeforeLines result }
     ensures cause { IsThreadFault result → Rose (W.faults spawner.old) (W.faults spawner.new) }

@@ -5,7 +5,8 @@ ghost use Rattle.ak_run.specs.Running.{IsRunning};
 ghost use Rattle.ak_run.specs.Sessions.{sessions_of};
 ghost use Rattle.ak_run.specs.Sending.{looper_count};
 ghost use Rattle.ak_run.specs.Doing.{DoesSo};
-ghost use Rattle.ak_play.specs.Blocks.{IsLockBlock};
+ghost use Rattle.ak_lines.specs.Blocks.{IsNothing};
+ghost use Rattle.ak_play.specs.Blocks.{CutsLock, IsLockBlock};
 ghost use Rattle.ak_play.specs.Came.{IsLocked, MayCome};
 
 use ak_base::NoMemory;
@@ -18,7 +19,7 @@ use std::sync::Wait;
 /// Edits the handlers of the looper of the team at that place.
 pub(crate) fn lock<R: Wait>(run: &mut Run, rt: &R, lock: &Lock) -> Result<Came, NoMemory>
     requires running { IsRunning run.old }
-    ensures did { DoesSo (MayCome (IsLockBlock (heads_of run.old.apps.items) lock.now) result) run.old run.new }
+    ensures did { DoesSo (MayCome (IsLockBlock (heads_of run.old.apps.items) lock.now) (CutsLock (heads_of run.old.apps.items) lock.now) result) run.old run.new }
     ensures running { IsRunning run.new }
     ensures apps { run.new.apps ≡ run.old.apps }
     ensures sessions { sessions_of run.new ≡ sessions_of run.old }
@@ -45,7 +46,7 @@ pub(crate) fn lock<R: Wait>(run: &mut Run, rt: &R, lock: &Lock) -> Result<Came, 
 fn edit_looper<R: Wait>(run: &mut Run, rt: &R, looper: u32, lock: &Lock) -> Result<Came, NoMemory>
     requires running { IsRunning run.old }
     requires there { looper < looper_count run.old }
-    ensures did { DoesSo (MayCome (IsLocked lock.now looper) result) run.old run.new }
+    ensures did { DoesSo (MayCome (IsLocked lock.now looper) IsNothing result) run.old run.new }
     ensures running { IsRunning run.new }
     ensures apps { run.new.apps ≡ run.old.apps }
     ensures sessions { sessions_of run.new ≡ sessions_of run.old }

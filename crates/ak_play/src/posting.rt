@@ -5,7 +5,8 @@ ghost use Rattle.ak_run.specs.Running.{IsRunning};
 ghost use Rattle.ak_run.specs.Sessions.{sessions_of};
 ghost use Rattle.ak_run.specs.Sending.{looper_count};
 ghost use Rattle.ak_run.specs.Doing.{DoesSo, PostedSo};
-ghost use Rattle.ak_play.specs.Blocks.{IsPostBlock};
+ghost use Rattle.ak_lines.specs.Blocks.{IsNothing};
+ghost use Rattle.ak_play.specs.Blocks.{CutsPost, IsPostBlock};
 ghost use Rattle.ak_play.specs.Came.{IsSent, MayCome};
 ghost use Rattle.ak_lines.specs.Came.{post_envelope};
 
@@ -21,7 +22,7 @@ use std::sync::Wait;
 /// Posts to the looper of the team at that place.
 pub(crate) fn post<R: Wait>(run: &mut Run, rt: &R, post: &Post) -> Result<Came, NoMemory>
     requires running { IsRunning run.old }
-    ensures did { DoesSo (MayCome (IsPostBlock (heads_of run.old.apps.items) post.now) result) run.old run.new }
+    ensures did { DoesSo (MayCome (IsPostBlock (heads_of run.old.apps.items) post.now) (CutsPost (heads_of run.old.apps.items) post.now) result) run.old run.new }
     ensures running { IsRunning run.new }
     ensures apps { run.new.apps ≡ run.old.apps }
     ensures sessions { sessions_of run.new ≡ sessions_of run.old }
@@ -48,7 +49,7 @@ pub(crate) fn post<R: Wait>(run: &mut Run, rt: &R, post: &Post) -> Result<Came, 
 fn post_to<R: Wait>(run: &mut Run, rt: &R, looper: u32, post: &Post) -> Result<Came, NoMemory>
     requires running { IsRunning run.old }
     requires there { looper < looper_count run.old }
-    ensures did { DoesSo (MayCome (IsSent post.now looper) result) run.old run.new }
+    ensures did { DoesSo (MayCome (IsSent post.now looper) IsNothing result) run.old run.new }
     ensures running { IsRunning run.new }
     ensures apps { run.new.apps ≡ run.old.apps }
     ensures sessions { sessions_of run.new ≡ sessions_of run.old }

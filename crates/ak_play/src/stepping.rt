@@ -7,7 +7,7 @@ ghost use Rattle.ak_run.specs.Doing.{DoesSo, HasDoneSoFar};
 ghost use Rattle.ak_script.specs.Limits.{statement_limit};
 ghost use Rattle.ak_script.specs.Statement.{lines_in, lines_of};
 ghost use Rattle.ak_script.specs.StatementSeen.{statement_seen, statements_seen};
-ghost use Rattle.ak_play.specs.Blocks.{IsAlone, IsBlock, IsLaunch};
+ghost use Rattle.ak_play.specs.Blocks.{IsAlone, IsBlock, IsLaunch, MayStopAt};
 ghost use Rattle.ak_play.specs.Came.{MayCome};
 ghost use Rattle.ak_play.specs.Gathered.{HasRoom, KeepsRoom, gathered_seen, nothing_gathered};
 ghost use Rattle.ak_play.specs.Parts.{sessions_in};
@@ -39,7 +39,7 @@ fn carry_out<W: Spawner, G: Gate + 'static, R: Threads + Wait + Copy + Send + 's
 ) -> Result<Came, Stop>
     requires running { IsRunning run.old }
     requires alone { IsAlone statement.now }
-    ensures did { DoesSo (MayCome (IsBlock run.old.apps.items statement.now) result) run.old run.new }
+    ensures did { DoesSo (MayCome (IsBlock run.old.apps.items statement.now) (MayStopAt run.old.apps.items statement.now) result) run.old run.new }
     ensures not_written { IsErrOf result Stop.WriteFault → ⊥ }
     ensures at_a_launch { IsThreadFault result → IsLaunch statement.now }
     ensures lines { StopsBeforeLines result }

@@ -30,7 +30,7 @@ returns-in_err-make_room-clause-stepped g c =
     let given = g.K.Sink.written c.args.sink.now in
     let faults = g.K.Sink.faults c.args.sink.now in
     rw (p.1, p.2) (stopped_short r.apps.items (statement.Together c.args.block.now) (gathered_seen c.args.gathered.now) (gathered_seen c.make_room.new.self) r r given (Rose faults faults) (faults ≡ faults) refl
-    c.in_err-make_room.ensures.seen refl [] (nothing_done r r refl))
+    c.in_err-make_room.ensures.seen refl [] refl (nothing_done r r refl))
 
 pub returns-in_err-heard-clause-stepped : goal.returns-in_err-heard-clause-stepped
 returns-in_err-heard-clause-stepped g c =
@@ -41,7 +41,7 @@ returns-in_err-heard-clause-stepped g c =
     let given = g.K.Sink.written c.args.sink.now in
     let faults = g.K.Sink.faults c.args.sink.now in
     rw (p.1, p.2) (stopped_short r.apps.items (statement.Together c.args.block.now) (gathered_seen c.args.gathered.now) (gathered_seen c.make_room.new.self) r r' given (Rose faults faults) (faults ≡ faults)
-    (ap (λ (x : Run). sessions_of x) same) c.in_ok-make_room.ensures.seen refl [] (nothing_done r r' same))
+    (ap (λ (x : Run). sessions_of x) same) c.in_ok-make_room.ensures.seen refl [] refl (nothing_done r r' same))
 
 pub push_sessions-requires : goal.push_sessions-requires
 push_sessions-requires g c =

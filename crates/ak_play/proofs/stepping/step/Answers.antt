@@ -57,4 +57,4 @@ returns-in_err-came-clause-stepped g c =
     let given = g.K.Sink.written c.args.sink.now in
     let faults = g.K.Sink.faults c.args.sink.now in
     rw (p.1, p.2) (main_stopped r.apps.items c.args.statement.now k k r c.carry_out.new.run given (Rose faults faults) (faults ≡ faults) did.sessions refl refl
-    c.in_err-came.field-0.0 did.did.steps did.did.does (λ bad. did.not_written (ap (λ (x : Stop). Err x) bad)) did.lines did.at_a_launch)
+    c.in_err-came.field-0.0 did.did.steps did.did.so did.did.does (λ bad. did.not_written (ap (λ (x : Stop). Err x) bad)) did.lines did.at_a_launch)
