@@ -23,9 +23,9 @@ use std::thread::Threads;
 
 impl Run {
     /// Launches the first application that the word fits, and starts a thread for each of its loopers, in order. What it came to is one
-    /// entry of the roster, and the answer tells where that stands; where a thread could not be started, the team is ended again. Where a
-    /// team starts, its ports are made before that entry, and its first looper is told the arguments and that it is ready to run; where one
-    /// runs, its first looper is told the arguments behind it.
+    /// entry of the roster, and the answer tells where that stands; where a thread could not be started, the team is ended again: it is
+    /// gone, and then each of its ports is shut, in order. Where a team starts, its ports are made before that entry, and its first looper is
+    /// told the arguments and that it is ready to run; where one runs, its first looper is told the arguments behind it.
     pub fn launch<W: Spawner, G: Gate + 'static, R: Threads + Wait + Copy + Send + 'static>(
         &mut self,
         rt: &R,
