@@ -11,8 +11,7 @@ use Rattle.ak_outside.specs.Faults.{Rose}
 use Rattle.ak_outside.specs.Sink.{AppendsPart}
 use Rattle.ak_script.specs.declared.script.Script.{Script}
 use Rattle.ak_script.specs.Generated.{generated_limit}
-use Rattle.ak_script.specs.Refusals.{FirstRefusal, ScriptOf}
-use Rattle.ak_script.specs.Script.{ScriptData}
+use Rattle.ak_script.specs.Script.{ScriptData, script_of}
 use Rattle.ak_script.specs.Seen.{script_seen}
 use Rattle.ak_play.specs.declared.run_end.Lines.{Lines}
 use Rattle.ak_play.specs.declared.run_end.Lines.TheVariants as lines
@@ -142,15 +141,15 @@ SomeInput IsSo old new = (input : List ℕ) × WasRead old new input × IsSo inp
 
 -- it is the text of that script
 abbrev pub IsTextOf : Script → List ℕ → Type 0
-IsTextOf script input = ScriptOf input (script_seen script)
+IsTextOf script input = script_of input ≡ Ok (script_seen script)
 
 -- the script that it is the text of is so
 abbrev pub SomeScript : (ScriptData → Type 0) → List ℕ → Type 0
-SomeScript IsSo input = (script : ScriptData) × ScriptOf input script × IsSo script
+SomeScript IsSo input = (script : ScriptData) × (script_of input ≡ Ok script) × IsSo script
 
 -- its first refusal is at that line, for that reason
 abbrev pub IsRefusedAt : ℕ → RefusalKind → List ℕ → Type 0
-IsRefusedAt line why input = FirstRefusal input line why
+IsRefusedAt line why input = script_of input ≡ Err (record { line = line; kind = why })
 
 -- it ends so where there is no script: with its first refusal, or for want of memory
 abbrev pub IsFaultOf : Ending → List ℕ → Type 0

@@ -4,14 +4,13 @@ ghost use Rattle.ak_base.specs.declared.ending.RefusalKind.{RefusalKind};
 ghost use Rattle.ak_outside.specs.Faults.{Rose, Stayed};
 ghost use Rattle.ak_outside.specs.Source.{ConsumesAtMost};
 ghost use Rattle.ak_describe.specs.Whole.{AreWholeApps};
-ghost use Rattle.ak_script.specs.Refusals.{ScriptOf};
-ghost use Rattle.ak_script.specs.Script.{ScriptData};
+ghost use Rattle.ak_script.specs.Script.{ScriptData, script_of};
 ghost use Rattle.ak_kit.specs.Kit as kit;
 
 use ak_base::{Bytes, Ending};
 use ak_message::INPUT_LIMIT;
 use ak_outside::{ReadFault, Source, read_all};
-use ak_script::{Script, ScriptFault, read_script, scripts_are_read};
+use ak_script::{Script, ScriptFault, read_script};
 use std::alloc::Global;
 
 /// Reads the source to its end: the script that the input is the text of, or how the program ends without one. At most
@@ -36,10 +35,9 @@ pub(crate) fn script_from<S: Source>(alloc: Global, source: &mut S) -> Result<Sc
     ensures complete { Stayed (S.faults source.old) (S.faults source.new)
         → (input : List ℕ) (script : ScriptData)
         → S.left source.old ≡ Some input
-        → ScriptOf input script
+        → script_of input ≡ Ok script
         → IsOk result ⊎ (result ≡ Err Ending.NoMemory) }
 {
-    scripts_are_read();
     let input = bytes_from(alloc, source)?;
     script_in(alloc, input.as_slice())
 }

@@ -7,8 +7,7 @@ ghost use Rattle.ak_describe.specs.Whole.{heads_of};
 ghost use Rattle.ak_headline.specs.Headline.{EachGotOneReply, EachLooper, IsAccounted, IsByRule};
 ghost use Rattle.ak_play.specs.Play.{IsRunOf, IsShort};
 ghost use Rattle.ak_run.specs.Opened.{WereOpened};
-ghost use Rattle.ak_script.specs.Refusals.{ScriptOf};
-ghost use Rattle.ak_script.specs.Script.{ScriptData};
+ghost use Rattle.ak_script.specs.Script.{ScriptData, script_of};
 ghost use Rattle.ak_kit.specs.Journal.{JournalsAndCloses};
 ghost use Rattle.ak_kit.specs.Kit as kit;
 
@@ -78,7 +77,7 @@ pub(crate) fn kit_run<
         → Stayed (W.faults spawner.old) (W.faults spawner.new)
         → (input : List ℕ) (script : ScriptData)
         → S.left source.old ≡ Some input
-        → ScriptOf input script
+        → script_of input ≡ Ok script
         → (result.ending ≡ Ending.Done) ⊎ (result.ending ≡ Ending.NoMemory) }
 {
     match script_from(alloc, source) {

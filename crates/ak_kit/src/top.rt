@@ -7,8 +7,7 @@ ghost use Rattle.ak_headline.specs.Headline.{EachGotOneReply, EachLooper, IsAcco
 ghost use Rattle.ak_play.specs.Play.{IsPlayEnding, IsRunOf, IsShort};
 ghost use Rattle.ak_run.specs.Opened.{WereOpened};
 ghost use Rattle.ak_script.specs.Generated.{generated};
-ghost use Rattle.ak_script.specs.Refusals.{ScriptOf};
-ghost use Rattle.ak_script.specs.Script.{ScriptData};
+ghost use Rattle.ak_script.specs.Script.{ScriptData, script_of};
 ghost use Rattle.ak_script.specs.Seen.{script_seen};
 ghost use Rattle.ak_kit.specs.Journal.{JournalsAndCloses};
 ghost use Rattle.ak_kit.specs.Kit as kit;
@@ -124,14 +123,14 @@ pub fn kit<
         → Stayed (W.faults spawner.old) (W.faults spawner.new)
         → (input : List ℕ) (script : ScriptData)
         → S.left source.old ≡ Some input
-        → ScriptOf input script
+        → script_of input ≡ Ok script
         → (result.ending ≡ Ending.Done) ⊎ (result.ending ≡ Ending.NoMemory) }
     ensures read_complete { words.now ≡ kit.read_words
         → Stayed (S.faults source.old) (S.faults source.new)
         → Stayed (K.faults sink.old) (K.faults sink.new)
         → (input : List ℕ) (script : ScriptData)
         → S.left source.old ≡ Some input
-        → ScriptOf input script
+        → script_of input ≡ Ok script
         → (result.ending ≡ Ending.Done) ⊎ (result.ending ≡ Ending.NoMemory) }
     ensures gen_complete { kit.IsGen words.now
         → Stayed (K.faults sink.old) (K.faults sink.new)
