@@ -1,5 +1,5 @@
 -- The script of a number, carried out, and told of by one line.
-use Rattle.std.proofs.Common.{◌≡◌, inl, ℕ, List, Option, Some, None, refl, sym, ◌∙◌, subst, arith}
+use Rattle.std.proofs.Common.{◌≡◌, ◌≢◌, inl, ℕ, List, Option, Some, None, refl, sym, ◌∙◌, subst, arith}
 use Rattle.std.specs.Prelude.{Bool, IfSome, IsSomeAnd}
 use Rattle.ak_base.specs.declared.ending.Ending.{Ending}
 use Rattle.ak_base.specs.declared.ending.Ending.TheVariants as ending
@@ -14,7 +14,7 @@ use Rattle.ak_play.specs.declared.run_end.RunEnd.{RunEnd}
 use Rattle.ak_play.specs.declared.run_end.Lines.{Lines}
 use Rattle.ak_play.specs.declared.run_end.Lines.TheVariants as lines
 use Rattle.ak_play.specs.Play.{AreWritten, IsPlay, IsShort}
-use Rattle.ak_kit.specs.Kit.{IsPlayNowhere, TellsRun, with_main}
+use Rattle.ak_kit.specs.Kit.{GeneratesAndCloses, IsPlayNowhere, TellsRun, with_main}
 use Rattle.ak_kit.proofs.Playing.{OfScript}
 
 -- ---- nothing is written, and no write fails
@@ -57,6 +57,19 @@ some_plays_nowhere script end None of_script play = tt
 some_plays_nowhere script end (Some run) of_script play = plays_nowhere (Rose 0 0) (λ rose. Stayed-not_Rose 0 0 (omega arith, refl) rose) script end run of_script play
 
 -- ---- the run, behind its line
+-- what was written tells of the run as it is handed on
+pub tells_on : (n : ℕ) (run : RunEnd) (ended end : Ending) (found : Option RunEnd) (old new : Option (List ℕ)) (faults faults' : ℕ)
+    → IsPlayNowhere ended run → ended ≢ ending.WriteFault → IsSomeAnd found (λ (e : RunEnd). run ≡ with_main run.short.main e) → IfSome found (λ (e : RunEnd). TellsRun ended n e run.short.main end old new faults faults')
+    → IfSome found (λ (e : RunEnd). GeneratesAndCloses n e end old new faults faults')
+tells_on n run ended end None old new faults faults' play no_write is tells = tt
+tells_on n run ended end (Some e) old new faults faults' play no_write is tells = record {
+  ended = ended;
+  main = run.short.main;
+  play = subst (IsPlayNowhere ended) is play;
+  no_write = no_write;
+  tells = tells;
+}
+
 -- a run without memory is short, and so is one without memory for its line
 pub short_so : (ended : Ending) (n : ℕ) (run : RunEnd) (main : Bool) (end : Ending) (old new : Option (List ℕ)) (faults faults' : ℕ) → (ended ≡ ending.NoMemory → IsShort (with_main main run).short) → TellsRun ended n run main end old new faults faults'
     → end ≡ ending.NoMemory → IsShort run.short
