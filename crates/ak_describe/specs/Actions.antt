@@ -10,8 +10,8 @@ use Rattle.ak_base.specs.declared.limited.Limited.TheVariants.{Within, Over}
 use Rattle.ak_base.specs.Limited.{limited_map}
 use Rattle.ak_message.specs.Message.{ValueData, FieldData, MessageData}
 use Rattle.ak_base.specs.Option.{where_true, ◌>>=◌}
-use Rattle.ak_message.specs.Reading.{field_split}
-use Rattle.ak_message.specs.Written.{app_word_of}
+use Rattle.ak_input.specs.Reading.{field_split}
+use Rattle.ak_input.specs.Written.{app_word_of}
 use Rattle.ak_flatten.specs.Spelling.{spelling}
 use Rattle.ak_flatten.specs.Limits.{flat_limit}
 use Rattle.ak_action.specs.declared.action.Action.{Action}

@@ -1,6 +1,6 @@
 -- What lines describe, or their first fault: the second pass is made only where the first finds nothing.
 use Rattle.std.specs.Prelude.{List, Result}
-use Rattle.ak_message.specs.declared.line.Line.{Line}
+use Rattle.ak_input.specs.declared.line.Line.{Line}
 use Rattle.ak_describe.specs.declared.described.AppText.{AppText}
 use Rattle.ak_describe.specs.Described.{described}
 use Rattle.ak_describe.specs.Pass.{State, Refusal, then_read, or_refused, first_pass}

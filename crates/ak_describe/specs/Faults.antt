@@ -9,8 +9,8 @@ use Rattle.ak_action.specs.declared.values.ValuesFault.{ValuesFault}
 use Rattle.ak_action.specs.declared.values.ValuesFault.TheVariants as values
 use Rattle.ak_filter.specs.declared.list.FilterFault.{FilterFault}
 use Rattle.ak_filter.specs.declared.list.FilterFault.TheVariants as filters
-use Rattle.ak_message.specs.declared.parse_fault.ParseFault.{ParseFault}
-use Rattle.ak_message.specs.declared.parse_fault.ParseFault.TheVariants as read
+use Rattle.ak_input.specs.declared.parse_fault.ParseFault.{ParseFault}
+use Rattle.ak_input.specs.declared.parse_fault.ParseFault.TheVariants as read
 use Rattle.ak_value.specs.declared.fault.ElementFault.{ElementFault}
 use Rattle.ak_value.specs.declared.fault.ElementFault.TheVariants as elements
 use Rattle.ak_describe.specs.declared.fault.DescribeFault.{DescribeFault}

@@ -20,7 +20,7 @@ use Rattle.ak_describe.specs.declared.form.heads.LooperForm.{LooperForm}
 use Rattle.ak_describe.specs.declared.form.property.PropertyForm.{PropertyForm}
 use Rattle.ak_describe.specs.Made.{value_of_kind}
 use Rattle.ak_base.specs.AppName.{is_path, is_signature}
-use Rattle.ak_message.specs.Written.{quoted_text, code_of, number_within}
+use Rattle.ak_input.specs.Written.{quoted_text, code_of, number_within}
 use Rattle.ak_describe.specs.Words.{first_of, behind, ends, name_at, code_at, mode_of, kind_of, some_behind}
 use Rattle.ak_describe.specs.Limits.{usual_capacity, form_limit}
 

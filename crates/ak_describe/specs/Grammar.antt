@@ -20,7 +20,7 @@ use Rattle.ak_message.specs.declared.kind.Kind.{Kind}
 use Rattle.ak_message.specs.declared.kind.Kind.TheVariants as k
 use Rattle.ak_message.specs.Kind.{kind_letters}
 use Rattle.ak_message.specs.Message.{ValueData, text_value, kind_of}
-use Rattle.ak_message.specs.Reading.{got, over, text_from, read_value, read_values}
+use Rattle.ak_input.specs.Reading.{got, over, text_from, read_value, read_values}
 use Rattle.ak_flatten.specs.Spelling.{spelling}
 use Rattle.ak_action.specs.declared.action.Action.{Action}
 use Rattle.ak_action.specs.declared.action.Action.TheVariants as action
@@ -45,7 +45,7 @@ use Rattle.ak_describe.specs.Actions.{written}
 use Rattle.ak_describe.specs.Made.{is_short}
 use Rattle.ak_describe.specs.Parts.{property_named}
 use Rattle.ak_base.specs.AppName.{is_path, is_signature}
-use Rattle.ak_message.specs.Written.{WritesNumber, is_app_name}
+use Rattle.ak_input.specs.Written.{WritesNumber, is_app_name}
 use Rattle.ak_describe.specs.Limits.{usual_capacity, form_limit}
 
 -- ---- words

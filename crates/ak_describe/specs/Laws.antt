@@ -1,7 +1,7 @@
 -- What holds of all lines: what is read is what they describe, and what is told is their first fault.
 use Rattle.std.specs.Prelude.{◌≡◌, ◌↔◌, ◌⊎◌, ℕ, List, [], ◌∷◌, ◌++◌, All, Some, Ok, Err, slice_get}
 use Rattle.ak_base.specs.declared.ending.RefusalKind.{RefusalKind}
-use Rattle.ak_message.specs.declared.line.Line.{Line}
+use Rattle.ak_input.specs.declared.line.Line.{Line}
 use Rattle.ak_describe.specs.declared.described.AppText.{AppText}
 use Rattle.ak_describe.specs.declared.fault.DescribeFault.{DescribeFault}
 use Rattle.ak_describe.specs.declared.fault.DescribeFault.TheVariants as answer

@@ -6,8 +6,8 @@ use Rattle.ak_message.specs.declared.kind.Kind.{Kind}
 use Rattle.ak_message.specs.Kind.{is_same_kind}
 use Rattle.ak_message.specs.Message.{ValueData, bool_value, int8_value, int16_value, int32_value, int64_value, uint8_value, uint16_value, uint32_value, uint64_value, text_value, message_value, messenger_value, raw_value}
 use Rattle.ak_base.specs.Option.{where_true, ◌>>=◌}
-use Rattle.ak_message.specs.Reading as reading
-use Rattle.ak_message.specs.Written.{value_from}
+use Rattle.ak_input.specs.Reading as reading
+use Rattle.ak_input.specs.Written.{value_from}
 use Rattle.ak_flatten.specs.Spelling.{value_bytes}
 use Rattle.ak_flatten.specs.Limits.{flat_limit}
 use Rattle.ak_action.specs.declared.number.Number.{Number}

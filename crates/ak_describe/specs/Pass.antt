@@ -7,7 +7,7 @@ use Rattle.ak_base.specs.declared.limited.Limited.{Limited}
 use Rattle.ak_base.specs.declared.limited.Limited.TheVariants.{Within, Over}
 use Rattle.ak_base.specs.Limits.{app_looper_limit}
 use Rattle.ak_roster.specs.Limits.{app_limit}
-use Rattle.ak_message.specs.declared.line.Line.{Line}
+use Rattle.ak_input.specs.declared.line.Line.{Line}
 use Rattle.ak_message.specs.Message.{ValueData, kind_of}
 use Rattle.ak_filter.specs.Limits.{filter_limit}
 use Rattle.ak_handler.specs.Limits.{handler_limit}

@@ -1,7 +1,7 @@
 -- Lines as they come: what the first pass makes of those so far, and of their end.
 use Rattle.std.specs.Prelude.{◌≡◌, ℕ, ◌+◌, ◌-◌, ◌^◌, min, if◌then◌else◌, List, Option, None, Some, option_map, Result, Ok, Err}
 use Rattle.ak_base.specs.declared.ending.RefusalKind.TheVariants as refusal
-use Rattle.ak_message.specs.declared.line.Line.{Line}
+use Rattle.ak_input.specs.declared.line.Line.{Line}
 use Rattle.ak_describe.specs.Parts.{AppData}
 use Rattle.ak_describe.specs.Pass.{State, Refusal, nothing_read, last_item, may_open_app, after_lines, first_pass}
 

@@ -4,7 +4,7 @@ use Rattle.std.specs.List.{list_any}
 use Rattle.ak_base.specs.declared.app_word.AppWord.{AppWord}
 use Rattle.ak_base.specs.Word.{is_word}
 use Rattle.ak_base.specs.Limits.{app_looper_limit, looper_limit}
-use Rattle.ak_message.specs.declared.line.Line.{Line}
+use Rattle.ak_input.specs.declared.line.Line.{Line}
 use Rattle.ak_action.specs.declared.action.Action.{Action}
 use Rattle.ak_action.specs.declared.action.Action.TheVariants as action
 use Rattle.ak_action.specs.declared.action.Dest.{Dest}

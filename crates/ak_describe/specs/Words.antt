@@ -6,9 +6,9 @@ use Rattle.ak_base.specs.Word.{is_word}
 use Rattle.ak_base.specs.declared.code.Code.{Code}
 use Rattle.ak_message.specs.declared.kind.Kind.{Kind}
 use Rattle.ak_message.specs.declared.kind.Kind.TheVariants as k
-use Rattle.ak_message.specs.declared.line.Word.{Word}
+use Rattle.ak_input.specs.declared.line.Word.{Word}
 use Rattle.ak_base.specs.Option.{where_true, ◌>>=◌}
-use Rattle.ak_message.specs.Written.{code_of}
+use Rattle.ak_input.specs.Written.{code_of}
 use Rattle.ak_roster.specs.declared.head.Mode.{Mode}
 use Rattle.ak_roster.specs.declared.head.Mode.TheVariants as mode
 

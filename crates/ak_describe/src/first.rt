@@ -14,7 +14,7 @@ use crate::named::{Named, Need};
 use crate::parts::{AppParts, LooperParts, RowParts};
 use ak_base::{APP_LOOPER_LIMIT, NoMemory};
 use ak_filter::FilterList;
-use ak_message::{Line, Word};
+use ak_input::{Line, Word};
 use ak_roster::APP_LIMIT;
 use std::alloc::Global;
 

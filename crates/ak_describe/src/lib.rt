@@ -27,7 +27,7 @@ mod second;
 mod words;
 
 pub use ak_base::APP_LOOPER_LIMIT;
-use ak_message::Line;
+use ak_input::Line;
 pub use ak_roster::APP_LIMIT;
 pub use described::AppText;
 pub use fault::DescribeFault;

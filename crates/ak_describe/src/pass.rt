@@ -14,7 +14,7 @@ use crate::first::{LinesSoFar, may_open_app};
 use crate::parts::AppParts;
 use crate::second::second_fault;
 use ak_base::{RefusalKind, Trail};
-use ak_message::Line;
+use ak_input::Line;
 use std::alloc::Global;
 use std::marker::Model;
 
@@ -31,7 +31,7 @@ pub struct FirstPass {
 
 impl Model for FirstPass {
     ghost use Rattle.std.specs.Prelude.{List};
-    ghost use Rattle.ak_message.specs.declared.line.Line.{Line};
+    ghost use Rattle.ak_input.specs.declared.line.Line.{Line};
     ghost use Rattle.ak_describe.specs.Read.{AreRead};
     ghost use Rattle.ak_describe.specs.Seen.{state_of};
 

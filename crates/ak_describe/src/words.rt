@@ -2,7 +2,7 @@
 
 ghost use Rattle.std.specs.Prelude.{◌≡◌, option_map};
 ghost use Rattle.ak_base.specs.Word.{is_word};
-ghost use Rattle.ak_message.specs.Written.{app_word_of};
+ghost use Rattle.ak_input.specs.Written.{app_word_of};
 ghost use Rattle.ak_describe.specs.Seen.{word_and_rest, read_and_rest, rest_seen};
 ghost use Rattle.ak_describe.specs.Answers.{Gives};
 ghost use Rattle.ak_describe.specs.Words as reads;
@@ -10,7 +10,8 @@ ghost use Rattle.ak_describe.specs.Words.{texts};
 
 use crate::fault::FormFault;
 use ak_base::{AppWord, Code, Text, is_word};
-use ak_message::{Kind, Word, read_app_word, read_code};
+use ak_input::{Word, read_app_word, read_code};
+use ak_message::Kind;
 use ak_roster::Mode;
 use std::alloc::Global;
 

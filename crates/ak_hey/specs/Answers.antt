@@ -3,8 +3,8 @@ use Rattle.std.specs.Prelude.{◌≡◌, ℕ, Option, Some, None, Result, Ok, Er
 use Rattle.ak_base.specs.declared.app_word.AppWord.{AppWord}
 use Rattle.ak_base.specs.declared.limited.Limited.{Limited}
 use Rattle.ak_base.specs.declared.limited.Limited.TheVariants.{Within, Over}
-use Rattle.ak_message.specs.declared.parse_fault.ParseFault.{ParseFault}
-use Rattle.ak_message.specs.declared.parse_fault.ParseFault.TheVariants as parse
+use Rattle.ak_input.specs.declared.parse_fault.ParseFault.{ParseFault}
+use Rattle.ak_input.specs.declared.parse_fault.ParseFault.TheVariants as parse
 use Rattle.ak_message.specs.Message.{MessageData}
 use Rattle.ak_hey.specs.declared.HeyLine.{HeyLine}
 use Rattle.ak_hey.specs.declared.fault.HeyFault.{HeyFault}

@@ -5,7 +5,7 @@ use Rattle.std.specs.Str.{bytes_eq}
 use Rattle.ak_base.specs.Option.{where_true, ◌>>=◌}
 use Rattle.ak_message.specs.declared.specifier.At.{At}
 use Rattle.ak_message.specs.declared.specifier.At.TheVariants as at
-use Rattle.ak_message.specs.Written.{number_within}
+use Rattle.ak_input.specs.Written.{number_within}
 
 -- the greatest index, count and id
 abbrev pub most : ℕ

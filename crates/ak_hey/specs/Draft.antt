@@ -13,8 +13,8 @@ use Rattle.ak_message.specs.declared.kind.Kind.TheVariants as k
 use Rattle.ak_message.specs.declared.specifier.At.{At}
 use Rattle.ak_message.specs.declared.specifier.Specifier.{Specifier}
 use Rattle.ak_message.specs.Message.{MessageData}
-pub use Rattle.ak_message.specs.Reading.{fits}
-use Rattle.ak_message.specs.Reading.{Got, with_value}
+pub use Rattle.ak_input.specs.Reading.{fits}
+use Rattle.ak_input.specs.Reading.{Got, with_value}
 use Rattle.ak_specifier.specs.Current as specifier
 
 -- ---- the kinds of the fields, by their names

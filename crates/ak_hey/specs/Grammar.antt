@@ -11,8 +11,8 @@ use Rattle.ak_base.specs.Word.{is_word}
 use Rattle.ak_message.specs.declared.specifier.At.{At}
 use Rattle.ak_message.specs.declared.specifier.At.TheVariants as at
 use Rattle.ak_message.specs.Message.{MessageData}
-use Rattle.ak_message.specs.Reading.{Got, read_value}
-use Rattle.ak_message.specs.Written.{app_word_of}
+use Rattle.ak_input.specs.Reading.{Got, read_value}
+use Rattle.ak_input.specs.Written.{app_word_of}
 use Rattle.ak_hey.specs.Draft.{DraftData, new_draft, with_specifier, with_got, short_message}
 use Rattle.ak_hey.specs.Hey.{elements}
 use Rattle.ak_hey.specs.Words.{verb_of, is_property}

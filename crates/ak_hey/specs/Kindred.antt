@@ -3,7 +3,7 @@ use Rattle.std.specs.Prelude.{◌≡◌, ◌↔◌, ℕ, List, [], ◌∷◌, �
 use Rattle.ak_base.specs.declared.code.Code.{Code}
 use Rattle.ak_message.specs.declared.kind.Kind.{Kind}
 use Rattle.ak_message.specs.declared.kind.Kind.TheVariants as k
-use Rattle.ak_message.specs.Reading.{Got}
+use Rattle.ak_input.specs.Reading.{Got}
 use Rattle.ak_hey.specs.Draft.{DraftData, new_draft}
 use Rattle.ak_hey.specs.Grammar.{SpecText, FieldText, made_of}
 

@@ -4,7 +4,7 @@ use Rattle.std.specs.Int.{w32, from_be_bytes}
 use Rattle.std.specs.Str.{bytes_eq}
 use Rattle.ak_base.specs.Word.{is_word}
 use Rattle.ak_base.specs.declared.code.Code.{Code}
-use Rattle.ak_message.specs.Written.{coded, code_of}
+use Rattle.ak_input.specs.Written.{coded, code_of}
 
 -- ---- the verb
 -- the code of four letters

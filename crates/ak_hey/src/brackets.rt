@@ -3,7 +3,8 @@
 ghost use Rattle.std.specs.Prelude.{◌≡◌, ◌≤◌, ◌<◌, IfSome, length, position, option_map};
 ghost use Rattle.ak_hey.specs.Brackets as reads;
 
-use ak_message::{At, read_number};
+use ak_input::read_number;
+use ak_message::At;
 
 // The greatest index, count and id.
 const MOST: u32 = 2_147_483_647;

@@ -19,7 +19,8 @@ mod value;
 mod words;
 
 use ak_base::{AppWord, Limited};
-use ak_message::{Message, Word};
+use ak_input::Word;
+use ak_message::Message;
 pub use fault::HeyFault;
 use fault::WordFault;
 pub use laws::{brackets_are_read, hey_lines_are_read, values_agree};

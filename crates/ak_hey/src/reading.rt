@@ -11,7 +11,8 @@ use crate::fault::WordFault;
 use crate::value::{quoted_from, value_from};
 use crate::words::{app_word_of, is_property, verb_of};
 use ak_base::{AppWord, Limited, Text};
-use ak_message::{At, Message, split_field};
+use ak_input::split_field;
+use ak_message::{At, Message};
 use std::alloc::Global;
 
 /// What the words so far are.

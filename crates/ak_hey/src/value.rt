@@ -1,15 +1,15 @@
 //! Values and texts, and what of them passes a limit.
 
 ghost use Rattle.std.specs.Prelude.{◌≡◌};
-ghost use Rattle.ak_message.specs.ReadSeen.{got_of};
-ghost use Rattle.ak_message.specs.Reading.{read_value};
-ghost use Rattle.ak_message.specs.Written.{quoted_text};
+ghost use Rattle.ak_input.specs.ReadSeen.{got_of};
+ghost use Rattle.ak_input.specs.Reading.{read_value};
+ghost use Rattle.ak_input.specs.Written.{quoted_text};
 ghost use Rattle.ak_hey.specs.Answers.{Gives};
 ghost use Rattle.ak_hey.specs.Answers as faults;
 
 use crate::fault::WordFault;
 use ak_base::{Limited, Text};
-use ak_message::{ParseFault, ReadValue, read_quoted, read_with_kind};
+use ak_input::{ParseFault, ReadValue, read_quoted, read_with_kind};
 use std::alloc::Global;
 
 /// The value that a word writes.

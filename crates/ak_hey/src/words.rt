@@ -1,13 +1,13 @@
 //! Reads words of a hey line by themselves.
 
 ghost use Rattle.std.specs.Prelude.{◌≡◌};
-ghost use Rattle.ak_message.specs.Written as written;
+ghost use Rattle.ak_input.specs.Written as written;
 ghost use Rattle.ak_hey.specs.Answers.{Gives};
 ghost use Rattle.ak_hey.specs.Words as reads;
 
 use crate::fault::WordFault;
 use ak_base::{AppWord, Code, is_word};
-use ak_message::{read_app_word, read_code};
+use ak_input::{read_app_word, read_code};
 use std::alloc::Global;
 
 /// How a word names an application: a team by its number, or by a signature, or by a name.

@@ -10,7 +10,7 @@ use Rattle.ak_base.specs.declared.error.KitError.TheVariants as e
 use Rattle.ak_message.specs.declared.address.Address.{Address}
 use Rattle.ak_message.specs.declared.address.Target.{Target}
 use Rattle.ak_message.specs.declared.address.Target.TheVariants as target
-use Rattle.ak_message.specs.MessageText.{address_text, target_text}
+use Rattle.ak_input.specs.MessageText.{address_text, target_text}
 use Rattle.ak_flatten.specs.Item.{ItemData}
 use Rattle.ak_flatten.specs.declared.item.Duty.{Duty}
 use Rattle.ak_flatten.specs.declared.item.Duty.TheVariants as duty

@@ -8,8 +8,8 @@ use Rattle.ak_base.specs.declared.app_word.AppWord.{AppWord}
 use Rattle.ak_base.specs.declared.app_word.AppWord.TheVariants as named
 use Rattle.ak_base.specs.declared.no_memory.NoMemory.{NoMemory}
 use Rattle.ak_base.proofs.Surface.{some_is}
-use Rattle.ak_message.specs.Written.{app_word_of, is_app_name, number_within, team_or_name}
-use Rattle.ak_message.proofs.Surface.{number_takes}
+use Rattle.ak_input.specs.Written.{app_word_of, is_app_name, number_within, team_or_name}
+use Rattle.ak_input.proofs.Surface.{number_takes}
 use Rattle.ak_journal.specs.Named.{named_by}
 use Rattle.ak_journal.specs.Parts.{word_text}
 use Rattle.ak_journal.specs.Legible.{IsLegibleWord}

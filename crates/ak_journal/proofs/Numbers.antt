@@ -4,7 +4,7 @@ use Rattle.std.specs.Prelude.{codes, option_map, unsigned_abs}
 use Rattle.std.specs.Fmt.{decimal}
 use Rattle.std.specs.Str.{bytes_eq}
 use Rattle.std.proofs.lemmas.Bool.{and_left, eqb-true, le-leb, ltb-false, ne_eqb}
-use Rattle.ak_message.proofs.Surface.{ints_read, number_again}
+use Rattle.ak_input.proofs.Surface.{ints_read, number_again}
 use Rattle.ak_journal.specs.Parts.{thread_text, token_text}
 use Rattle.ak_journal.specs.Legible.{Fits32, Fits64, FitsToken}
 use Rattle.ak_journal.specs.ReadParts.{thread_numbered, thread_of, token_of, u32_of, u64_of}

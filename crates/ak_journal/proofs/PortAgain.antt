@@ -11,7 +11,7 @@ use Rattle.ak_message.specs.declared.address.Address.{Address}
 use Rattle.ak_message.specs.declared.address.Target.{Target}
 use Rattle.ak_message.specs.declared.address.Target.TheVariants as target
 use Rattle.ak_message.specs.Fields.{specifier_count}
-use Rattle.ak_message.specs.MessageText.{address_text, target_text}
+use Rattle.ak_input.specs.MessageText.{address_text, target_text}
 use Rattle.ak_message.specs.Whole.{FitsAddress, FitsTarget}
 use Rattle.ak_flatten.specs.Item.{IsItem, ItemData, item_fault, spelled}
 use Rattle.ak_flatten.specs.declared.item.Duty.{Duty}

@@ -7,7 +7,7 @@ use Rattle.ak_base.specs.declared.app_word.AppWord.{AppWord}
 use Rattle.ak_base.specs.declared.app_word.AppWord.TheVariants as app
 use Rattle.ak_flatten.specs.declared.item.Duty.{Duty}
 use Rattle.ak_flatten.specs.declared.item.Duty.TheVariants as duty
-use Rattle.ak_message.specs.MessageText.{address_text}
+use Rattle.ak_input.specs.MessageText.{address_text}
 
 -- ---- words make a line
 -- each behind a blank

@@ -1,7 +1,7 @@
 -- The words of what was done to a port.
 use Rattle.std.specs.Prelude.{ℕ, List, [], ◌∷◌, codes}
 use Rattle.std.specs.Fmt.{decimal}
-use Rattle.ak_message.specs.MessageText.{target_text}
+use Rattle.ak_input.specs.MessageText.{target_text}
 use Rattle.ak_flatten.specs.Item.{ItemData}
 use Rattle.ak_port.specs.declared.port_entry.PortEvent.{PortEvent}
 use Rattle.ak_port.specs.declared.port_entry.PortEvent.TheVariants as event

@@ -9,8 +9,8 @@ use Rattle.ak_base.specs.Option.{where_true, ◌>>=◌}
 use Rattle.ak_base.specs.Thread.{main_thread, looper_thread}
 use Rattle.ak_base.specs.declared.app_word.AppWord.{AppWord}
 use Rattle.ak_base.specs.declared.thread.ThreadId.{ThreadId}
-use Rattle.ak_message.specs.Payload.{uint_within}
-use Rattle.ak_message.specs.Written.{number_within}
+use Rattle.ak_input.specs.Payload.{uint_within}
+use Rattle.ak_input.specs.Written.{number_within}
 use Rattle.ak_journal.specs.Named.{named_by}
 use Rattle.ak_journal.specs.Parting.{texts}
 

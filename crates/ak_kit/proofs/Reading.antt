@@ -5,7 +5,7 @@ use Rattle.std.proofs.lemmas.Bool.Decides.{leb_tells}
 use Rattle.std.proofs.lemmas.List.{append-nil, take-append-le}
 use Rattle.std.specs.Prelude.{count_by, ◌==◌, ◌+◌, if◌then◌else◌, Bool}
 use Rattle.std.specs.Io.KnownBytes.{Consumes, IsAtEnd}
-use Rattle.ak_message.specs.Lines.{too_long, line_at, lines_of}
+use Rattle.ak_input.specs.Lines.{too_long, line_at, lines_of}
 use Rattle.ak_script.specs.Script.{script_of, unless_long}
 
 -- of a long input nothing is looked at but the front

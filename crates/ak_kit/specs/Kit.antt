@@ -6,7 +6,7 @@ use Rattle.ak_base.specs.declared.ending.Ending.{Ending}
 use Rattle.ak_base.specs.declared.ending.Ending.TheVariants as ending
 use Rattle.ak_base.specs.declared.ending.RefusalKind.{RefusalKind}
 use Rattle.ak_base.specs.Refusal.{text_of}
-use Rattle.ak_message.specs.Limits.{input_limit}
+use Rattle.ak_input.specs.Limits.{input_limit}
 use Rattle.ak_outside.specs.Faults.{Rose}
 use Rattle.ak_outside.specs.Sink.{AppendsPart}
 use Rattle.ak_script.specs.declared.script.Script.{Script}

@@ -8,7 +8,7 @@ ghost use Rattle.ak_script.specs.Script.{ScriptData, script_of};
 ghost use Rattle.ak_kit.specs.Kit as kit;
 
 use ak_base::{Bytes, Ending};
-use ak_message::INPUT_LIMIT;
+use ak_input::INPUT_LIMIT;
 use ak_outside::{ReadFault, Source, read_all};
 use ak_script::{Script, ScriptFault, read_script};
 use std::alloc::Global;

@@ -1,17 +1,13 @@
--- A message with nothing popped is sound where the message was, and its text is the same.
-use Rattle.std.proofs.Common.{◌≡◌, ◌≢◌, ℕ, ◌+◌, List, [], ◌∷◌, ◌++◌, map, AllPairs, refl, sym, ap, subst, ◌∙◌, arith}
+-- A message with nothing popped is sound where the message was.
+use Rattle.std.proofs.Common.{◌≡◌, ◌≢◌, ℕ, ◌+◌, List, [], ◌∷◌, map, AllPairs, refl, sym, ap, subst, ◌∙◌, arith}
 use Rattle.std.proofs.lemmas.List.{length-map, get_or-map}
 use Rattle.std.proofs.lemmas.List.Elements.{All-map, All-weaker}
-use Rattle.ak_base.specs.Code.{code_text}
-use Rattle.ak_message.specs.declared.kind.Kind.{Kind}
 use Rattle.ak_message.specs.Fields.{IsField, IsMessage}
-use Rattle.ak_message.specs.Kind.{kind_letters}
 use Rattle.ak_message.specs.Message.{ValueData, bool_value, int8_value, int16_value, int32_value, int64_value, uint8_value, uint16_value, uint32_value, uint64_value, text_value, message_value, messenger_value, raw_value, NestedValues, no_values, then_value, NestedFields, no_fields, then_field, FieldData, MessageData, kind_of, depth_of, depth_of_value, depth_of_nested_values, depth_of_nested_fields, nested_values, nested_fields, listed_values, listed_fields, message_of_nested}
-use Rattle.ak_message.specs.MessageText.{payload_text, more_values_text, nested_values_text, nested_fields_text, message_text, field_texts, message_words}
 use Rattle.ak_message.specs.Popped.{IsUnpoppedValue, AreUnpoppedValues, AreUnpoppedFields, IsUnpopped, unpopped_value, unpopped_values, unpopped_fields, unpopped_field, unpopped}
 use Rattle.ak_message.specs.Whole.{FitsValue, FitsValues, FitsFields, IsWhole}
 
-kind-unpopped : (v : ValueData) → kind_of (unpopped_value v) ≡ kind_of v
+pub kind-unpopped : (v : ValueData) → kind_of (unpopped_value v) ≡ kind_of v
 kind-unpopped (bool_value x) = refl
 kind-unpopped (int8_value x) = refl
 kind-unpopped (int16_value x) = refl
@@ -157,47 +153,3 @@ whole-unpopped m h =
 
 pub is_unpopped : (m : MessageData) → IsUnpopped (unpopped m)
 is_unpopped m = (refl, subst AreUnpoppedFields (sym (nested-unpopped_fields m.fields)) (are_unpopped_fields (nested_fields m.fields)))
-
--- ---- the text
-abbrev value_of_text : Kind → List ℕ → List ℕ
-value_of_text kind payload = kind_letters kind ++ 58 ∷ payload
-
-mutual
-  payload-unpopped : (v : ValueData) → payload_text (unpopped_value v) ≡ payload_text v
-  payload-unpopped (bool_value x) = refl
-  payload-unpopped (int8_value x) = refl
-  payload-unpopped (int16_value x) = refl
-  payload-unpopped (int32_value x) = refl
-  payload-unpopped (int64_value x) = refl
-  payload-unpopped (uint8_value x) = refl
-  payload-unpopped (uint16_value x) = refl
-  payload-unpopped (uint32_value x) = refl
-  payload-unpopped (uint64_value x) = refl
-  payload-unpopped (text_value x) = refl
-  payload-unpopped (message_value what fs popped) = ap (λ (t : List ℕ). 123 ∷ code_text what ++ t ++ 125 ∷ []) (fields_text-unpopped fs)
-  payload-unpopped (messenger_value x) = refl
-  payload-unpopped (raw_value x) = refl
-
-  more-unpopped : (vs : NestedValues) → more_values_text (unpopped_values vs) ≡ more_values_text vs
-  more-unpopped no_values = refl
-  more-unpopped (then_value v vs) = λ i. 44 ∷ value_of_text (kind-unpopped v i) (payload-unpopped v i) ++ more-unpopped vs i
-
-  values_text-unpopped : (vs : NestedValues) → nested_values_text (unpopped_values vs) ≡ nested_values_text vs
-  values_text-unpopped no_values = refl
-  values_text-unpopped (then_value v vs) = λ i. value_of_text (kind-unpopped v i) (payload-unpopped v i) ++ more-unpopped vs i
-
-  fields_text-unpopped : (fs : NestedFields) → nested_fields_text (unpopped_fields fs) ≡ nested_fields_text fs
-  fields_text-unpopped no_fields = refl
-  fields_text-unpopped (then_field name kind vs fs) = λ i. 32 ∷ name ++ 61 ∷ values_text-unpopped vs i ++ fields_text-unpopped fs i
-
-texts-unpopped : (fs : NestedFields) → field_texts (unpopped_fields fs) ≡ field_texts fs
-texts-unpopped no_fields = refl
-texts-unpopped (then_field name kind vs fs) = λ i. (name ++ 61 ∷ values_text-unpopped vs i) ∷ texts-unpopped fs i
-
-pub words-unpopped : (m : MessageData) → message_words (unpopped m) ≡ message_words m
-words-unpopped m =
-    ap (λ (fs : NestedFields). code_text m.what ∷ field_texts fs) (nested-unpopped_fields m.fields) ∙ ap (λ (ts : List (List ℕ)). code_text m.what ∷ ts) (texts-unpopped (nested_fields m.fields))
-
-pub text-unpopped : (m : MessageData) → message_text (unpopped m) ≡ message_text m
-text-unpopped m =
-    ap (λ (t : List ℕ). code_text m.what ++ t) (ap nested_fields_text (nested-unpopped_fields m.fields) ∙ fields_text-unpopped (nested_fields m.fields))

@@ -1,4 +1,4 @@
--- The limits of messages, and of the inputs that they are read in.
+-- The limits of messages.
 use Rattle.std.specs.Prelude.{ℕ}
 
 -- the most fields of a message
@@ -12,7 +12,3 @@ value_limit = 255
 -- how many messages may stand in one another, the outer one counted
 abbrev pub depth_limit : ℕ
 depth_limit = 16
-
--- the longest input, in bytes
-abbrev pub input_limit : ℕ
-input_limit = 1048576

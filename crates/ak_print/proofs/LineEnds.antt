@@ -22,7 +22,7 @@ use Rattle.ak_message.specs.Fields.{IsField}
 use Rattle.ak_message.specs.Kind.{kind_letters}
 use Rattle.ak_message.specs.Message.{ValueData, bool_value, int8_value, int16_value, int32_value, int64_value, uint8_value, uint16_value, uint32_value, uint64_value, text_value, message_value, messenger_value, raw_value, NestedValues, no_values, then_value, NestedFields, no_fields, then_field, FieldData, MessageData, kind_of, listed_values, nested_fields, listed_fields}
 use Rattle.ak_message.specs.MessageCode.{listed_fields-nested}
-use Rattle.ak_message.specs.MessageText.{quoted_byte, quoted, target_text, payload_text, more_values_text, nested_values_text, nested_fields_text, message_text}
+use Rattle.ak_input.specs.MessageText.{quoted_byte, quoted, target_text, payload_text, more_values_text, nested_values_text, nested_fields_text, message_text}
 use Rattle.ak_message.specs.Whole.{FitsValue, FitsValues, FitsFields, IsWhole}
 
 -- how many line ends a text has

@@ -5,7 +5,7 @@ use Rattle.ak_base.specs.Error.{name_of}
 use Rattle.ak_base.specs.declared.error.KitError.TheVariants as e
 use Rattle.ak_desk.specs.declared.entry.EditAnswer.{EditAnswer}
 use Rattle.ak_desk.specs.declared.entry.EditAnswer.TheVariants as answer
-use Rattle.ak_message.specs.MessageText.{message_text}
+use Rattle.ak_input.specs.MessageText.{message_text}
 use Rattle.ak_print.specs.declared.told.Told.{Told}
 use Rattle.ak_print.specs.declared.told.Told.TheVariants as told
 use Rattle.ak_print.specs.Laws.{IsWholeOutcome, OutcomesAreLines}

@@ -4,7 +4,7 @@ use Rattle.std.specs.List.{slice_get}
 use Rattle.std.proofs.lemmas.Option.{slice_get_within, get_or_from_slice_get}
 use Rattle.std.proofs.lemmas.List.{drop_more}
 use Rattle.ak_message.specs.Message.{FieldData, nested_fields}
-use Rattle.ak_message.specs.MessageText.{nested_fields_text}
+use Rattle.ak_input.specs.MessageText.{nested_fields_text}
 use Rattle.ak_print.specs.Fields.{field_text}
 
 -- one more piece of what is left

@@ -4,15 +4,16 @@ use Rattle.std.proofs.lemmas.Option.{none-some, same_Some}
 use Rattle.std.specs.Prelude.{option_map}
 use Rattle.ak_base.specs.declared.limited.Limited.{Limited}
 use Rattle.ak_base.specs.declared.limited.Limited.TheVariants.{Within}
-use Rattle.ak_message.specs.Laws.{PrintedValuesAreRead}
+use Rattle.ak_input.specs.Laws.{PrintedValuesAreRead}
 use Rattle.ak_message.specs.Message.{ValueData, MessageData, nested_fields, value_of_message, message_of_nested}
 use Rattle.ak_message.specs.MessageCode.{listed_fields-nested}
-use Rattle.ak_message.specs.MessageText.{message_text, value_text}
+use Rattle.ak_input.specs.MessageText.{message_text, value_text}
 use Rattle.ak_message.specs.Popped.{unpopped}
-use Rattle.ak_message.specs.Reading.{read_value}
+use Rattle.ak_input.specs.Reading.{read_value}
 use Rattle.ak_message.specs.Whole.{FitsValue, IsWhole}
 use Rattle.ak_message.specs.Fields.{IsMessage}
-use Rattle.ak_message.proofs.Surface.{is_unpopped, text-unpopped, whole-unpopped}
+use Rattle.ak_input.proofs.Surface.{text-unpopped}
+use Rattle.ak_message.proofs.Surface.{is_unpopped, whole-unpopped}
 use Rattle.ak_print.specs.Reading.{IsPrintedOf, in_braces, message_among}
 
 -- ---- a message as a value

@@ -1,9 +1,9 @@
 -- The words of a line that begins with `reply`.
 use Rattle.std.proofs.Common.{◌≡◌, ℕ, ◌+◌, List, [], ◌∷◌, ◌++◌, length, map, refl, ap, subst, arith}
 use Rattle.std.specs.Prelude.{codes}
-use Rattle.ak_message.specs.declared.line.Word.{Word}
-use Rattle.ak_message.specs.Marks.{start}
-use Rattle.ak_message.specs.Words.{BeginsWith, GoesOn, IsWordText, IsLine}
+use Rattle.ak_input.specs.declared.line.Word.{Word}
+use Rattle.ak_input.specs.Marks.{start}
+use Rattle.ak_input.specs.Words.{BeginsWith, GoesOn, IsWordText, IsLine}
 
 -- words that stand so many columns further on
 abbrev moved : ℕ → Word → Word

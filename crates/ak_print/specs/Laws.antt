@@ -1,13 +1,13 @@
 -- What holds of each line that is printed.
 use Rattle.std.specs.Prelude.{◌≡◌, ℕ, ◌==◌, List, ◌∷◌, count_by, map, Some, codes}
 use Rattle.ak_base.specs.declared.limited.Limited.TheVariants.{Within}
-use Rattle.ak_message.specs.declared.line.Word.{Word}
+use Rattle.ak_input.specs.declared.line.Word.{Word}
 use Rattle.ak_message.specs.Message.{MessageData}
-use Rattle.ak_message.specs.MessageText.{message_words}
+use Rattle.ak_input.specs.MessageText.{message_words}
 use Rattle.ak_message.specs.Popped.{unpopped}
-use Rattle.ak_message.specs.Reading.{read_message}
+use Rattle.ak_input.specs.Reading.{read_message}
 use Rattle.ak_message.specs.Whole.{IsWhole}
-use Rattle.ak_message.specs.Words.{IsLine}
+use Rattle.ak_input.specs.Words.{IsLine}
 use Rattle.ak_print.specs.declared.told.Told.{Told}
 use Rattle.ak_print.specs.declared.told.Told.TheVariants as told
 use Rattle.ak_print.specs.Told.{told_text}

@@ -3,7 +3,7 @@ use Rattle.std.specs.Prelude.{◌≡◌, List, ℕ, ◌∷◌, [], ◌++◌, Opt
 use Rattle.ak_base.specs.declared.limited.Limited.{Limited}
 use Rattle.ak_base.specs.declared.limited.Limited.TheVariants.{Within}
 use Rattle.ak_message.specs.Message.{ValueData, message_value, MessageData, message_of_nested}
-use Rattle.ak_message.specs.MessageText.{message_text}
+use Rattle.ak_input.specs.MessageText.{message_text}
 use Rattle.ak_message.specs.Popped.{IsUnpopped}
 use Rattle.ak_message.specs.Whole.{IsWhole}
 

@@ -8,7 +8,7 @@ use Rattle.ak_handler.specs.declared.fault.HandlerFault.{HandlerFault}
 use Rattle.ak_handler.specs.declared.fault.HandlerFault.TheVariants as fault
 use Rattle.ak_desk.specs.declared.entry.EditAnswer.{EditAnswer}
 use Rattle.ak_desk.specs.declared.entry.EditAnswer.TheVariants as answer
-use Rattle.ak_message.specs.MessageText.{message_text}
+use Rattle.ak_input.specs.MessageText.{message_text}
 use Rattle.ak_print.specs.declared.told.Told.{Told}
 use Rattle.ak_print.specs.declared.told.Told.TheVariants as told
 

@@ -2,7 +2,7 @@
 
 ghost use Rattle.ak_print.specs.Laws.{OutcomesAreLines, PrintedRepliesAreRead};
 
-use ak_message::printed_messages_are_read;
+use ak_input::printed_messages_are_read;
 
 /// Each outcome is told by one line: the LF at its end is the only one. It is so for all whose reply is within the
 /// limits at every depth, as all messages that exist are.

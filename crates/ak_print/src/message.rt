@@ -1,7 +1,7 @@
 ghost use Rattle.std.specs.Prelude.{◌≡◌, [], ◌∷◌, ◌++◌, map, OnOk, OnErr};
 ghost use Rattle.ak_message.specs.Kind.{kind_letters};
 ghost use Rattle.ak_message.specs.Message.{nested_values};
-ghost use Rattle.ak_message.specs.MessageText.{message_text, nested_values_text, payload_text, value_text};
+ghost use Rattle.ak_input.specs.MessageText.{message_text, nested_values_text, payload_text, value_text};
 ghost use Rattle.ak_message.specs.Seen.{value_of, field_ref_of};
 ghost use Rattle.ak_print.specs.Fields.{field_text};
 

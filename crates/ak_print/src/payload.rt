@@ -4,7 +4,7 @@ ghost use Rattle.std.specs.Prelude.{◌≡◌, ◌<◌, ◌++◌, OnOk};
 ghost use Rattle.std.specs.Char.{digit_char};
 ghost use Rattle.std.specs.List.{flat_map};
 ghost use Rattle.ak_base.specs.Code.{hex_of};
-ghost use Rattle.ak_message.specs.MessageText.{address_text, bool_text, quoted, quoted_byte};
+ghost use Rattle.ak_input.specs.MessageText.{address_text, bool_text, quoted, quoted_byte};
 
 use ak_base::{Bytes, NoMemory, print_uint};
 use ak_message::{Address, Target};

@@ -2,15 +2,16 @@
 ghost use Rattle.std.specs.Prelude.{◌≡◌, ◌≢◌, ◌↔◌, Some, IfOk, IfSome, IfNone, IsTrue, option_map};
 ghost use Rattle.ak_base.specs.declared.limited.Limited.TheVariants.{Within};
 ghost use Rattle.ak_message.specs.Message.{MessageData};
-ghost use Rattle.ak_message.specs.MessageText.{message_text};
-ghost use Rattle.ak_message.specs.Reading.{read_value};
+ghost use Rattle.ak_input.specs.MessageText.{message_text};
+ghost use Rattle.ak_input.specs.Reading.{read_value};
 ghost use Rattle.ak_message.specs.Seen.{value_of};
 ghost use Rattle.ak_message.specs.Whole.{IsWhole};
 ghost use Rattle.ak_print.specs.Reading.{IsPrintedOf, in_braces, message_among};
 
 use crate::message::put_message;
 use ak_base::{Bytes, NoMemory};
-use ak_message::{Message, ParseFault, Value, printed_messages_are_read, read_value};
+use ak_input::{ParseFault, printed_messages_are_read, read_value};
+use ak_message::{Message, Value};
 use std::alloc::Global;
 
 /// The message of which `print_message` prints these bytes, with nothing popped of it at any depth. None exactly where

@@ -1,7 +1,7 @@
 ghost use Rattle.std.specs.Prelude.{◌≡◌, ◌++◌, OnOk, OnErr, codes};
 ghost use Rattle.std.specs.Fmt.{decimal};
 ghost use Rattle.ak_base.specs.Error.{name_of};
-ghost use Rattle.ak_message.specs.MessageText.{message_text};
+ghost use Rattle.ak_input.specs.MessageText.{message_text};
 ghost use Rattle.ak_print.specs.Told.{told_line, told_text, edit_text, error_of};
 
 use crate::message::put_message;

@@ -1,7 +1,7 @@
 -- Exactly the lines that say statements are read as those.
 use Rattle.std.proofs.Common.{◌≡◌, List, [], refl, ap, sym, subst, ◌∙◌, arith}
 use Rattle.std.proofs.lemmas.List.Elements.{All-nil}
-use Rattle.ak_message.specs.declared.line.Line.{Line}
+use Rattle.ak_input.specs.declared.line.Line.{Line}
 use Rattle.ak_script.specs.Laws.{IsWholeSession, IsWholeStatement}
 use Rattle.ak_script.specs.Pass.{SoFar}
 use Rattle.ak_script.specs.Says.{StatementsAreRead, SessionLinesAreRead}

@@ -7,7 +7,7 @@ use Rattle.ak_base.specs.declared.ending.RefusalKind.{RefusalKind}
 use Rattle.ak_base.specs.declared.ending.RefusalKind.TheVariants as refusal
 use Rattle.ak_base.specs.declared.limited.Limited.{Limited}
 use Rattle.ak_base.specs.declared.limited.Limited.TheVariants.{Within, Over}
-use Rattle.ak_message.specs.declared.line.Word.{Word}
+use Rattle.ak_input.specs.declared.line.Word.{Word}
 use Rattle.ak_message.specs.Message.{MessageData}
 use Rattle.ak_describe.specs.Words.{texts}
 use Rattle.ak_hey.specs.Grammar.{IsHey, Begins}

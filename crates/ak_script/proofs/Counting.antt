@@ -6,7 +6,7 @@ use Rattle.std.proofs.lemmas.Grind.{common_steps}
 use Rattle.std.proofs.lemmas.List.{length-append}
 use Rattle.std.proofs.lemmas.List.Elements.{All-push}
 use Rattle.ak_base.specs.declared.ending.RefusalKind.TheVariants as refusal
-use Rattle.ak_message.specs.declared.line.Word.{Word}
+use Rattle.ak_input.specs.declared.line.Word.{Word}
 use Rattle.ak_describe.specs.Words.{ends, texts}
 use Rattle.ak_script.specs.Blocks.{Block, with_begun, closed, is_bare, has_line, more_lines, room_fault, session_fault, end_fault, line_of}
 use Rattle.ak_script.specs.declared.verb.Verb.{Verb}

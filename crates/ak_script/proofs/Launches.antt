@@ -15,7 +15,7 @@ use Rattle.ak_base.specs.declared.limited.Limited.{Limited}
 use Rattle.ak_base.specs.declared.limited.Limited.TheVariants.{Within, Over}
 use Rattle.ak_message.specs.Limits.{value_limit}
 use Rattle.ak_message.specs.Message.{MessageData}
-use Rattle.ak_message.specs.Written.{quoted_text}
+use Rattle.ak_input.specs.Written.{quoted_text}
 use Rattle.ak_describe.specs.Pass.{or_bad, or_limit}
 use Rattle.ak_describe.specs.Words.{behind, ends, first_of}
 use Rattle.ak_script.specs.Forms.{launch_word, with_text, texts_behind, some_texts, arguments_at, is_short, launch_kept, launched, launch_of}

@@ -4,7 +4,7 @@ use Rattle.std.specs.Prelude.{is_some}
 use Rattle.std.proofs.lemmas.List.{append-nil, length-append}
 use Rattle.ak_base.specs.declared.ending.RefusalKind.{RefusalKind}
 use Rattle.ak_base.specs.declared.ending.RefusalKind.TheVariants as refusal
-use Rattle.ak_message.specs.declared.line.Line.{Line}
+use Rattle.ak_input.specs.declared.line.Line.{Line}
 use Rattle.ak_describe.specs.Describes.{Adds, Follow}
 use Rattle.ak_describe.specs.Keyword.{keyword_of}
 use Rattle.ak_describe.specs.Laws.{GoesLineByLine}

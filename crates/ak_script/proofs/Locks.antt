@@ -6,7 +6,7 @@ use Rattle.std.proofs.lemmas.Slice.Eq.{bytes_eq-Decides}
 use Rattle.ak_base.specs.Option.{where_true, ◌>>=◌}
 use Rattle.ak_base.specs.Word.{is_word}
 use Rattle.ak_base.specs.declared.app_word.AppWord.{AppWord}
-use Rattle.ak_message.specs.Written.{app_word_of}
+use Rattle.ak_input.specs.Written.{app_word_of}
 use Rattle.ak_desk.specs.declared.entry.Edit.{Edit}
 use Rattle.ak_desk.specs.declared.entry.Edit.TheVariants as edit
 use Rattle.ak_describe.specs.Pass.{or_bad}

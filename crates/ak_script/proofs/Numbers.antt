@@ -3,9 +3,9 @@ use Rattle.std.proofs.Common.{◌≡◌, ◌<◌, ◌^◌, arith, ℕ, Bool, Lis
 use Rattle.std.specs.Prelude.{option_map, nat_le}
 use Rattle.std.proofs.lemmas.Bool.{le-leb}
 use Rattle.ak_base.specs.Option.{where_true, ◌>>=◌}
-use Rattle.ak_message.specs.Payload.{uint_within}
-use Rattle.ak_message.specs.Written.{WritesNumber}
-use Rattle.ak_message.proofs.Surface.{number_takes, number_again}
+use Rattle.ak_input.specs.Payload.{uint_within}
+use Rattle.ak_input.specs.Written.{WritesNumber}
+use Rattle.ak_input.proofs.Surface.{number_takes, number_again}
 use Rattle.ak_describe.specs.Words.{behind, first_of}
 use Rattle.ak_script.specs.Forms.{number_from, number_behind, looper_at, or_zero, most_looper}
 use Rattle.ak_script.specs.Says.{SayNumber, SayPlace}

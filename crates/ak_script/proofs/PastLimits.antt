@@ -10,8 +10,8 @@ use Rattle.ak_base.specs.declared.limited.Limited.{Limited}
 use Rattle.ak_base.specs.declared.limited.Limited.TheVariants.{Within, Over}
 use Rattle.ak_base.specs.Option.{◌>>=◌}
 use Rattle.ak_message.specs.Message.{MessageData}
-use Rattle.ak_message.specs.Reading.{read_message}
-use Rattle.ak_message.specs.Written.{app_word_of, quoted_text}
+use Rattle.ak_input.specs.Reading.{read_message}
+use Rattle.ak_input.specs.Written.{app_word_of, quoted_text}
 use Rattle.ak_flatten.specs.Limits.{flat_limit}
 use Rattle.ak_flatten.specs.Spelling.{spelling}
 use Rattle.ak_describe.specs.Pass.{or_bad, or_limit}

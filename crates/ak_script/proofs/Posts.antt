@@ -8,10 +8,10 @@ use Rattle.ak_base.specs.declared.ending.RefusalKind.TheVariants as refusal
 use Rattle.ak_base.specs.declared.limited.Limited.{Limited}
 use Rattle.ak_base.specs.declared.limited.Limited.TheVariants.{Within}
 use Rattle.ak_message.specs.Message.{MessageData}
-use Rattle.ak_message.specs.Reading.{code_from, message_of, read_message}
+use Rattle.ak_input.specs.Reading.{code_from, message_of, read_message}
 use Rattle.ak_message.specs.declared.address.Target.{Target}
 use Rattle.ak_message.specs.declared.address.Target.TheVariants as target
-use Rattle.ak_message.specs.Written.{app_word_of}
+use Rattle.ak_input.specs.Written.{app_word_of}
 use Rattle.ak_describe.specs.Pass.{or_bad, or_limit}
 use Rattle.ak_describe.specs.Words.{behind, first_of}
 use Rattle.ak_describe.proofs.Surface.{app_word_takes, app_word_again}

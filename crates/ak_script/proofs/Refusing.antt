@@ -5,11 +5,11 @@ use Rattle.std.proofs.lemmas.Grind.{common_steps}
 use Rattle.std.proofs.lemmas.List.{append-nil}
 use Rattle.ak_base.specs.declared.ending.RefusalKind.{RefusalKind}
 use Rattle.ak_base.specs.declared.ending.RefusalKind.TheVariants as refusal
-use Rattle.ak_message.specs.declared.line.Line.{Line}
-use Rattle.ak_message.specs.declared.lines.InputLines.{InputLines}
-use Rattle.ak_message.specs.declared.lines.LineFault.{LineFault}
-use Rattle.ak_message.specs.Limits.{input_limit}
-use Rattle.ak_message.specs.Lines.{line_at, lines_of, too_long}
+use Rattle.ak_input.specs.declared.line.Line.{Line}
+use Rattle.ak_input.specs.declared.lines.InputLines.{InputLines}
+use Rattle.ak_input.specs.declared.lines.LineFault.{LineFault}
+use Rattle.ak_input.specs.Limits.{input_limit}
+use Rattle.ak_input.specs.Lines.{line_at, lines_of, too_long}
 use Rattle.ak_describe.specs.declared.described.AppText.{AppText}
 use Rattle.ak_describe.specs.Describes as descriptions
 use Rattle.ak_describe.specs.Describes.{Describes, Follow}

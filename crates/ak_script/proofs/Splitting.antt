@@ -6,13 +6,13 @@ use Rattle.std.specs.Str.Lines.{strip_carriage_return}
 use Rattle.std.proofs.lemmas.Str.{IsUtf8-from_is_utf8, is_utf8-from_IsUtf8}
 use Rattle.ak_base.specs.declared.ending.RefusalKind.{RefusalKind}
 use Rattle.ak_base.specs.declared.ending.RefusalKind.TheVariants as refusal
-use Rattle.ak_message.specs.declared.line.Line.{Line}
-use Rattle.ak_message.specs.declared.line.Word.{Word}
-use Rattle.ak_message.specs.declared.lines.InputLines.{InputLines}
-use Rattle.ak_message.specs.declared.lines.LineFault.{LineFault}
-use Rattle.ak_message.specs.Lines.{is_silent, lines_from, pieces_of, with_line}
-use Rattle.ak_message.specs.Words.{IsLine, line_words, words_from, words_or_fault}
-use Rattle.ak_message.proofs.Surface.{line_again, line_takes}
+use Rattle.ak_input.specs.declared.line.Line.{Line}
+use Rattle.ak_input.specs.declared.line.Word.{Word}
+use Rattle.ak_input.specs.declared.lines.InputLines.{InputLines}
+use Rattle.ak_input.specs.declared.lines.LineFault.{LineFault}
+use Rattle.ak_input.specs.Lines.{is_silent, lines_from, pieces_of, with_line}
+use Rattle.ak_input.specs.Words.{IsLine, line_words, words_from, words_or_fault}
+use Rattle.ak_input.proofs.Surface.{line_again, line_takes}
 use Rattle.ak_script.specs.InputLines.{HasNoWords, AreLines, AreLinesOf, LinesAreSplit}
 
 -- ---- the words of a line

@@ -1,7 +1,7 @@
 -- The statements of a script are read line by line: behind each line the next one stands outside of blocks, or in one.
 use Rattle.std.proofs.Common.{◌≡◌, ◌+◌, ℕ, List, [], ◌∷◌, ◌++◌, Some, None, Result, Ok, Err, refl, ap, ◌∙◌}
 use Rattle.std.specs.Prelude.{true}
-use Rattle.ak_message.specs.declared.line.Line.{Line}
+use Rattle.ak_input.specs.declared.line.Line.{Line}
 use Rattle.ak_describe.specs.Pass.{Refusal, then_read}
 use Rattle.ak_describe.specs.Words.{behind, ends, texts}
 use Rattle.ak_script.specs.declared.part.Part.TheVariants as part

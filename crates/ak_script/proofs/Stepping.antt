@@ -7,7 +7,7 @@ use Rattle.ak_base.specs.Option.{where_true}
 use Rattle.ak_base.specs.declared.ending.RefusalKind.{RefusalKind}
 use Rattle.ak_base.specs.declared.ending.RefusalKind.TheVariants as refusal
 use Rattle.ak_base.specs.declared.limited.Limited.TheVariants.{Within}
-use Rattle.ak_message.specs.declared.line.Line.{Line}
+use Rattle.ak_input.specs.declared.line.Line.{Line}
 use Rattle.ak_describe.specs.Describes as descriptions
 use Rattle.ak_describe.specs.Describes.{Adds, Follow}
 use Rattle.ak_describe.specs.Pass.{State, nothing_read, read_line, may_open_app}

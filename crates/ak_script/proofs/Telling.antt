@@ -3,8 +3,8 @@ use Rattle.std.proofs.Common.{◌≡◌, ◌≢◌, ◌⊎◌, inl, inr, ◌+◌
 use Rattle.std.specs.Prelude.{is_some, nat_lt}
 use Rattle.ak_base.specs.declared.ending.RefusalKind.{RefusalKind}
 use Rattle.ak_base.specs.declared.ending.RefusalKind.TheVariants as refusal
-use Rattle.ak_message.specs.declared.line.Line.{Line}
-use Rattle.ak_message.specs.declared.line.Word.{Word}
+use Rattle.ak_input.specs.declared.line.Line.{Line}
+use Rattle.ak_input.specs.declared.line.Word.{Word}
 use Rattle.ak_describe.specs.Describes as descriptions
 use Rattle.ak_describe.specs.Describes.{Follow}
 use Rattle.ak_describe.specs.Laws.{GoesLineByLine}

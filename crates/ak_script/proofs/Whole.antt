@@ -4,9 +4,9 @@ use Rattle.std.specs.Prelude.{option_map}
 use Rattle.std.specs.List.{All}
 use Rattle.std.proofs.lemmas.List.{length-append}
 use Rattle.std.proofs.lemmas.List.Elements.{All-nil, All-push}
-use Rattle.ak_message.specs.declared.line.Line.{Line}
-use Rattle.ak_message.specs.declared.lines.InputLines.{InputLines}
-use Rattle.ak_message.specs.Lines.{too_long, lines_of}
+use Rattle.ak_input.specs.declared.line.Line.{Line}
+use Rattle.ak_input.specs.declared.lines.InputLines.{InputLines}
+use Rattle.ak_input.specs.Lines.{too_long, lines_of}
 use Rattle.ak_describe.specs.Description.{description}
 use Rattle.ak_describe.specs.Laws.{DescribedIsRead}
 use Rattle.ak_describe.specs.Pass.{or_refused, at_line, then_read}

@@ -3,10 +3,10 @@ use Rattle.std.specs.Prelude.{ℕ, Result, Ok, Err}
 use Rattle.ak_base.specs.declared.ending.RefusalKind.TheVariants as refusal
 use Rattle.ak_base.specs.declared.limited.Limited.{Limited}
 use Rattle.ak_base.specs.declared.limited.Limited.TheVariants.{Within, Over}
-use Rattle.ak_message.specs.declared.parse_fault.ParseFault.{ParseFault}
-use Rattle.ak_message.specs.declared.parse_fault.ParseFault.TheVariants as parse
-use Rattle.ak_message.specs.declared.lines.LinesFault.{LinesFault}
-use Rattle.ak_message.specs.declared.lines.LinesFault.TheVariants as lines
+use Rattle.ak_input.specs.declared.parse_fault.ParseFault.{ParseFault}
+use Rattle.ak_input.specs.declared.parse_fault.ParseFault.TheVariants as parse
+use Rattle.ak_input.specs.declared.lines.LinesFault.{LinesFault}
+use Rattle.ak_input.specs.declared.lines.LinesFault.TheVariants as lines
 use Rattle.ak_describe.specs.Pass.{Refusal}
 use Rattle.ak_describe.specs.declared.fault.DescribeFault.{DescribeFault}
 use Rattle.ak_describe.specs.declared.fault.DescribeFault.TheVariants as descriptions

@@ -7,10 +7,10 @@ use Rattle.ak_base.specs.declared.ending.RefusalKind.{RefusalKind}
 use Rattle.ak_base.specs.declared.ending.RefusalKind.TheVariants as refusal
 use Rattle.ak_base.specs.declared.limited.Limited.{Limited}
 use Rattle.ak_base.specs.declared.limited.Limited.TheVariants.{Within, Over}
-use Rattle.ak_message.specs.declared.line.Word.{Word}
+use Rattle.ak_input.specs.declared.line.Word.{Word}
 use Rattle.ak_message.specs.Message.{MessageData}
-use Rattle.ak_message.specs.Reading.{read_message}
-use Rattle.ak_message.specs.Written.{quoted_text}
+use Rattle.ak_input.specs.Reading.{read_message}
+use Rattle.ak_input.specs.Written.{quoted_text}
 use Rattle.ak_flatten.specs.Limits.{flat_limit}
 use Rattle.ak_flatten.specs.Spelling.{spelling}
 use Rattle.ak_describe.specs.Grammar.{SaysAppWord}

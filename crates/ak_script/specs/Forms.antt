@@ -12,14 +12,14 @@ use Rattle.ak_base.specs.declared.limited.Limited.{Limited}
 use Rattle.ak_base.specs.declared.limited.Limited.TheVariants.{Within, Over}
 use Rattle.ak_desk.specs.declared.entry.Edit.{Edit}
 use Rattle.ak_desk.specs.declared.entry.Edit.TheVariants as edit
-use Rattle.ak_message.specs.declared.line.Word.{Word}
+use Rattle.ak_input.specs.declared.line.Word.{Word}
 use Rattle.ak_message.specs.declared.address.Target.{Target}
 use Rattle.ak_message.specs.declared.address.Target.TheVariants as target
 use Rattle.ak_message.specs.Limits.{value_limit}
-use Rattle.ak_message.specs.Payload.{uint_within}
-use Rattle.ak_message.specs.Reading.{read_message}
+use Rattle.ak_input.specs.Payload.{uint_within}
+use Rattle.ak_input.specs.Reading.{read_message}
 use Rattle.ak_message.specs.Message.{MessageData}
-use Rattle.ak_message.specs.Written.{quoted_text, app_word_of}
+use Rattle.ak_input.specs.Written.{quoted_text, app_word_of}
 use Rattle.ak_flatten.specs.Limits.{flat_limit}
 use Rattle.ak_flatten.specs.Spelling.{spelling}
 use Rattle.ak_describe.specs.Pass.{or_bad, or_limit, then_read}

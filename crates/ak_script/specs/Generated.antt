@@ -8,7 +8,7 @@ use Rattle.ak_message.specs.declared.kind.Kind.TheVariants as k
 use Rattle.ak_message.specs.declared.specifier.At.{At}
 use Rattle.ak_message.specs.declared.specifier.At.TheVariants as at
 use Rattle.ak_message.specs.Message.{ValueData, MessageData, int32_value}
-use Rattle.ak_message.specs.Written.{coded}
+use Rattle.ak_input.specs.Written.{coded}
 use Rattle.ak_specifier.specs.Current.{with_specifier}
 use Rattle.ak_property.specs.declared.table.PropertyRow.{PropertyRow}
 use Rattle.ak_value.specs.Elements.{ElementsData, described}

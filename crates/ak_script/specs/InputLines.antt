@@ -3,12 +3,12 @@ use Rattle.std.specs.Prelude.{◌≡◌, ◌↔◌, ◌⊎◌, ℕ, ◌+◌, tru
 use Rattle.std.specs.Str.Lines.{strip_carriage_return}
 use Rattle.ak_base.specs.declared.ending.RefusalKind.{RefusalKind}
 use Rattle.ak_base.specs.declared.ending.RefusalKind.TheVariants as refusal
-use Rattle.ak_message.specs.declared.line.Line.{Line}
-use Rattle.ak_message.specs.declared.line.Word.{Word}
-use Rattle.ak_message.specs.declared.lines.InputLines.{InputLines}
-use Rattle.ak_message.specs.declared.lines.LineFault.{LineFault}
-use Rattle.ak_message.specs.Lines.{is_silent, lines_of, pieces_of}
-use Rattle.ak_message.specs.Words.{IsLine}
+use Rattle.ak_input.specs.declared.line.Line.{Line}
+use Rattle.ak_input.specs.declared.line.Word.{Word}
+use Rattle.ak_input.specs.declared.lines.InputLines.{InputLines}
+use Rattle.ak_input.specs.declared.lines.LineFault.{LineFault}
+use Rattle.ak_input.specs.Lines.{is_silent, lines_of, pieces_of}
+use Rattle.ak_input.specs.Words.{IsLine}
 
 -- it has only blanks, or its first other byte is a `#`; one CR at its end is no part of it
 abbrev pub SaysNothing : List ℕ → Type 0

@@ -2,9 +2,9 @@
 use Rattle.std.specs.Prelude.{ℕ, ◌+◌, nat_lt, is_some, if◌then◌else◌, List, [], ◌∷◌, ◌++◌, codes, Option, Some, None, Result, Ok, Err}
 use Rattle.ak_base.specs.declared.ending.RefusalKind.{RefusalKind}
 use Rattle.ak_base.specs.declared.ending.RefusalKind.TheVariants as refusal
-use Rattle.ak_message.specs.declared.line.Line.{Line}
-use Rattle.ak_message.specs.declared.lines.InputLines.{InputLines}
-use Rattle.ak_message.specs.declared.lines.LineFault.{LineFault}
+use Rattle.ak_input.specs.declared.line.Line.{Line}
+use Rattle.ak_input.specs.declared.lines.InputLines.{InputLines}
+use Rattle.ak_input.specs.declared.lines.LineFault.{LineFault}
 use Rattle.ak_describe.specs.Pass.{Refusal, then_read, or_refused, at_line}
 use Rattle.ak_describe.specs.Read.{lines_read, end_fault, last_number, unfinished_behind}
 use Rattle.ak_describe.specs.Words.{texts, behind, ends}

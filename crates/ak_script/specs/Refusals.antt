@@ -2,10 +2,10 @@
 use Rattle.std.specs.Prelude.{◌≡◌, ◌≢◌, ◌↔◌, ◌⊎◌, ℕ, ◌+◌, ◌<◌, ◌≤◌, List, [], ◌∷◌, ◌++◌, length, codes, Option, Some, None, Ok, Err}
 use Rattle.ak_base.specs.declared.ending.RefusalKind.{RefusalKind}
 use Rattle.ak_base.specs.declared.ending.RefusalKind.TheVariants as refusal
-use Rattle.ak_message.specs.declared.line.Line.{Line}
-use Rattle.ak_message.specs.declared.lines.InputLines.{InputLines}
-use Rattle.ak_message.specs.Limits.{input_limit}
-use Rattle.ak_message.specs.Lines.{line_at}
+use Rattle.ak_input.specs.declared.line.Line.{Line}
+use Rattle.ak_input.specs.declared.lines.InputLines.{InputLines}
+use Rattle.ak_input.specs.Limits.{input_limit}
+use Rattle.ak_input.specs.Lines.{line_at}
 use Rattle.ak_describe.specs.Describes as descriptions
 use Rattle.ak_describe.specs.Describes.{Describes, Follow}
 use Rattle.ak_describe.specs.Laws.{IsPassed}

@@ -6,8 +6,8 @@ use Rattle.ak_base.specs.declared.ending.RefusalKind.TheVariants as refusal
 use Rattle.ak_base.specs.declared.limited.Limited.TheVariants.{Within}
 use Rattle.ak_base.specs.AppName.{is_path, is_signature}
 use Rattle.ak_message.specs.Message.{MessageData}
-use Rattle.ak_message.specs.Reading.{read_message}
-use Rattle.ak_message.specs.declared.line.Word.{Word}
+use Rattle.ak_input.specs.Reading.{read_message}
+use Rattle.ak_input.specs.declared.line.Word.{Word}
 use Rattle.ak_message.specs.declared.address.Target.{Target}
 use Rattle.ak_message.specs.declared.address.Target.TheVariants as target
 use Rattle.ak_message.specs.Limits.{value_limit}
@@ -21,7 +21,7 @@ use Rattle.ak_hey.specs.Laws.{IsFirstBad, EndsEarly}
 use Rattle.ak_desk.specs.declared.entry.Edit.{Edit}
 use Rattle.ak_desk.specs.declared.entry.Edit.TheVariants as edit
 use Rattle.ak_base.specs.Word.{is_word}
-use Rattle.ak_message.specs.Written.{quoted_text, WritesNumber}
+use Rattle.ak_input.specs.Written.{quoted_text, WritesNumber}
 use Rattle.ak_script.specs.Forms.{most_looper, most_token, or_zero, session_line_of, statement_of}
 use Rattle.ak_script.specs.Messages.{arguments_of}
 use Rattle.ak_script.specs.Statement.{LaunchData, PostData, LockData, SessionLineData, hey_line, post_line, lock_line, StatementData, launch_statement, hey_statement, post_statement, lock_statement, together_statement}

@@ -1,6 +1,6 @@
 -- Which lines say statements: one line each, or those of a block.
 use Rattle.std.specs.Prelude.{◌≡◌, ◌↔◌, ◌≤◌, ℕ, List, [], ◌∷◌, ◌++◌, length, codes, Ok}
-use Rattle.ak_message.specs.declared.line.Line.{Line}
+use Rattle.ak_input.specs.declared.line.Line.{Line}
 use Rattle.ak_describe.specs.Words.{texts}
 use Rattle.ak_script.specs.declared.part.Part.TheVariants as part
 use Rattle.ak_script.specs.Blocks.{new_block}

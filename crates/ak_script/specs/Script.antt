@@ -1,8 +1,8 @@
 -- Which script an input is the text of, or its first refusal.
 use Rattle.std.specs.Prelude.{ℕ, List, Option, Some, None, Result, Ok, Err}
 use Rattle.ak_base.specs.declared.ending.RefusalKind.TheVariants as refusal
-use Rattle.ak_message.specs.declared.lines.InputLines.{InputLines}
-use Rattle.ak_message.specs.Lines.{too_long, lines_of}
+use Rattle.ak_input.specs.declared.lines.InputLines.{InputLines}
+use Rattle.ak_input.specs.Lines.{too_long, lines_of}
 use Rattle.ak_describe.specs.declared.described.AppText.{AppText}
 use Rattle.ak_describe.specs.Description.{description}
 use Rattle.ak_describe.specs.Pass.{Refusal, then_read}

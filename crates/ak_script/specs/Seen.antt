@@ -2,7 +2,7 @@
 use Rattle.std.specs.Prelude.{ℕ, List, Option, Some, None, Vec}
 use Rattle.std.specs.Borrow.{Bor}
 use Rattle.std.specs.declared.alloc.Global.{Global}
-use Rattle.ak_message.specs.declared.line.Word.{Word}
+use Rattle.ak_input.specs.declared.line.Word.{Word}
 use Rattle.ak_describe.specs.Words.{texts}
 use Rattle.ak_script.specs.declared.block.BlockSoFar.{BlockSoFar}
 use Rattle.ak_script.specs.declared.form.post.Posting.{Posting}

@@ -9,7 +9,7 @@ use crate::said::session_line_of;
 use crate::statement::{SESSION_LIMIT, SessionLine, SessionLines, Together};
 use ak_base::{NoMemory, RefusalKind};
 use ak_describe::ends;
-use ak_message::Word;
+use ak_input::Word;
 use std::alloc::Global;
 
 /// The sessions of a block so far.

@@ -4,7 +4,7 @@ ghost use Rattle.ak_script.specs.Faults.{fault_at};
 use ak_base::{NoMemory, RefusalKind};
 use ak_describe::DescribeFault;
 use ak_hey::HeyFault;
-use ak_message::LinesFault;
+use ak_input::LinesFault;
 use std::alloc::AllocFailed;
 use std::error::Error;
 use std::fmt;

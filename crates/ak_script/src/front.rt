@@ -4,7 +4,7 @@ ghost use Rattle.ak_script.specs.Pass as reads;
 
 use ak_base::RefusalKind;
 use ak_describe::{behind, ends};
-use ak_message::Word;
+use ak_input::Word;
 
 /// What is wrong with the words of the first line, which are `kit 1`.
 pub(crate) fn front_fault(words: &[Word]) -> Option<RefusalKind>

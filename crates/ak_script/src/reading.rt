@@ -17,7 +17,7 @@ use crate::laws::scripts_are_read;
 use crate::script::Script;
 use crate::so_far::ScriptSoFar;
 use ak_describe::descriptions_are_whole;
-use ak_message::{InputLines, Line, split_lines};
+use ak_input::{InputLines, Line, split_lines};
 use std::alloc::Global;
 
 /// The script that the input is the text of. Refused with the first fault. An input of over 1,048,576 bytes is

@@ -11,7 +11,7 @@ use crate::form::lock::lock_of;
 use crate::form::post::post_of;
 use crate::statement::{SessionLine, Statement};
 use crate::verb::{Verb, verb_of};
-use ak_message::Word;
+use ak_input::Word;
 use std::alloc::Global;
 
 /// The statement that the words of a line say, of which the first one says what it is.

@@ -14,7 +14,7 @@ use crate::script::STATEMENT_LIMIT;
 use crate::statement::{SessionLine, Statement};
 use ak_base::RefusalKind;
 use ak_describe::{FirstPass, behind, ends};
-use ak_message::{Line, Word};
+use ak_input::{Line, Word};
 use std::alloc::Global;
 use std::mem;
 

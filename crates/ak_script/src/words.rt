@@ -8,7 +8,7 @@ ghost use Rattle.ak_script.specs.Forms as forms;
 ghost use Rattle.ak_script.specs.Seen.{bytes_seen, read_and_rest};
 
 use ak_describe::{behind, ends};
-use ak_message::{Word, read_uint};
+use ak_input::{Word, read_uint};
 
 /// The first of the words.
 pub(crate) fn first_of(words: &[Word]) -> Option<(&[u8], &[Word])>

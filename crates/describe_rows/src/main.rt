@@ -8,7 +8,7 @@ mod telling;
 
 use ak_base::{Bytes, NoMemory};
 use ak_describe::{AppText, DescribeFault, read_description};
-use ak_message::{InputLines, LinesFault, split_lines};
+use ak_input::{InputLines, LinesFault, split_lines};
 use rows::{FileLine, Tally, file_lines, file_names, print_file, print_row};
 use std::alloc::Global;
 use std::io::ErrorKind;

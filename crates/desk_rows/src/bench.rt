@@ -8,7 +8,7 @@ use ak_action::{LooperPlan, looper_names};
 use ak_base::{Items, NoMemory, Text, ThreadId};
 use ak_describe::{AppText, DescribeFault, read_description};
 use ak_desk::Desk;
-use ak_message::{InputLines, LinesFault, split_lines};
+use ak_input::{InputLines, LinesFault, split_lines};
 use ak_turn::Clock;
 use std::alloc::Global;
 

@@ -4,7 +4,8 @@ use crate::words::Words;
 use ak_base::{NoMemory, Text};
 use ak_desk::Edit;
 use ak_flatten::{Duty, FlattenFault, Item, ItemFault, flatten};
-use ak_message::{Line, Message, Target, Word, read_message};
+use ak_input::{Line, Word, read_message};
+use ak_message::{Message, Target};
 use std::alloc::Global;
 
 /// An operation, and the answers behind it.

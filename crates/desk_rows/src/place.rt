@@ -1,7 +1,7 @@
 //! The line of a description that says which looper's desk it is.
 
 use crate::words::Words;
-use ak_message::Word;
+use ak_input::Word;
 
 /// The looper's name, its team, and the number of its application's first looper.
 #[derive(Clone, Copy)]

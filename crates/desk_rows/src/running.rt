@@ -11,7 +11,7 @@ use crate::operation::{Operation, Step, steps_of};
 use crate::reading::Reading;
 use crate::stop::Stop;
 use ak_base::{Bytes, NoMemory};
-use ak_message::Line;
+use ak_input::Line;
 use std::alloc::Global;
 
 /// What is told of the row that was read.

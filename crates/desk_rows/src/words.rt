@@ -1,7 +1,8 @@
 //! Reads the words of a line from the first one on.
 
 use ak_base::read_int;
-use ak_message::{Address, Target, Word};
+use ak_input::Word;
+use ak_message::{Address, Target};
 
 /// The words that are left.
 #[derive(Clone, Copy)]

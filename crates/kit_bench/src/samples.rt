@@ -2,7 +2,8 @@
 use crate::fault::BenchFault;
 use ak_base::{Bytes, Code, RAW_LIMIT, Raw};
 use ak_flatten::{flatten, unflatten};
-use ak_message::{Message, Value, read_message, split_words};
+use ak_input::{read_message, split_words};
+use ak_message::{Message, Value};
 use std::alloc::Global;
 
 /// A question: one specifier, which names a property.

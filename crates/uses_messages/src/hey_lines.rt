@@ -4,7 +4,8 @@ use crate::compare::same;
 use ak_base::NoMemory;
 use ak_flatten::flatten;
 use ak_hey::{HeyFault, end_of, read_hey};
-use ak_message::{Message, read_message, split_words};
+use ak_input::{read_message, split_words};
+use ak_message::Message;
 use std::alloc::Global;
 use std::test::Fail;
 

@@ -2,7 +2,7 @@
 
 use crate::compare::same;
 use ParseFault::BadValue;
-use ak_message::{ParseFault, read_quoted, read_value};
+use ak_input::{ParseFault, read_quoted, read_value};
 use std::alloc::Global;
 
 static NO_VALUES: [&[u8]; 18] = [

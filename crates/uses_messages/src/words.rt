@@ -2,7 +2,7 @@
 
 use crate::compare::same;
 use ak_base::RefusalKind;
-use ak_message::{INPUT_LIMIT, LinesFault, Word, WordsFault, split_lines, split_words};
+use ak_input::{INPUT_LIMIT, LinesFault, Word, WordsFault, split_lines, split_words};
 use std::alloc::Global;
 use std::test::Fail;
 

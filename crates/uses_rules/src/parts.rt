@@ -6,7 +6,8 @@ use ak_action::{
 };
 use ak_base::{Code, Text};
 use ak_describe::read_description;
-use ak_message::{Message, Value, split_lines};
+use ak_input::split_lines;
+use ak_message::{Message, Value};
 use std::alloc::Global;
 use std::test::Fail;
 

@@ -6,7 +6,8 @@ use ak_describe::{
     AppText, DescribeFault, FirstPass, described_or_faulty, descriptions_are_read,
     names_have_places, passes_make_descriptions, read_description,
 };
-use ak_message::{AtRef, Message, Value, split_lines};
+use ak_input::split_lines;
+use ak_message::{AtRef, Message, Value};
 use ak_value::Elements;
 use std::alloc::Global;
 use std::test::Fail;

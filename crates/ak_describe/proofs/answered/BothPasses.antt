@@ -1,6 +1,6 @@
 -- What the first pass leaves: the second pass finds the same with the places kept, and where it finds nothing all loopers are plans.
 use Rattle.std.proofs.Common.{◌≡◌, List, None, Ok}
-use Rattle.ak_message.specs.declared.line.Line.{Line}
+use Rattle.ak_input.specs.declared.line.Line.{Line}
 use Rattle.ak_describe.specs.Described.{AreWhole}
 use Rattle.ak_describe.specs.Led.{chains_of, led_fault}
 use Rattle.ak_describe.specs.Pass.{State, first_pass}

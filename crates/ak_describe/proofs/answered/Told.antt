@@ -1,7 +1,7 @@
 -- What is answered, by what the first pass and the second one give.
 use Rattle.std.proofs.Common.{◌≡◌, ◌∙◌, List, Vec, Option, None, Some, option_map, Result, Ok, Err, IfOk, IfErr, refl, sym, ap, subst}
 use Rattle.std.specs.declared.alloc.Global.{Global}
-use Rattle.ak_message.specs.declared.line.Line.{Line}
+use Rattle.ak_input.specs.declared.line.Line.{Line}
 use Rattle.ak_describe.specs.declared.described.AppText.{AppText}
 use Rattle.ak_describe.specs.declared.fault.DescribeFault.{DescribeFault}
 use Rattle.ak_describe.specs.declared.fault.DescribeFault.TheVariants as answer

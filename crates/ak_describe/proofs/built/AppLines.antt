@@ -9,8 +9,8 @@ use Rattle.std.proofs.lemmas.Option.{same_Some}
 use Rattle.ak_base.specs.declared.ending.RefusalKind.{RefusalKind}
 use Rattle.ak_base.specs.Word.{is_word}
 use Rattle.ak_base.specs.Option.{where_true, ◌>>=◌}
-use Rattle.ak_message.specs.Payload.{int_value, int_within, uint_within}
-use Rattle.ak_message.specs.Written.{number_within}
+use Rattle.ak_input.specs.Payload.{int_value, int_within, uint_within}
+use Rattle.ak_input.specs.Written.{number_within}
 use Rattle.ak_describe.specs.declared.form.heads.AppForm.{AppForm}
 use Rattle.ak_describe.specs.declared.form.heads.LooperForm.{LooperForm}
 use Rattle.ak_describe.specs.declared.keyword.Keyword.{Keyword}

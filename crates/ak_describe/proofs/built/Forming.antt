@@ -14,8 +14,8 @@ use Rattle.ak_message.specs.declared.kind.Kind.{Kind}
 use Rattle.ak_message.specs.Kind.{code_of_kind, is_same_kind, same_kind-is}
 use Rattle.ak_message.specs.Message.{ValueData}
 use Rattle.ak_base.specs.Option.{where_true, ◌>>=◌}
-use Rattle.ak_message.specs.Reading.{field_split}
-use Rattle.ak_message.specs.Written.{value_from}
+use Rattle.ak_input.specs.Reading.{field_split}
+use Rattle.ak_input.specs.Written.{value_from}
 use Rattle.ak_action.specs.declared.action.Action.{Action}
 use Rattle.ak_action.specs.declared.action.Action.TheVariants as action
 use Rattle.ak_action.specs.declared.action.Dest.{Dest}

@@ -10,9 +10,9 @@ use Rattle.ak_base.specs.Option.{where_true, ◌>>=◌}
 use Rattle.ak_base.specs.declared.limited.Limited.{Limited}
 use Rattle.ak_base.specs.declared.limited.Limited.TheVariants.{Within, Over}
 use Rattle.ak_base.specs.Limited.{limited_map}
-use Rattle.ak_message.specs.Reading.{code_from, field_split}
+use Rattle.ak_input.specs.Reading.{code_from, field_split}
 use Rattle.ak_base.proofs.Surface.{bind_some, cond_some}
-use Rattle.ak_message.specs.Written.{code_of}
+use Rattle.ak_input.specs.Written.{code_of}
 use Rattle.ak_action.specs.declared.action.Action.{Action}
 use Rattle.ak_action.specs.declared.action.Action.TheVariants as action
 use Rattle.ak_action.specs.declared.action.Dest.{Dest}

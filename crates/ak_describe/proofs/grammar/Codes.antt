@@ -11,11 +11,11 @@ use Rattle.std.proofs.lemmas.Slice.Eq.{starts_is}
 use Rattle.ak_base.specs.declared.code.Code.{Code}
 use Rattle.ak_base.specs.Code.{may_be_quoted, may_all_be_quoted}
 use Rattle.ak_base.specs.Option.{where_true, ◌>>=◌}
-use Rattle.ak_message.specs.Payload.{hex_value, raw_from}
-use Rattle.ak_message.specs.Reading.{code_from}
-use Rattle.ak_message.proofs.Surface.{code_again, code_takes, mapped_some}
+use Rattle.ak_input.specs.Payload.{hex_value, raw_from}
+use Rattle.ak_input.specs.Reading.{code_from}
+use Rattle.ak_input.proofs.Surface.{code_again, code_takes, mapped_some}
 use Rattle.ak_base.proofs.Surface.{bind_some, cond_some}
-use Rattle.ak_message.specs.Written.{coded, code_of}
+use Rattle.ak_input.specs.Written.{coded, code_of}
 use Rattle.ak_describe.specs.Grammar.{WritesCode}
 
 -- ---- a code is written in bytes

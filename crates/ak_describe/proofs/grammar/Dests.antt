@@ -16,8 +16,8 @@ use Rattle.ak_action.specs.declared.action.Dest.TheVariants as dest
 use Rattle.ak_describe.specs.Actions.{to_app, dest_at}
 use Rattle.ak_describe.specs.Grammar.{IsTeamText, SaysAppWord, SaysDest}
 use Rattle.ak_base.specs.AppName.{begins_with, is_signature}
-use Rattle.ak_message.specs.Written.{WritesNumber, is_app_name, number_within, named_app, team_or_name, app_word_of}
-use Rattle.ak_message.proofs.Surface.{number_takes, number_again}
+use Rattle.ak_input.specs.Written.{WritesNumber, is_app_name, number_within, named_app, team_or_name, app_word_of}
+use Rattle.ak_input.proofs.Surface.{number_takes, number_again}
 use Rattle.ak_describe.specs.Words.{name_of, name_at}
 use Rattle.ak_describe.proofs.grammar.Numbers.{number_none, no_number}
 use Rattle.ak_describe.proofs.grammar.Parts.{read_as, read_is, word_at, name_at-takes, name_at-again}

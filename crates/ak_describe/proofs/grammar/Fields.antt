@@ -11,8 +11,8 @@ use Rattle.ak_base.specs.Word.{is_word}
 use Rattle.ak_base.specs.Option.{◌>>=◌}
 use Rattle.ak_base.specs.declared.limited.Limited.{Limited}
 use Rattle.ak_base.specs.declared.limited.Limited.TheVariants.{Within, Over}
-use Rattle.ak_message.specs.Reading.{field_split}
-use Rattle.ak_message.proofs.Surface.{split_again, split_takes}
+use Rattle.ak_input.specs.Reading.{field_split}
+use Rattle.ak_input.proofs.Surface.{split_again, split_takes}
 use Rattle.ak_base.proofs.Surface.{bind_some, cond_some}
 use Rattle.ak_action.specs.declared.template.Given.{Given}
 use Rattle.ak_action.specs.declared.template.Given.TheVariants as gets

@@ -15,8 +15,8 @@ use Rattle.ak_describe.specs.declared.form.heads.LooperForm.{LooperForm}
 use Rattle.ak_describe.specs.Forms.{app_form, capacity_at, capacity_behind, capacity_from, looper_form}
 use Rattle.ak_describe.specs.Grammar.{mode_word, SaysApp, IsCapacity, SaysLooper, SaysName, SaysCode}
 use Rattle.ak_base.specs.AppName.{is_path, is_signature}
-use Rattle.ak_message.specs.Written.{WritesNumber, code_of}
-use Rattle.ak_message.proofs.Surface.{number_takes, number_again}
+use Rattle.ak_input.specs.Written.{WritesNumber, code_of}
+use Rattle.ak_input.proofs.Surface.{number_takes, number_again}
 use Rattle.ak_describe.specs.Words.{mode_of, name_of, behind, name_at, code_at, only_name, only_code}
 use Rattle.ak_describe.proofs.grammar.Choices.{chosen}
 use Rattle.ak_describe.proofs.grammar.Codes.{code_again_is, code_takes_is}

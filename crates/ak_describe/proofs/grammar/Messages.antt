@@ -3,11 +3,11 @@ use Rattle.std.proofs.Common.{◌≡◌, ◌↔◌, ℕ, List, [], ◌∷◌, �
 use Rattle.std.specs.List.{AllZip}
 use Rattle.std.proofs.lemmas.Option.{same_Some}
 use Rattle.ak_base.specs.declared.code.Code.{Code}
-use Rattle.ak_message.specs.Reading.{field_split}
+use Rattle.ak_input.specs.Reading.{field_split}
 use Rattle.ak_base.specs.Option.{◌>>=◌}
 use Rattle.ak_base.specs.declared.limited.Limited.{Limited}
 use Rattle.ak_base.proofs.Surface.{bind_some}
-use Rattle.ak_message.specs.Written.{code_of}
+use Rattle.ak_input.specs.Written.{code_of}
 use Rattle.ak_action.specs.declared.template.Template.{Template}
 use Rattle.ak_describe.specs.declared.parts.PropertyParts.{PropertyParts}
 use Rattle.ak_describe.specs.Actions.{Built, nothing_built, field_behind, fields_behind, short_template, template_form}

@@ -4,8 +4,8 @@ use Rattle.std.specs.Fmt.{decimal}
 use Rattle.std.specs.Str.Parse.{AllDigits}
 use Rattle.std.proofs.lemmas.Str.Parse.{digit_from_value}
 use Rattle.ak_base.proofs.Surface.{IsForm-decimal, short_from_below}
-use Rattle.ak_message.specs.Written.{WritesNumber, number_within}
-use Rattle.ak_message.proofs.Surface.{number_takes}
+use Rattle.ak_input.specs.Written.{WritesNumber, number_within}
+use Rattle.ak_input.proofs.Surface.{number_takes}
 
 pub number_none : (least most : ℕ) (word : List ℕ) → most < 10 ^ 20 → ((n : ℕ) → WritesNumber least most word n → ⊥) → number_within word least most ≡ None
 number_none least most word small none = by_read (number_within word least most) refl where

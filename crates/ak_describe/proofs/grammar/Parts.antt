@@ -12,8 +12,8 @@ use Rattle.ak_base.specs.Word.{is_word}
 use Rattle.ak_base.specs.declared.code.Code.{Code}
 use Rattle.ak_base.specs.Option.{where_true, ◌>>=◌}
 use Rattle.ak_base.proofs.Surface.{bind_some, cond_some, done, some_is}
-use Rattle.ak_message.specs.Written.{WritesNumber, quoted_text, code_of}
-use Rattle.ak_message.proofs.Surface.{number_takes, number_again}
+use Rattle.ak_input.specs.Written.{WritesNumber, quoted_text, code_of}
+use Rattle.ak_input.proofs.Surface.{number_takes, number_again}
 use Rattle.ak_describe.specs.Forms.{code_found, code_behind, name_found, name_behind, form_of, text_found, text_behind}
 use Rattle.ak_describe.specs.Grammar.{IsName, IsPart, AreParts, IsTextPart, WritesCode, WritesText}
 use Rattle.ak_describe.specs.Words.{first_of, behind, ends, code_at, name_at, name_of, many_from, many, filled, some_behind}

@@ -14,9 +14,9 @@ use Rattle.ak_message.specs.Message.{ValueData}
 use Rattle.ak_base.specs.Option.{where_true, ◌>>=◌}
 use Rattle.ak_base.specs.declared.limited.Limited.{Limited}
 use Rattle.ak_base.specs.declared.limited.Limited.TheVariants.{Within, Over}
-use Rattle.ak_message.specs.Reading.{Got, code_from, read_value}
+use Rattle.ak_input.specs.Reading.{Got, code_from, read_value}
 use Rattle.ak_base.proofs.Surface.{bind_some, cond_some}
-use Rattle.ak_message.specs.Written.{WritesNumber, code_of}
+use Rattle.ak_input.specs.Written.{WritesNumber, code_of}
 use Rattle.ak_describe.specs.declared.form.property.PropertyForm.{PropertyForm}
 use Rattle.ak_describe.specs.Forms.{kind_at, form_of, commands_at, forms_at, text_behind, property_form, both, element_form}
 use Rattle.ak_describe.specs.Grammar.{WritesCode, AreParts, IsTextPart, SaysProperty, IsElement, SaysElement}

@@ -15,10 +15,10 @@ use Rattle.ak_message.specs.Fields.{add_fault}
 use Rattle.ak_message.specs.Kind.{is_same_kind, code_of_kind, same_kind-is}
 use Rattle.ak_message.specs.Message.{ValueData, bool_value, int8_value, int16_value, int32_value, int64_value, uint8_value, uint16_value, uint32_value, uint64_value, text_value, message_value, messenger_value, raw_value, MessageData, kind_of, depth_of_value, depth_of_nested_fields, nested_fields}
 use Rattle.ak_base.specs.Option.{where_true, ◌>>=◌}
-use Rattle.ak_message.specs.Payload.{kind_before, bool_from, int_within, uint_within, address_from, raw_from, unquoted}
-use Rattle.ak_message.specs.Pieces.{braced}
-use Rattle.ak_message.specs.Reading as reading
-use Rattle.ak_message.specs.Reading.{Got, GotValues, got, over, text_kept, raw_within, text_of, text_from, raw_value_from, small_from, number_or, short_from, payload_from, value_with, joined, first_values, more_values, values_behind, field_split, field_begun, add_or_not, values_added, field_behind, fields_behind, code_from, message_of, got_message, words_of, message_from, read_value, read_values}
+use Rattle.ak_input.specs.Payload.{kind_before, bool_from, int_within, uint_within, address_from, raw_from, unquoted}
+use Rattle.ak_input.specs.Pieces.{braced}
+use Rattle.ak_input.specs.Reading as reading
+use Rattle.ak_input.specs.Reading.{Got, GotValues, got, over, text_kept, raw_within, text_of, text_from, raw_value_from, small_from, number_or, short_from, payload_from, value_with, joined, first_values, more_values, values_behind, field_split, field_begun, add_or_not, values_added, field_behind, fields_behind, code_from, message_of, got_message, words_of, message_from, read_value, read_values}
 use Rattle.ak_message.proofs.Surface.{depth-added}
 use Rattle.ak_base.proofs.Surface.{bind_some, cond_some}
 use Rattle.ak_action.specs.declared.number.Number.{Number}

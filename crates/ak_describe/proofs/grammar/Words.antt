@@ -11,9 +11,9 @@ use Rattle.ak_message.specs.Message.{text_value}
 use Rattle.ak_base.specs.Option.{where_true, ◌>>=◌}
 use Rattle.ak_base.specs.declared.limited.Limited.{Limited}
 use Rattle.ak_base.specs.declared.limited.Limited.TheVariants.{Within, Over}
-use Rattle.ak_message.specs.Payload.{unquoted}
-use Rattle.ak_message.specs.Reading.{Got, got, over, text_from, text_of}
-use Rattle.ak_message.specs.Written.{quoted_text, text_in}
+use Rattle.ak_input.specs.Payload.{unquoted}
+use Rattle.ak_input.specs.Reading.{Got, got, over, text_from, text_of}
+use Rattle.ak_input.specs.Written.{quoted_text, text_in}
 use Rattle.ak_describe.specs.Grammar.{IsName, WritesText}
 use Rattle.ak_describe.specs.Words.{name_of}
 

@@ -18,8 +18,8 @@ use Rattle.ak_action.specs.declared.action.Action.TheVariants as action
 use Rattle.ak_action.specs.declared.action.Reaction.{Reaction}
 use Rattle.ak_value.specs.declared.fault.ElementFault.TheVariants as fault
 use Rattle.ak_value.specs.Elements.{has_room, with_last}
-use Rattle.ak_message.specs.Reading.{Got}
-use Rattle.ak_message.specs.Written.{coded}
+use Rattle.ak_input.specs.Reading.{Got}
+use Rattle.ak_input.specs.Written.{coded}
 use Rattle.ak_describe.specs.declared.form.heads.AppForm.{AppForm}
 use Rattle.ak_describe.specs.declared.form.heads.LooperForm.{LooperForm}
 use Rattle.ak_describe.specs.declared.form.property.PropertyForm.{PropertyForm}

@@ -1,7 +1,7 @@
 -- The first pass over all lines: exactly where they lead, or the first fault among them.
 use Rattle.std.proofs.Common.{◌≡◌, ℕ, List, [], ◌∷◌, ◌++◌, Result, Ok, Err, refl, sym, ap, subst, ◌∙◌}
 use Rattle.ak_base.specs.declared.ending.RefusalKind.{RefusalKind}
-use Rattle.ak_message.specs.declared.line.Line.{Line}
+use Rattle.ak_input.specs.declared.line.Line.{Line}
 use Rattle.ak_describe.specs.Describes.{Adds, IsLineFault, Follow, IsFirstPassFault}
 use Rattle.ak_describe.specs.Pass.{State, Refusal, nothing_read, then_read, at_line, read_line, after_lines}
 use Rattle.ak_describe.proofs.lines.Reading.{Outcome, is_faulty, is_added, outcome, line_adds, line_faults, adds_fits}

@@ -4,7 +4,7 @@ use Rattle.std.proofs.lemmas.Bool.{cond-true}
 use Rattle.std.proofs.lemmas.Slice.Eq.{bytes_eq-Decides}
 use Rattle.ak_base.specs.declared.ending.RefusalKind.{RefusalKind}
 use Rattle.ak_base.specs.declared.ending.RefusalKind.TheVariants as refusal
-use Rattle.ak_message.specs.declared.line.Line.{Line}
+use Rattle.ak_input.specs.declared.line.Line.{Line}
 use Rattle.ak_describe.specs.declared.keyword.Keyword.{Keyword}
 use Rattle.ak_describe.specs.declared.keyword.Keyword.TheVariants as key
 use Rattle.ak_describe.specs.Describes.{Opens, Adds, SaysNothing, IsLineFault}

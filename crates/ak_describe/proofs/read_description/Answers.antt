@@ -2,7 +2,7 @@
 use Rattle.std.proofs.Common.{List, Vec, IfErr, IfOk, subst}
 use Rattle.std.proofs.lemmas.Result.{err_from_is_err_and}
 use Rattle.std.specs.declared.alloc.Global.{Global}
-use Rattle.ak_message.specs.declared.line.Line.{Line}
+use Rattle.ak_input.specs.declared.line.Line.{Line}
 use Rattle.ak_describe.specs.declared.described.AppText.{AppText}
 use Rattle.ak_describe.specs.Answers.{Answers}
 use Rattle.ak_describe.specs.Describes.{Describes}

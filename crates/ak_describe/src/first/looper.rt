@@ -14,7 +14,7 @@ use crate::named::{Need, need_of_filter};
 use crate::parts::{LooperParts, RowParts};
 use crate::words::only_name;
 use ak_handler::HANDLER_LIMIT;
-use ak_message::Word;
+use ak_input::Word;
 use std::alloc::Global;
 
 impl LooperParts {

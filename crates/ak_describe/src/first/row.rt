@@ -16,7 +16,7 @@ use crate::parts::{PropertyParts, RowParts, property_named};
 use crate::words::{ends, only_code, only_name};
 use ak_action::{Action, ActionList, REACTION_LIMIT, Reaction, SUITE_LIMIT};
 use ak_base::Limited;
-use ak_message::Word;
+use ak_input::Word;
 use ak_property::{PropertyRow, ROW_LIMIT};
 use ak_value::Elements;
 use std::alloc::Global;

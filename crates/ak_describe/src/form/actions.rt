@@ -14,7 +14,7 @@ use crate::parts::{PropertyParts, property_named};
 use crate::words::{ends, first_of, last_of, name_of};
 use ak_action::{Action, Dest, Given, Template};
 use ak_base::{Limited, Text};
-use ak_message::Word;
+use ak_input::Word;
 use std::alloc::Global;
 
 /// `MESSAGE`

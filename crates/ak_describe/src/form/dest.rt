@@ -10,7 +10,7 @@ use crate::fault::FormFault;
 use crate::words::{app_word_of, first_of, name_at};
 use ak_action::Dest;
 use ak_base::AppWord;
-use ak_message::Word;
+use ak_input::Word;
 use std::alloc::Global;
 
 /// `self`, `looper NAME`, `handler NAME` or `app APP`

@@ -10,7 +10,7 @@ use crate::fault::FormFault;
 use crate::words::{behind, code_at, ends, first_of, name_at};
 use ak_base::{Code, Text};
 use ak_filter::{DeliveryIs, Filter, SourceIs};
-use ak_message::Word;
+use ak_input::Word;
 use std::alloc::Global;
 
 #[tactic(auto, unfolding(crate::specs::Forms::filter_form))]

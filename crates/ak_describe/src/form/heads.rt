@@ -9,7 +9,7 @@ use crate::fault::FormFault;
 use crate::words::{behind, ends, first_of, mode_of, name_at};
 use ak_action::CAPACITY_LIMIT;
 use ak_base::{Text, is_path, is_signature};
-use ak_message::{Word, read_number};
+use ak_input::{Word, read_number};
 use ak_roster::Mode;
 use std::alloc::Global;
 

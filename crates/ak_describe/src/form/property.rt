@@ -3,7 +3,7 @@
 ghost use Rattle.std.specs.Prelude.{◌≡◌, Some};
 ghost use Rattle.ak_base.specs.Limited.{limited_map};
 ghost use Rattle.ak_message.specs.Seen.{value_of};
-ghost use Rattle.ak_message.specs.Written.{code_of};
+ghost use Rattle.ak_input.specs.Written.{code_of};
 ghost use Rattle.ak_describe.specs.Answers.{Gives};
 ghost use Rattle.ak_describe.specs.Forms as reads;
 ghost use Rattle.ak_describe.specs.Seen.{read_and_rest, items_and_rest, element_pair};
@@ -13,7 +13,8 @@ use crate::fault::FormFault;
 use crate::form::values::{quoted_from, value_of_kind};
 use crate::words::{behind, ends, first_of, kind_of, name_at};
 use ak_base::{Code, Items, Limited, Text};
-use ak_message::{Kind, Value, Word, read_code, read_number};
+use ak_input::{Word, read_code, read_number};
+use ak_message::{Kind, Value};
 use std::alloc::Global;
 
 // The last of the forms of specifiers.

@@ -16,7 +16,8 @@ use ak_action::{
 };
 use ak_base::{Code, Limited, NoMemory, Text};
 use ak_flatten::{FLAT_LIMIT, flat_len};
-use ak_message::{Message, Word, split_field};
+use ak_input::{Word, split_field};
+use ak_message::Message;
 use indexmap::IndexSet;
 use std::alloc::Global;
 

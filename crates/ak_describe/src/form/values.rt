@@ -3,10 +3,10 @@
 ghost use Rattle.std.specs.Prelude.{◌≡◌, None, Some, option_map};
 ghost use Rattle.ak_base.specs.declared.limited.Limited.TheVariants.{Within};
 ghost use Rattle.ak_base.specs.Limited.{limited_map};
-ghost use Rattle.ak_message.specs.ReadSeen.{got_of};
-ghost use Rattle.ak_message.specs.Reading.{read_value};
+ghost use Rattle.ak_input.specs.ReadSeen.{got_of};
+ghost use Rattle.ak_input.specs.Reading.{read_value};
 ghost use Rattle.ak_message.specs.Seen.{value_of};
-ghost use Rattle.ak_message.specs.Written as written;
+ghost use Rattle.ak_input.specs.Written as written;
 ghost use Rattle.ak_describe.specs.Answers.{Gives};
 ghost use Rattle.ak_describe.specs.Faults as faults;
 ghost use Rattle.ak_describe.specs.Made as reads;
@@ -16,7 +16,8 @@ use crate::fault::FormFault;
 use ak_action::{Number, Values, ValuesFault};
 use ak_base::{Limited, Text};
 use ak_flatten::{FLAT_LIMIT, flat_len};
-use ak_message::{Kind, ParseFault, ReadValue, Value, read_quoted, read_values, read_with_kind};
+use ak_input::{ParseFault, ReadValue, read_quoted, read_values, read_with_kind};
+use ak_message::{Kind, Value};
 use std::alloc::Global;
 
 /// What was read, where it passes no limit.

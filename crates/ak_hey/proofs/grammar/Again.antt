@@ -9,14 +9,14 @@ use Rattle.ak_base.specs.declared.limited.Limited.TheVariants.{Within}
 use Rattle.ak_message.specs.declared.specifier.At.{At}
 use Rattle.ak_message.specs.declared.specifier.At.TheVariants as at
 use Rattle.ak_message.specs.Message.{MessageData}
-use Rattle.ak_message.specs.Reading.{Got, read_value, field_split}
+use Rattle.ak_input.specs.Reading.{Got, read_value, field_split}
 use Rattle.ak_hey.specs.declared.reading.Place.{Place}
 use Rattle.ak_hey.specs.declared.reading.Place.TheVariants as place
 use Rattle.ak_hey.specs.Draft.{DraftData, new_draft, with_specifier, with_got, short_message}
 use Rattle.ak_hey.specs.Grammar.{SpecText, IsSpec, AreFurther, AreSpecs, IsData, FieldText, IsField, AreFields, with_fields, with_data_field, made_of, IsHey}
 use Rattle.ak_hey.specs.Hey.{start, at_app, body, key_of, property, elements, with_data, with_field, step, ended}
 use Rattle.ak_hey.specs.Words.{is_property}
-use Rattle.ak_message.proofs.Surface.{split_again}
+use Rattle.ak_input.proofs.Surface.{split_again}
 use Rattle.ak_hey.proofs.grammar.Keys.{IsKey, of_key, to_key, with_key, key_is, property_no_key, elements_no_key}
 use Rattle.ak_hey.proofs.grammar.Walks.{Said, said, placed, goes_with}
 

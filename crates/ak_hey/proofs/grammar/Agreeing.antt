@@ -10,7 +10,7 @@ use Rattle.ak_base.proofs.Surface.{bind_some, cond_some}
 use Rattle.ak_message.specs.declared.kind.Kind.{Kind}
 use Rattle.ak_message.specs.declared.kind.Kind.TheVariants as k
 use Rattle.ak_message.specs.Kind.{code_of_kind, is_same_kind, same_kind-is}
-use Rattle.ak_message.specs.Reading.{Got, fits, with_value}
+use Rattle.ak_input.specs.Reading.{Got, fits, with_value}
 use Rattle.ak_hey.specs.Draft.{DraftData, new_draft, kind_named, with_kind, noted, with_specifier, with_got}
 use Rattle.ak_hey.specs.Grammar.{SpecText, FieldText, with_specs, with_fields, with_data_field}
 use Rattle.ak_hey.specs.Kindred.{spec_kinds, data_kinds, field_kinds, all_kinds, AgreesWith, Agree, OneKindEach}

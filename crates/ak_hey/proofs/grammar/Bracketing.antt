@@ -11,8 +11,8 @@ use Rattle.ak_message.specs.declared.specifier.At.{At}
 use Rattle.ak_message.specs.declared.specifier.At.TheVariants as at
 use Rattle.ak_hey.specs.Bracketed.{FirstPart, AreParts, Mean, IsBracket, BracketsAreRead}
 use Rattle.ak_hey.specs.Brackets.{most, bracketed, part_at, number_from, behind_sign, index_or_id, reverse_or, one_at, count_between, range, reverse_range, range_behind, range_at, last_of, behind_to, one_or_range, bracket_at}
-use Rattle.ak_message.specs.Written.{number_within}
-use Rattle.ak_message.proofs.Surface.{mapped_some, number_again, number_takes}
+use Rattle.ak_input.specs.Written.{number_within}
+use Rattle.ak_input.proofs.Surface.{mapped_some, number_again, number_takes}
 use Rattle.ak_hey.proofs.grammar.Keys.{eq_of}
 use Rattle.ak_hey.proofs.grammar.Numerals.{no_sign}
 use Rattle.ak_hey.proofs.grammar.Splitting.{part_takes, part_again, none_takes, none_again}

@@ -6,7 +6,7 @@ use Rattle.ak_base.specs.Option.{◌>>=◌}
 use Rattle.ak_base.specs.declared.app_word.AppWord.{AppWord}
 use Rattle.ak_base.specs.declared.limited.Limited.{Limited}
 use Rattle.ak_base.specs.declared.limited.Limited.TheVariants.{Within, Over}
-use Rattle.ak_message.specs.declared.line.Word.{Word}
+use Rattle.ak_input.specs.declared.line.Word.{Word}
 use Rattle.ak_message.specs.Message.{MessageData}
 use Rattle.ak_hey.specs.declared.HeyLine.{HeyLine}
 use Rattle.ak_hey.specs.declared.fault.HeyFault.{HeyFault}

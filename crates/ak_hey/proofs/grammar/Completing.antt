@@ -12,11 +12,11 @@ use Rattle.ak_message.specs.declared.kind.Kind.{Kind}
 use Rattle.ak_message.specs.declared.kind.Kind.TheVariants as k
 use Rattle.ak_message.specs.declared.specifier.At.TheVariants as at
 use Rattle.ak_message.specs.Message.{ValueData, bool_value, int8_value, int16_value, int32_value, int64_value, uint8_value, uint16_value, uint32_value, uint64_value, text_value, messenger_value, raw_value, value_of_message}
-use Rattle.ak_message.specs.Payload.{int_within, address_from, raw_from, quoted_from}
-use Rattle.ak_message.specs.Pieces.{pieces_from}
-use Rattle.ak_message.specs.Reading.{Got, got, fits, text_from, raw_value_from, small_from, short_from, code_from, with_value, words_of, fields_behind, message_of, message_from, read_value}
-use Rattle.ak_message.specs.Written.{app_word_of}
-use Rattle.ak_message.proofs.Surface.{split_again}
+use Rattle.ak_input.specs.Payload.{int_within, address_from, raw_from, quoted_from}
+use Rattle.ak_input.specs.Pieces.{pieces_from}
+use Rattle.ak_input.specs.Reading.{Got, got, fits, text_from, raw_value_from, small_from, short_from, code_from, with_value, words_of, fields_behind, message_of, message_from, read_value}
+use Rattle.ak_input.specs.Written.{app_word_of}
+use Rattle.ak_input.proofs.Surface.{split_again}
 use Rattle.ak_hey.specs.declared.reading.Place.{Place}
 use Rattle.ak_hey.specs.declared.reading.Place.TheVariants as place
 use Rattle.ak_hey.specs.Draft.{DraftData, kind_named, with_kind, with_specifier, with_got, short_message}

@@ -14,7 +14,7 @@ use Rattle.ak_message.specs.declared.specifier.At.{At}
 use Rattle.ak_message.specs.declared.specifier.Specifier.{Specifier}
 use Rattle.ak_message.specs.Fields.{add_fault}
 use Rattle.ak_message.specs.Message.{ValueData, MessageData}
-use Rattle.ak_message.specs.Reading.{Got, add_or_not, with_value}
+use Rattle.ak_input.specs.Reading.{Got, add_or_not, with_value}
 use Rattle.ak_specifier.specs.Current as specifier
 use Rattle.ak_hey.specs.Draft.{DraftData, new_draft, noted, specifier_or_not, specified, with_specifier, with_got, short_message}
 use Rattle.ak_hey.specs.Grammar.{SpecText, FieldText, with_specs, with_fields, with_data_field, IsHey}

@@ -6,7 +6,7 @@ use Rattle.std.proofs.lemmas.Slice.Eq.{bytes_eq-Decides}
 use Rattle.ak_base.specs.declared.limited.Limited.{Limited}
 use Rattle.ak_message.specs.declared.specifier.At.{At}
 use Rattle.ak_base.proofs.Surface.{some_is}
-use Rattle.ak_message.specs.Reading.{text_from}
+use Rattle.ak_input.specs.Reading.{text_from}
 use Rattle.ak_hey.specs.declared.reading.Place.{Place}
 use Rattle.ak_hey.specs.declared.reading.Place.TheVariants as place
 use Rattle.ak_hey.specs.Hey.{key_of, elements}

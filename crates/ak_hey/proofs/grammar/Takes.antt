@@ -10,15 +10,15 @@ use Rattle.ak_base.specs.declared.limited.Limited.{Limited}
 use Rattle.ak_base.specs.declared.limited.Limited.TheVariants.{Within}
 use Rattle.ak_message.specs.declared.specifier.At.{At}
 use Rattle.ak_message.specs.declared.specifier.At.TheVariants as at
-use Rattle.ak_message.specs.Reading.{Got, read_value, field_split}
-use Rattle.ak_message.specs.Written.{app_word_of}
+use Rattle.ak_input.specs.Reading.{Got, read_value, field_split}
+use Rattle.ak_input.specs.Written.{app_word_of}
 use Rattle.ak_hey.specs.declared.reading.Place.{Place}
 use Rattle.ak_hey.specs.declared.reading.Place.TheVariants as place
 use Rattle.ak_hey.specs.Draft.{DraftData, new_draft, with_specifier, with_got, short_message}
 use Rattle.ak_hey.specs.Grammar.{SpecText, AreFurther, AreSpecs, IsData, FieldText, IsField, AreFields, with_fields, made_of, IsHey}
 use Rattle.ak_hey.specs.Hey.{State, start, hey, at_app, body, key_of, property, place_or, behind_verb, leading, elements, key_or, elements_or_key, with_data, with_field, step, ended}
 use Rattle.ak_hey.specs.Words.{verb_of, is_property}
-use Rattle.ak_message.proofs.Surface.{split_takes}
+use Rattle.ak_input.proofs.Surface.{split_takes}
 use Rattle.ak_hey.proofs.grammar.Keys.{IsKey, of_key, to_key, with_key, key_is, eq_of}
 use Rattle.ak_hey.proofs.grammar.Walks.{Said, said}
 

@@ -1,7 +1,7 @@
 -- What is read is what the line says, and what is told is why it says nothing.
 use Rattle.std.proofs.Common.{ℕ, List, Result, Ok, Err}
 use Rattle.std.specs.Prelude.{IfOk, IfErr}
-use Rattle.ak_message.specs.declared.line.Word.{Word}
+use Rattle.ak_input.specs.declared.line.Word.{Word}
 use Rattle.ak_hey.specs.declared.HeyLine.{HeyLine}
 use Rattle.ak_hey.specs.declared.fault.HeyFault.{HeyFault}
 use Rattle.ak_hey.specs.Answers.{Answers}

@@ -2,7 +2,7 @@
 
 ghost use Rattle.std.specs.Prelude.{◌≡◌, [], ◌∷◌, ◌++◌, codes, OnOk};
 ghost use Rattle.std.specs.Fmt.{decimal};
-ghost use Rattle.ak_message.specs.MessageText.{address_text, target_text};
+ghost use Rattle.ak_input.specs.MessageText.{address_text, target_text};
 ghost use Rattle.ak_journal.specs.Parts.{behind_blanks, duty_text, mark_text};
 ghost use Rattle.ak_journal.specs.PortLine.{item_words, port_words};
 

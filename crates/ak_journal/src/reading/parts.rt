@@ -13,7 +13,7 @@ use super::fault::Unread;
 use super::words::{first_of, u32_of};
 use ak_base::{AppWord, Bytes, NoMemory, Text, ThreadId, is_path};
 use ak_flatten::{UnflattenFault, unflatten};
-use ak_message::{read_app_word, read_number};
+use ak_input::{read_app_word, read_number};
 use hex::FromHexError;
 use std::alloc::Global;
 

@@ -8,7 +8,7 @@ ghost use Rattle.ak_journal.specs.ReadParts as reads;
 ghost use Rattle.ak_journal.specs.ReadParts.{read_and_rest, word_and_rest};
 
 use ak_base::NoMemory;
-use ak_message::{read_number, read_uint};
+use ak_input::{read_number, read_uint};
 use std::alloc::Global;
 
 /// What stands before the first mark, and behind it where there is one.

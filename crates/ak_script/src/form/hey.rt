@@ -7,7 +7,7 @@ ghost use Rattle.ak_script.specs.StatementSeen.{hey_seen};
 use crate::fault::StatementFault;
 use crate::statement::Hey;
 use ak_hey::{HeyLine, end_of, read_hey};
-use ak_message::Word;
+use ak_input::Word;
 use std::alloc::Global;
 
 /// A hey line, with its first word.

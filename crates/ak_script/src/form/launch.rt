@@ -4,7 +4,7 @@ ghost use Rattle.std.specs.Prelude.{◌≡◌, ◌≤◌, [], length, IfOk, IfSo
 ghost use Rattle.ak_base.specs.Limited.{limited_map};
 ghost use Rattle.ak_base.specs.declared.limited.Limited.TheVariants.{Within};
 ghost use Rattle.ak_message.specs.Limits.{value_limit};
-ghost use Rattle.ak_message.specs.Written.{quoted_text};
+ghost use Rattle.ak_input.specs.Written.{quoted_text};
 ghost use Rattle.ak_roster.specs.Answers.{IsWord};
 ghost use Rattle.ak_describe.specs.Words.{texts};
 ghost use Rattle.ak_script.specs.Answers.{Gives, Tells};
@@ -19,7 +19,8 @@ use crate::statement::Launch;
 use crate::words::first_of;
 use ak_base::{AppWord, Limited, NoMemory, Text, is_path, is_signature};
 use ak_describe::{behind, ends};
-use ak_message::{ParseFault, VALUE_LIMIT, Word, read_quoted};
+use ak_input::{ParseFault, Word, read_quoted};
+use ak_message::VALUE_LIMIT;
 use std::alloc::Global;
 
 /// `WORD`, or `WORD args TEXT ..`

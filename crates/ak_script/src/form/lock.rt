@@ -11,7 +11,7 @@ use crate::statement::Lock;
 use crate::words::{first_of, looper_at, only, token_of};
 use ak_base::{Text, is_word};
 use ak_desk::Edit;
-use ak_message::{Word, read_app_word};
+use ak_input::{Word, read_app_word};
 use std::alloc::Global;
 
 /// `APP [looper N] EDIT`

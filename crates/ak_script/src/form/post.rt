@@ -13,7 +13,8 @@ use crate::messages::is_short;
 use crate::statement::Post;
 use crate::words::{first_of, flag_behind, looper_at, token_behind};
 use ak_base::AppWord;
-use ak_message::{Message, ParseFault, Target, Word, read_app_word, read_message};
+use ak_input::{ParseFault, Word, read_app_word, read_message};
+use ak_message::{Message, Target};
 use std::alloc::Global;
 
 // To which looper a message is posted, for whom, and how.

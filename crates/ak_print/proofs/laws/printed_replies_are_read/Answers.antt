@@ -1,6 +1,6 @@
 use Rattle.std.proofs.Common.{◌∙◌, ap, List, ℕ, ◌∷◌}
 use Rattle.std.specs.Prelude.{codes}
-use Rattle.ak_message.specs.MessageText.{message_text}
+use Rattle.ak_input.specs.MessageText.{message_text}
 use Rattle.ak_print.proofs.Words.{behind_reply}
 use Rattle.ak_print.proofs.laws.printed_replies_are_read.Goals as goal
 

@@ -1,7 +1,7 @@
 use Rattle.std.proofs.Common.{◌+◌, ◌++◌, List, ap, arith, drop, map}
 use Rattle.ak_message.specs.declared.message.Value.{Value}
 use Rattle.ak_message.specs.Message.{depth_of_nested_values, nested_values, nested_fields}
-use Rattle.ak_message.specs.MessageText.{message_text, nested_fields_text}
+use Rattle.ak_input.specs.MessageText.{message_text, nested_fields_text}
 use Rattle.ak_message.specs.Seen.{value_of, field_ref_of}
 use Rattle.ak_print.specs.Fields.{field_text}
 use Rattle.ak_message.proofs.Surface.{depth_in_values, depth_in_fields, no_field}

@@ -2,7 +2,7 @@
 -- written, is the whole.
 use Rattle.std.proofs.Common.{◌≡◌, ◌+◌, ◌*◌, ◌++◌, map, drop}
 use Rattle.ak_message.specs.Message.{depth_of, depth_of_value, depth_of_nested_values, nested_values, nested_fields}
-use Rattle.ak_message.specs.MessageText.{message_text, more_values_text, nested_values_text, nested_fields_text}
+use Rattle.ak_input.specs.MessageText.{message_text, more_values_text, nested_values_text, nested_fields_text}
 use Rattle.ak_message.specs.Seen.{value_of}
 use Rattle.ak_print.proofs.message.+messages.Given as goal
 

@@ -1,6 +1,6 @@
 -- What is read so far, and what is read of the words that are left, makes up all of it.
 use Rattle.std.proofs.Common.{◌≡◌, ◌++◌, length}
-use Rattle.ak_message.specs.Written.{code_of}
+use Rattle.ak_input.specs.Written.{code_of}
 use Rattle.ak_describe.specs.Words.{texts, many}
 use Rattle.ak_describe.proofs.form.property.codes_at.Given as goal
 

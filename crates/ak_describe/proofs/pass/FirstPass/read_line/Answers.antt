@@ -1,6 +1,6 @@
 -- One line more is read, or it is refused and nothing changes.
 use Rattle.std.proofs.Common.{List, [], ◌∷◌, ◌++◌, Some, sym, ap, subst, ◌∙◌}
-use Rattle.ak_message.specs.declared.line.Line.{Line}
+use Rattle.ak_input.specs.declared.line.Line.{Line}
 use Rattle.ak_describe.specs.Seen.{state_of}
 use Rattle.ak_describe.proofs.answered.Prefixes.{LineTold, are_read_now, are_read_still, line_told, reads_so_far}
 use Rattle.ak_describe.proofs.pass.FirstPass.read_line.Goals as goal

@@ -1,0 +1,14 @@
+pub mod InputText
+pub mod Laws
+pub mod Limits
+pub mod LineFault
+pub mod LineSeen
+pub mod Lines
+pub mod Marks
+pub mod MessageText
+pub mod Payload
+pub mod Pieces
+pub mod ReadSeen
+pub mod Reading
+pub mod Words
+pub mod Written

@@ -1,5 +1,0 @@
-use Rattle.ak_message.proofs.HexLaws.{raws_read}
-use Rattle.ak_message.proofs.quoted.raws_are_read.Goals as goal
-
-pub returns : goal.returns
-returns c = raws_read

@@ -1,5 +1,0 @@
-use Rattle.ak_message.proofs.QuotedLaws.{texts_read}
-use Rattle.ak_message.proofs.quoted.texts_are_read.Goals as goal
-
-pub returns : goal.returns
-returns c = texts_read

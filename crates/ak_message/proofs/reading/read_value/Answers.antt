@@ -1,4 +1,0 @@
-use Rattle.ak_message.proofs.reading.read_value.Goals as goal
-
-pub returns : goal.returns
-returns c = rw c.in_ok-value.ensures c.kept.ensures
