@@ -3,7 +3,9 @@ ghost use Rattle.ak_specifier.specs.Specifier.{specifier_message};
 ghost use Rattle.ak_specifier.specs.Current.{current_of, specifier_fault, with_specifier};
 
 use ak_base::{Code, NoMemory};
-use ak_message::{AddFault, At, FIELD_LIMIT, FindFault, Kind, Message, Specifier, VALUE_LIMIT, Value};
+use ak_message::{
+    AddFault, At, FIELD_LIMIT, FindFault, Kind, Message, Specifier, VALUE_LIMIT, Value,
+};
 use std::alloc::Global;
 
 /// Adds a specifier, which becomes the current one: none is popped any more. `BadType` where the field
