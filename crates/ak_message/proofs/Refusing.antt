@@ -1,7 +1,7 @@
 -- Why a value is not added, found or replaced, by the field that the code has at hand.
 use Rattle.std.proofs.Common.{◌≡◌, ℕ, zero, suc, ◌<◌, ◌≤◌, Bool, true, false, not, ltb, length, Option, None, Some, Ok, Err, refl, ap, sym, ◌∙◌, subst, vec_len, List, [], ◌∷◌, map, get_or, arith}
 use Rattle.std.specs.List.{slice_get}
-use Rattle.std.specs.Prelude.{ok_or, is_some, option_map}
+use Rattle.std.specs.Prelude.{◌==◌, ok_or, is_some, option_map}
 use Rattle.std.specs.Result.{result_ok}
 use Rattle.std.proofs.lemmas.Bool.Decides.{nat_tests}
 use Rattle.std.proofs.lemmas.List.{length-map}
@@ -17,12 +17,28 @@ use Rattle.ak_message.specs.declared.fault.AddFault.TheVariants as add
 use Rattle.ak_message.specs.declared.fault.FindFault.TheVariants as missing
 use Rattle.ak_message.specs.declared.fault.RemoveFault.TheVariants as removal
 use Rattle.ak_message.specs.declared.fault.ReplaceFault.TheVariants as replace
-use Rattle.ak_message.specs.Kind.{is_same_kind, same_kind-is}
+use Rattle.ak_message.specs.Kind.{is_same_kind, same_kind-is, code_of_kind}
 use Rattle.ak_message.specs.Message.{ValueData, FieldData, MessageData, kind_of, depth_of_value}
 use Rattle.ak_message.specs.Fields.{field_named, place_fault, value_in, value_at, replace_fault_in, remove_fault_in}
 use Rattle.ak_message.specs.Inside.{message_in}
 use Rattle.ak_message.specs.Seen.{value_of, field_of, fields_of}
 use Rattle.ak_message.proofs.Changing.{no_value}
+
+-- ---- tests of numbers
+itself : (n : ℕ) → (n == n) ≡ true
+itself n = grind (arith, nat_tests)
+
+below : (i n : ℕ) → i < n → ltb i n ≡ true
+below i n h = grind (arith, nat_tests)
+
+past : (i n : ℕ) → n ≤ i → ltb i n ≡ false
+past i n h = grind (arith, nat_tests)
+
+is_below : (i n : ℕ) → true ≡ ltb i n → i < n
+is_below i n h = grind (arith, nat_tests)
+
+is_past : (i n : ℕ) → false ≡ ltb i n → n ≤ i
+is_past i n h = grind (arith, nat_tests)
 
 -- ---- kinds that the code has compared
 not_same : (a b : Kind) (s : Bool) → is_same_kind a b ≡ s → (a ≡ b → ⊥) → s ≡ false
@@ -32,7 +48,7 @@ not_same a b false e apart = refl
 flagged : (a b : Kind) (t : Bool) → sameb the_type a b ≡ t → is_same_kind a b ≡ t
 flagged a b true e =
     let same : a ≡ b = same_true the_type tt a b e in
-    subst (λ x. is_same_kind a x ≡ true) same (grind (arith, nat_tests))
+    subst (λ x. is_same_kind a x ≡ true) same (itself (code_of_kind a))
 flagged a b false e = not_same a b (is_same_kind a b) refl (same_false the_type a b e)
 
 not_flag : (t u : Bool) → u ≡ not t → t ≡ not u
@@ -49,12 +65,6 @@ kinds_equal a b u e = flagged a b u (sym e)
 -- ---- the field of a name, in the message
 pub named_in : (m : MessageData) (i : Inside) (fs : List Field) (name : List ℕ) (o : Option FieldData) → message_in i ≡ m → fs ≡ i.fields.items → o ≡ field_named (fields_of fs) name → o ≡ field_named m.fields name
 named_in m i fs name o e d h = h ∙ ap (λ x. field_named (fields_of x) name) d ∙ ap (λ (x : MessageData). field_named x.fields name) e
-
-below : (i n : ℕ) → i < n → ltb i n ≡ true
-below i n h = grind (arith, nat_tests)
-
-past : (i n : ℕ) → n ≤ i → ltb i n ≡ false
-past i n h = grind (arith, nat_tests)
 
 -- ---- adding
 pub place-bad_type : (n : ℕ) (o : Option FieldData) (f : FieldData) (kind : Kind) → Some f ≡ o → is_same_kind f.kind kind ≡ false → Some add.BadType ≡ place_fault n o kind
@@ -80,13 +90,13 @@ find-bad_type o f kind index e k = subst (λ x. value_in x kind index ≡ Err mi
 
 pub find-past : (o : Option FieldData) (f : Field) (xs : List Value) (kind : Kind) (index : ℕ) → Some (field_of f) ≡ o → is_same_kind f.kind kind ≡ true → xs ≡ f.values.items → false ≡ ltb index (length xs) → value_in o kind index ≡ Err missing.BadIndex
 find-past o f xs kind index e k same out =
-    let far : length xs ≤ index = grind (arith, nat_tests) in
+    let far : length xs ≤ index = is_past index (length xs) out in
     let at : slice_get (map value_of f.values.items) index ≡ None = subst (λ ys. slice_get (map value_of ys) index ≡ None) same (no_value xs index far) in
     subst (λ x. value_in x kind index ≡ Err missing.BadIndex) e (rw (k, at) refl)
 
 pub find-at : (o : Option FieldData) (f : Field) (xs : List Value) (kind : Kind) (index : ℕ) (x : Value) → Some (field_of f) ≡ o → is_same_kind f.kind kind ≡ true → xs ≡ f.values.items → true ≡ ltb index (length xs) → x ≡ get_or xs index x → value_in o kind index ≡ Ok (value_of x)
 find-at o f xs kind index x e k same within read =
-    let near : index < length xs = grind (arith, nat_tests) in
+    let near : index < length xs = is_below index (length xs) within in
     let seen = slice_get_read (map value_of xs) (length xs) index (value_of x) (sym (length-map xs value_of)) near (ap value_of read ∙ sym (get_or-map value_of xs index x)) in
     let at : slice_get (map value_of f.values.items) index ≡ Some (value_of x) = subst (λ ys. slice_get (map value_of ys) index ≡ Some (value_of x)) same seen in
     subst (λ y. value_in y kind index ≡ Ok (value_of x)) e (rw (k, at) refl)
