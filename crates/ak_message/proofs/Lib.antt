@@ -5,6 +5,7 @@ pub mod Finding
 pub mod Fitting
 pub mod Keeping
 pub mod KindLetters
+pub mod Refusing
 pub mod Remaining
 pub mod Specifiers
 pub mod Unpopping
