@@ -1,4 +1,5 @@
 pub mod Chained
+pub mod Copies
 pub mod Fields
 pub mod GoingOn
 pub mod Growing

@@ -164,20 +164,9 @@ impl Action {
             Action::Reply { message } => Ok(Action::Reply {
                 message: message.try_clone()?,
             }),
-            Action::Post { to, message, back } => Ok(Action::Post {
-                to: to.try_clone()?,
-                message: message.try_clone()?,
-                back: *back,
-            }),
-            Action::Ask { to, message, into } => Ok(Action::Ask {
-                to: to.try_clone()?,
-                message: message.try_clone()?,
-                into: copied_name(into)?,
-            }),
-            Action::Set { property, value } => Ok(Action::Set {
-                property: property.try_clone()?,
-                value: value.try_clone()?,
-            }),
+            Action::Post { to, message, back } => copied_post(to, message, *back),
+            Action::Ask { to, message, into } => copied_ask(to, message, into),
+            Action::Set { property, value } => copied_set(property, value),
             Action::Add { property, amount } => Ok(Action::Add {
                 property: property.try_clone()?,
                 amount: *amount,
@@ -356,6 +345,35 @@ fn copied_reactions(alloc: Global, reactions: &[Reaction]) -> Result<Vec<Reactio
         copies.push(reaction.try_clone()?)?;
     }
     Ok(copies)
+}
+
+fn copied_post(to: &Dest, message: &Template, back: bool) -> Result<Action, NoMemory>
+    ensures { IfOk result (λ a. a ≡ Action.Post to.now message.now back) }
+{
+    Ok(Action::Post {
+        to: to.try_clone()?,
+        message: message.try_clone()?,
+        back,
+    })
+}
+
+fn copied_ask(to: &Dest, message: &Template, into: &Option<Text>) -> Result<Action, NoMemory>
+    ensures { IfOk result (λ a. a ≡ Action.Ask to.now message.now into.now) }
+{
+    Ok(Action::Ask {
+        to: to.try_clone()?,
+        message: message.try_clone()?,
+        into: copied_name(into)?,
+    })
+}
+
+fn copied_set(property: &Text, value: &Given) -> Result<Action, NoMemory>
+    ensures { IfOk result (λ a. a ≡ Action.Set property.now value.now) }
+{
+    Ok(Action::Set {
+        property: property.try_clone()?,
+        value: value.try_clone()?,
+    })
 }
 
 /// An equal name, where there is one. `NoMemory` where memory ran out.
