@@ -2,6 +2,7 @@
 ghost use Rattle.std.specs.Prelude.{◌≡◌, false};
 ghost use Rattle.ak_port.specs.Reply.{IsFlatText};
 
+use crate::compare::same;
 use crate::reply_text::{none_text, reply_text};
 use ak_base::{Bytes, NoMemory, ThreadId};
 use ak_port::{ReplyBook, fill, fill_none, open_ask, wait_for};
@@ -166,15 +167,30 @@ fn is_its_own(replied: &Replied, text: &[u8], none: &[u8]) -> bool {
     reply.as_slice() == wanted
 }
 
+// How many of the three slots 0, 1 and 2 were opened and answered by their own replies.
+fn each_replied<R: Threads + Wait + Sync>(rt: &R, alloc: Global) -> Result<[u64; 3], NoMemory> {
+    let (a, b, c) = ask_three(rt, alloc, reply_text(alloc)?)?;
+    let text = reply_text(alloc)?;
+    let none = none_text(alloc)?;
+    let mut counts = [0; 3];
+    for replied in [&a, &b, &c] {
+        if is_its_own(replied, text.as_slice(), none.as_slice()) {
+            count(&mut counts, replied.0);
+        }
+    }
+    Ok(counts)
+}
+
+// One more for that slot, if it is one of the three.
+fn count(counts: &mut [u64; 3], slot: u64) {
+    if slot < 3 {
+        counts[slot as usize] = counts[slot as usize].saturating_add(1);
+    }
+}
+
 #[test]
 fn each_asker_is_woken_by_its_own_fill(rt: HostRuntime) -> Result<(), Fail> {
     let alloc = rt.alloc();
-    let (a, b, c) = ask_three(&rt, alloc, reply_text(alloc)?)?;
-    let slots = [a.0, b.0, c.0];
-    let text = reply_text(alloc)?;
-    let none = none_text(alloc)?;
-    let told = [&a, &b, &c].map(|it| is_its_own(it, text.as_slice(), none.as_slice()));
-    assert_eq!(rt; told, [true; 3]);
-    assert_eq!(rt; [0, 1, 2].map(|n| slots.contains(&n)), [true; 3]);
+    same(&rt, "its own replies", each_replied(&rt, alloc)?, [1, 1, 1]);
     Ok(())
 }

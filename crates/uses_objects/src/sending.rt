@@ -431,6 +431,6 @@ const REPLIED: Replied = (
 
 #[test]
 fn an_ask_gets_the_reply_of_another_thread(rt: HostRuntime) -> Result<(), Fail> {
-    assert_eq!(rt; reply_of_another(&rt, rt.alloc())?, REPLIED);
+    same(&rt, "a reply", reply_of_another(&rt, rt.alloc())?, REPLIED);
     Ok(())
 }

@@ -5,6 +5,7 @@ ghost use Rattle.ak_port.specs.PortMachine.{state_of, taken_items, written_in, I
 ghost use Rattle.ak_port.specs.PortWriters.{StartsToTake};
 
 use super::calls::put;
+use crate::compare::same;
 use ak_base::{NoMemory, ThreadId};
 use ak_flatten::Taken;
 use ak_port::{Port, PortBook, TakeAnswer, close, make, nothing_comes_after_the_rest, take};
@@ -124,9 +125,7 @@ fn position_of(taken: &mut VecDeque<Taken>) -> Option<u64> {
 
 #[test]
 fn a_taker_has_all_in_the_end(rt: HostRuntime) -> Result<(), Fail> {
-    assert_eq!(rt;
-        positions(&rt, rt.alloc())?,
-        [Some(0), Some(1), Some(2), None]
-    );
+    let wanted = [Some(0), Some(1), Some(2), None];
+    same(&rt, "positions", positions(&rt, rt.alloc())?, wanted);
     Ok(())
 }

@@ -7,6 +7,7 @@ ghost use Rattle.ak_port.specs.PortCalls.{by_number};
 ghost use Rattle.ak_port.specs.PortMachine.{pending_items, state_of, taken_items, written_in};
 ghost use Rattle.ak_port.specs.PortWriters.{teams_in, HasSent, HasTaken, KnowsSent, StartsToTake};
 
+use crate::compare::same;
 use ak_base::{Code, NoMemory, ThreadId};
 use ak_flatten::{Duty, Item, Taken};
 use ak_message::{Message, Target};
@@ -129,7 +130,6 @@ fn seat_for(port: &Port, seat: &mut Seat<PortBook>, thread: ThreadId) -> Seat<Po
 }
 
 // The seat takes in what a writer's seat knows, and answers what the writer wrote.
-#[tactic(auto, using(crate::proofs::Calls::sent_known))]
 fn take_in(port: &Port, seat: &mut Seat<PortBook>, thread: ThreadId, work: Work) -> Vec<u32>
     requires of { seat.old.lock ≡ port.now }
     requires idle { seat.old.turn ≡ false }
@@ -306,6 +306,7 @@ fn taken_in_order<R: Threads + Wait + Sync>(
 
 #[test]
 fn two_writers_and_a_taker(rt: HostRuntime) -> Result<(), Fail> {
-    assert_eq!(rt; taken_in_order(&rt, rt.alloc())?, ([200, 100, 100], None));
+    let wanted = ([200, 100, 100], None);
+    same(&rt, "taken", taken_in_order(&rt, rt.alloc())?, wanted);
     Ok(())
 }

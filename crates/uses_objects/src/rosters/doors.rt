@@ -48,7 +48,7 @@ fn grant_of_none(alloc: Global) -> Result<(Option<()>, u64), Fail> {
 }
 
 // When and by whom a door was given, and of which looper.
-fn door_at(roster: &Roster, place: u64) -> Result<(u64, ThreadId, u32), Fail> {
+pub(super) fn door_at(roster: &Roster, place: u64) -> Result<(u64, ThreadId, u32), Fail> {
     let entry = roster.entry(place)?.ok_or("an entry")?;
     match &entry.event {
         RosterEvent::Door { looper } => Ok((entry.stamp, entry.by, *looper)),

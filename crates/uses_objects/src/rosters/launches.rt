@@ -6,6 +6,7 @@ use super::calls::{Roster, Row, Word, clock_of, find, gone, launch, roster_of};
 use super::doors::doors_given;
 use super::shared::look_up;
 use crate::compare::same;
+use Step::{Ends, Finds, FindsNone, Refuses, Starts};
 use ak_base::ThreadId;
 use ak_roster::{
     Decision, FindAnswer, FindOutcome, LaunchOutcome, Mode, RosterEntry, RosterEvent,
@@ -14,200 +15,254 @@ use ak_roster::{
 };
 use ak_turn::{Book, Clock};
 use std::alloc::Global;
+use std::process::Abort;
 use std::test::Fail;
 
-static MODES: [Row; 4] = [
+// ---- what is asked, and what is answered
+/// What is asked of a roster, and what it has to answer.
+enum Step {
+    // A launch starts that application, with the team and its first looper.
+    Starts(Word, u32, u32, u32),
+    // A launch is decided otherwise.
+    Refuses(Word, Decision),
+    // A look-up finds that team, its first looper, and how many it has.
+    Finds(Word, u32, u32, u32),
+    FindsNone(Word),
+    // A team ends, or does not run.
+    Ends(u32, bool),
+}
+
+/// What a launch decides and what a look-up finds, where it is one; and whether a team ended.
+type Answer = (Option<Decision>, Option<FindAnswer>, bool);
+
+fn wanted(step: &Step) -> Answer {
+    match *step {
+        Starts(_, description, team, first) => {
+            let start = Decision::Starts {
+                description,
+                team,
+                first,
+            };
+            (Some(start), None, false)
+        }
+        Refuses(_, decision) => (Some(decision), None, false),
+        Finds(_, team, first, loopers) => {
+            let found = FindAnswer::Team {
+                team,
+                first,
+                loopers,
+            };
+            (None, Some(found), false)
+        }
+        FindsNone(_) => (None, Some(FindAnswer::NoTeam), false),
+        Ends(_, is_so) => (None, None, is_so),
+    }
+}
+
+fn answer(
+    alloc: Global,
+    roster: &mut Roster,
+    clock: &mut Clock,
+    step: &Step,
+) -> Result<Answer, Fail>
+    requires { IsAtRest roster.old }
+    ensures { IsAtRest roster.new }
+{
+    match step {
+        Starts(word, _, _, _) | Refuses(word, _) => {
+            Ok((Some(launch(alloc, roster, clock, word)?), None, false))
+        }
+        Finds(word, _, _, _) | FindsNone(word) => {
+            Ok((None, Some(find(alloc, roster, clock, word)?), false))
+        }
+        Ends(team, _) => Ok((None, None, gone(roster, clock, *team)?)),
+    }
+}
+
+// Each step is answered so, where they are taken in this order, and so many teams run behind it.
+fn are_answered(
+    rt: &impl Abort,
+    alloc: Global,
+    label: &str,
+    roster: &mut Roster,
+    clock: &mut Clock,
+    steps: &[(Step, usize)],
+) -> Result<(), Fail>
+    requires { IsAtRest roster.old }
+    ensures { IsAtRest roster.new }
+{
+    for (place, (step, running)) in steps.iter().enumerate() {
+        let told = answer(alloc, roster, clock, step)?;
+        same(
+            rt,
+            (label, place),
+            (told, roster.app_list().len()),
+            (wanted(step), *running),
+        );
+    }
+    Ok(())
+}
+
+// The roster of these applications, once all these steps are answered so.
+fn roster_after(rt: &impl Abort, alloc: Global, script: &Script) -> Result<Roster, Fail>
+    ensures { IfOk result (λ roster. IsAtRest roster) }
+{
+    let (label, apps, steps, end) = *script;
+    let mut roster = roster_of(alloc, apps)?;
+    let mut clock = clock_of(0);
+    are_answered(rt, alloc, label, &mut roster, &mut clock, steps)?;
+    let told = (roster.len(), roster.last_stamp(), clock.time);
+    same(rt, label, told, (end, end, end));
+    Ok(roster)
+}
+
+// ---- the rows
+/// Its name, the applications, the steps, and how many entries there are in the end, each with the next stamp.
+type Script = (&'static str, &'static [Row], &'static [(Step, usize)], u64);
+
+const DEMO: Word = Word::Path(b"/boot/demo");
+
+const A: Word = Word::Path(b"/boot/a");
+
+const B: Word = Word::Path(b"/boot/b");
+
+const M: Word = Word::Path(b"/boot/m");
+
+const N: Word = Word::Signature(b"application/n");
+
+const MAIL: Word = Word::Path(b"/boot/mail");
+
+const MODES: [Row; 4] = [
     (b"/boot/demo", b"application/demo", Mode::Single, 1),
     (b"/boot/a", b"application/ab", Mode::Exclusive, 2),
     (b"/boot/b", b"application/ab", Mode::Exclusive, 3),
     (b"/boot/m", b"application/m", Mode::Multiple, 4),
 ];
 
-static PATHS: [Row; 3] = [
-    (b"/boot/apps/mail", b"application/mail", Mode::Multiple, 1),
-    (b"/boot/mail", b"application/other", Mode::Multiple, 1),
-    (b"/boot/last", b"application/mail", Mode::Exclusive, 1),
+// Each script, and how many doors there are in the end: one for each looper that was started.
+static SCRIPTS: [(Script, usize); 4] = [
+    (
+        (
+            "modes decide what starts",
+            &MODES,
+            &[
+                (Starts(DEMO, 0, 1, 0), 1),
+                (Refuses(DEMO, Decision::AlreadyRunning { team: 1 }), 1),
+                (Starts(A, 1, 2, 1), 2),
+                (Refuses(B, Decision::AlreadyRunning { team: 2 }), 2),
+                (Starts(M, 3, 3, 3), 3),
+                (Starts(M, 3, 4, 7), 4),
+                (Refuses(Word::Path(b"/boot/z"), Decision::NotFound), 4),
+            ],
+            7,
+        ),
+        11,
+    ),
+    (
+        (
+            "sixteen launches start",
+            &[(b"/boot/m", b"application/m", Mode::Multiple, 2)],
+            &[
+                (Starts(M, 0, 1, 0), 1),
+                (Starts(M, 0, 2, 2), 2),
+                (Starts(M, 0, 3, 4), 3),
+                (Starts(M, 0, 4, 6), 4),
+                (Starts(M, 0, 5, 8), 5),
+                (Starts(M, 0, 6, 10), 6),
+                (Starts(M, 0, 7, 12), 7),
+                (Starts(M, 0, 8, 14), 8),
+                (Starts(M, 0, 9, 16), 9),
+                (Starts(M, 0, 10, 18), 10),
+                (Starts(M, 0, 11, 20), 11),
+                (Starts(M, 0, 12, 22), 12),
+                (Starts(M, 0, 13, 24), 13),
+                (Starts(M, 0, 14, 26), 14),
+                (Starts(M, 0, 15, 28), 15),
+                (Starts(M, 0, 16, 30), 16),
+                (Refuses(M, Decision::Limit), 16),
+                (Finds(Word::Team(16), 16, 30, 2), 16),
+                (FindsNone(Word::Team(17)), 16),
+            ],
+            19,
+        ),
+        32,
+    ),
+    (
+        (
+            "loopers are at most 32",
+            &[
+                (b"/boot/m", b"application/m", Mode::Multiple, 5),
+                (b"/boot/n", b"application/n", Mode::Multiple, 2),
+            ],
+            &[
+                (Starts(M, 0, 1, 0), 1),
+                (Starts(M, 0, 2, 5), 2),
+                (Starts(M, 0, 3, 10), 3),
+                (Starts(M, 0, 4, 15), 4),
+                (Starts(M, 0, 5, 20), 5),
+                (Starts(M, 0, 6, 25), 6),
+                (Refuses(M, Decision::Limit), 6),
+                (Starts(N, 1, 7, 30), 7),
+                (Refuses(N, Decision::Limit), 7),
+            ],
+            9,
+        ),
+        32,
+    ),
+    (
+        (
+            "the least team is found",
+            &[
+                (b"/boot/apps/mail", b"application/mail", Mode::Multiple, 1),
+                (b"/boot/mail", b"application/other", Mode::Multiple, 1),
+                (b"/boot/last", b"application/mail", Mode::Exclusive, 1),
+            ],
+            &[
+                (Starts(MAIL, 1, 1, 0), 1),
+                (Starts(Word::Path(b"/boot/apps/mail"), 0, 2, 1), 2),
+                (Starts(Word::Signature(b"application/mail"), 0, 3, 2), 3),
+                (Starts(MAIL, 1, 4, 3), 4),
+                (
+                    Refuses(
+                        Word::Path(b"/boot/last"),
+                        Decision::AlreadyRunning { team: 2 },
+                    ),
+                    4,
+                ),
+                (Finds(Word::Name(b"mail"), 1, 0, 1), 4),
+                (FindsNone(Word::Name(b"ail")), 4),
+                (FindsNone(Word::Name(b"apps/mail")), 4),
+                (FindsNone(Word::Name(b"/mail")), 4),
+                (FindsNone(Word::Name(b"")), 4),
+                (Finds(Word::Signature(b"application/mail"), 2, 1, 1), 4),
+                (FindsNone(Word::Signature(b"application")), 4),
+                (Finds(MAIL, 1, 0, 1), 4),
+                (FindsNone(Word::Path(b"mail")), 4),
+                (Finds(Word::Team(3), 3, 2, 1), 4),
+                (FindsNone(Word::Team(0)), 4),
+                (FindsNone(Word::Team(5)), 4),
+            ],
+            17,
+        ),
+        4,
+    ),
 ];
 
-fn starts(description: u32, team: u32, first: u32) -> Decision {
-    Decision::Starts {
-        description,
-        team,
-        first,
-    }
-}
+static GOES: Script = (
+    "a team goes once",
+    &MODES,
+    &[
+        (Ends(1, false), 0),
+        (Starts(DEMO, 0, 1, 0), 1),
+        (Ends(1, true), 0),
+        (Ends(1, false), 0),
+        (FindsNone(DEMO), 0),
+        (Starts(DEMO, 0, 2, 1), 1),
+    ],
+    4,
+);
 
-/// The place of a launch, and what was decided in the place of what it tells.
-type OtherLaunch = Option<(usize, Decision)>;
-
-// Launches in order, each with its decision, up to the first that is decided otherwise.
-fn launch_all(
-    alloc: Global,
-    roster: &mut Roster,
-    clock: &mut Clock,
-    rows: &[(Word, Decision)],
-) -> Result<OtherLaunch, Fail>
-    requires { IsAtRest roster.old }
-    ensures { IsAtRest roster.new }
-{
-    for (place, (word, decision)) in rows.iter().enumerate() {
-        let answer = launch(alloc, roster, clock, word)?;
-        if answer != *decision {
-            return Ok(Some((place, answer)));
-        }
-    }
-    Ok(None)
-}
-
-// The first launch that is decided otherwise; how many entries there are then, the last stamp and the clock's time.
-fn launch_by_modes(alloc: Global) -> Result<(OtherLaunch, u64, u64, u64), Fail> {
-    let mut roster = roster_of(alloc, &MODES)?;
-    let mut clock = clock_of(0);
-    let rows = [
-        (Word::Path(b"/boot/demo"), starts(0, 1, 0)),
-        (
-            Word::Path(b"/boot/demo"),
-            Decision::AlreadyRunning { team: 1 },
-        ),
-        (Word::Path(b"/boot/a"), starts(1, 2, 1)),
-        (Word::Path(b"/boot/b"), Decision::AlreadyRunning { team: 2 }),
-        (Word::Path(b"/boot/m"), starts(3, 3, 3)),
-        (Word::Path(b"/boot/m"), starts(3, 4, 7)),
-        (Word::Path(b"/boot/z"), Decision::NotFound),
-    ];
-    let other = launch_all(alloc, &mut roster, &mut clock, &rows)?;
-    Ok((other, roster.len(), roster.last_stamp(), clock.time))
-}
-
-// Launches by that word sixteen times: the first launch that does not start the next team.
-fn launch_sixteen(
-    alloc: Global,
-    roster: &mut Roster,
-    clock: &mut Clock,
-    word: &Word,
-) -> Result<OtherLaunch, Fail>
-    requires { IsAtRest roster.old }
-    ensures { IsAtRest roster.new }
-{
-    for team in 0..16u32 {
-        let answer = launch(alloc, roster, clock, word)?;
-        if answer != starts(0, team + 1, 2 * team) {
-            return Ok(Some((team as usize, answer)));
-        }
-    }
-    Ok(None)
-}
-
-/// What comes of sixteen launches, of one more, and of looking up the last team and one past it; and how many doors
-/// there are.
-type Sixteen = (OtherLaunch, Decision, [FindAnswer; 2], usize);
-
-fn sixteen_and_more(alloc: Global) -> Result<Sixteen, Fail> {
-    let rows: [Row; 1] = [(b"/boot/m", b"application/m", Mode::Multiple, 2)];
-    let mut roster = roster_of(alloc, &rows)?;
-    let mut clock = clock_of(0);
-    let word = Word::Path(b"/boot/m");
-    let other = launch_sixteen(alloc, &mut roster, &mut clock, &word)?;
-    let more = launch(alloc, &mut roster, &mut clock, &word)?;
-    let last = find(alloc, &mut roster, &mut clock, &Word::Team(16))?;
-    let past = find(alloc, &mut roster, &mut clock, &Word::Team(17))?;
-    Ok((other, more, [last, past], roster.take_doors().len()))
-}
-
-const SIXTEENTH: FindAnswer = FindAnswer::Team {
-    team: 16,
-    first: 30,
-    loopers: 2,
-};
-
-const SIXTEEN: Sixteen = (None, Decision::Limit, [SIXTEENTH, FindAnswer::NoTeam], 32);
-
-fn launch_32_loopers(alloc: Global) -> Result<OtherLaunch, Fail> {
-    let rows: [Row; 2] = [
-        (b"/boot/m", b"application/m", Mode::Multiple, 5),
-        (b"/boot/n", b"application/n", Mode::Multiple, 2),
-    ];
-    let mut roster = roster_of(alloc, &rows)?;
-    let mut clock = clock_of(0);
-    let launches = [
-        (Word::Path(b"/boot/m"), starts(0, 1, 0)),
-        (Word::Path(b"/boot/m"), starts(0, 2, 5)),
-        (Word::Path(b"/boot/m"), starts(0, 3, 10)),
-        (Word::Path(b"/boot/m"), starts(0, 4, 15)),
-        (Word::Path(b"/boot/m"), starts(0, 5, 20)),
-        (Word::Path(b"/boot/m"), starts(0, 6, 25)),
-        (Word::Path(b"/boot/m"), Decision::Limit),
-        (Word::Signature(b"application/n"), starts(1, 7, 30)),
-        (Word::Signature(b"application/n"), Decision::Limit),
-    ];
-    launch_all(alloc, &mut roster, &mut clock, &launches)
-}
-
-/// The place of a look-up, and what was found in the place of what it tells.
-type OtherFound = Option<(usize, FindAnswer)>;
-
-// Looks words up, each with the team that is found, whose first looper has the number before.
-fn find_all(
-    alloc: Global,
-    roster: &mut Roster,
-    clock: &mut Clock,
-    rows: &[(Word, u32)],
-) -> Result<OtherFound, Fail> {
-    for (place, (word, team)) in rows.iter().enumerate() {
-        let answer = find(alloc, roster, clock, word)?;
-        if answer != team_found(*team) {
-            return Ok(Some((place, answer)));
-        }
-    }
-    Ok(None)
-}
-
-// That team of one looper, or none where it is 0.
-fn team_found(team: u32) -> FindAnswer {
-    match team {
-        0 => FindAnswer::NoTeam,
-        _ => FindAnswer::Team {
-            team,
-            first: team - 1,
-            loopers: 1,
-        },
-    }
-}
-
-// The team that is found, or 0.
-static FOUND: [(Word, u32); 12] = [
-    (Word::Name(b"mail"), 1),
-    (Word::Name(b"ail"), 0),
-    (Word::Name(b"apps/mail"), 0),
-    (Word::Name(b"/mail"), 0),
-    (Word::Name(b""), 0),
-    (Word::Signature(b"application/mail"), 2),
-    (Word::Signature(b"application"), 0),
-    (Word::Path(b"/boot/mail"), 1),
-    (Word::Path(b"mail"), 0),
-    (Word::Team(3), 3),
-    (Word::Team(0), 0),
-    (Word::Team(5), 0),
-];
-
-fn find_the_least(alloc: Global) -> Result<(OtherLaunch, OtherFound), Fail> {
-    let mut roster = roster_of(alloc, &PATHS)?;
-    let mut clock = clock_of(0);
-    let launches = [
-        (Word::Path(b"/boot/mail"), starts(1, 1, 0)),
-        (Word::Path(b"/boot/apps/mail"), starts(0, 2, 1)),
-        (Word::Signature(b"application/mail"), starts(0, 3, 2)),
-        (Word::Path(b"/boot/mail"), starts(1, 4, 3)),
-        (
-            Word::Path(b"/boot/last"),
-            Decision::AlreadyRunning { team: 2 },
-        ),
-    ];
-    let launched = launch_all(alloc, &mut roster, &mut clock, &launches)?;
-    let found = find_all(alloc, &mut roster, &mut clock, &FOUND)?;
-    Ok((launched, found))
-}
-
+// ---- entries
 /// When an entry was made and by whom, what it decided or found, and the number in it.
 type Told = (u64, u32, Option<LaunchOutcome>, Option<FindOutcome>, u32);
 
@@ -240,45 +295,6 @@ fn all_told(roster: Roster) -> (usize, [Option<Told>; 4]) {
     (entries.len(), told)
 }
 
-/// What comes of an end where no team runs, of the end of the first team, and of an end again; of the launches before and
-/// after; how many run before the end and after; and of a look-up then.
-type ComeAndGo = ([bool; 3], [Decision; 2], [usize; 2], FindAnswer);
-
-fn come_and_go(alloc: Global, roster: &mut Roster, clock: &mut Clock) -> Result<ComeAndGo, Fail>
-    requires { IsAtRest roster.old }
-{
-    let word = Word::Path(b"/boot/demo");
-    let early = gone(roster, clock, 1)?;
-    let first = launch(alloc, roster, clock, &word)?;
-    let running = roster.app_list().len();
-    let going = gone(roster, clock, 1)?;
-    let left = roster.app_list().len();
-    let again = gone(roster, clock, 1)?;
-    let found = find(alloc, roster, clock, &word)?;
-    let second = launch(alloc, roster, clock, &word)?;
-    Ok((
-        [early, going, again],
-        [first, second],
-        [running, left],
-        found,
-    ))
-}
-
-const STARTED: [Decision; 2] = [
-    Decision::Starts {
-        description: 0,
-        team: 1,
-        first: 0,
-    },
-    Decision::Starts {
-        description: 0,
-        team: 2,
-        first: 1,
-    },
-];
-
-const COME_AND_GO: ComeAndGo = ([false, true, false], STARTED, [1, 0], FindAnswer::NoTeam);
-
 const FIRST: LaunchOutcome = LaunchOutcome::Started {
     description: 0,
     team: 1,
@@ -290,14 +306,6 @@ const SECOND: LaunchOutcome = LaunchOutcome::Started {
     team: 2,
     first: 1,
 };
-
-// What came of it, and the entries then.
-fn team_that_goes(alloc: Global) -> Result<(ComeAndGo, (usize, [Option<Told>; 4])), Fail> {
-    let mut roster = roster_of(alloc, &MODES)?;
-    let mut clock = clock_of(0);
-    let answers = come_and_go(alloc, &mut roster, &mut clock)?;
-    Ok((answers, all_told(roster)))
-}
 
 const ENTRIES: [Option<Told>; 4] = [
     Some((1, 0, Some(FIRST), None, 0)),
@@ -322,36 +330,12 @@ fn call_the_laws() {
 fn teams_are_launched_found_and_gone(rt: HostRuntime) -> Result<(), Fail> {
     let alloc = rt.alloc();
     call_the_laws();
-    same(
-        &rt,
-        "modes decide what starts",
-        launch_by_modes(alloc)?,
-        (None, 7, 7, 7),
-    );
-    same(
-        &rt,
-        "sixteen launches start",
-        sixteen_and_more(alloc)?,
-        SIXTEEN,
-    );
-    same(
-        &rt,
-        "loopers are at most 32",
-        launch_32_loopers(alloc)?,
-        None,
-    );
-    same(
-        &rt,
-        "the least team is found",
-        find_the_least(alloc)?,
-        (None, None),
-    );
-    same(
-        &rt,
-        "a team goes once",
-        team_that_goes(alloc)?,
-        (COME_AND_GO, (4, ENTRIES)),
-    );
+    for (script, doors) in &SCRIPTS {
+        let mut roster = roster_after(&rt, alloc, script)?;
+        same(&rt, "doors", roster.take_doors().len(), *doors);
+    }
+    let told = all_told(roster_after(&rt, alloc, &GOES)?);
+    same(&rt, "the entries of a team that goes", told, (4, ENTRIES));
     let given = ((None, 1), (Some(()), (2, ThreadId(1), 4), 5));
     same(
         &rt,

@@ -3,7 +3,7 @@ ghost use Rattle.std.specs.Prelude.{◌≡◌, false};
 ghost use Rattle.ak_turn.specs.Seats.{HasCalled, HasSeen, KnowsWhole};
 ghost use Rattle.ak_roster.specs.Answers.{OnFound, UnlessFound};
 
-use super::calls::{clock_of, roster_of};
+use super::calls::{Row, clock_of, roster_of};
 use ak_base::{AppWord, ThreadId};
 use ak_roster::{FindAnswer, Mode, RosterBook};
 use ak_turn::{Clock, Seat, TurnLock};
@@ -33,15 +33,11 @@ pub fn find_in(
     answer
 }
 
+const DEMO: [Row; 1] = [(b"/boot/demo", b"application/demo", Mode::Single, 1)];
+
 /// What a look-up of the first team of a new roster answers; how many entries the seat has seen then, and its clock's time.
 pub fn look_up<R: Wait>(rt: &R, alloc: Global) -> Result<(FindAnswer, u64, u64), Fail> {
-    let heads = [(
-        b"/boot/demo".as_slice(),
-        b"application/demo".as_slice(),
-        Mode::Single,
-        1,
-    )];
-    let roster = roster_of(alloc, &heads)?;
+    let roster = roster_of(alloc, &DEMO)?;
     let (lock, mut seat) = TurnLock::new(alloc, roster, ThreadId(0))?;
     let mut clock = clock_of(0);
     let answer = find_in(rt, &lock, &mut seat, &mut clock, &AppWord::Team(1));

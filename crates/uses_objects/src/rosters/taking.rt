@@ -8,7 +8,8 @@ ghost use Rattle.ak_roster.specs.Laws.{IsNoneOfFour};
 ghost use Rattle.ak_roster.specs.Roster.{Enters, IsAtRest, Stays, last_stamp, plain_entries, state};
 
 use super::calls::Roster;
-use super::doors::five;
+use super::doors::{door_at, five};
+use crate::compare::same;
 use ak_base::{NoMemory, ThreadId};
 use ak_roster::{
     RosterEvent, Running, holders_are_told, loopers_are_of_their_teams, seats_tell_strangers,
@@ -128,30 +129,8 @@ fn take_door<R: Wait>(
     given
 }
 
-/// What two threads are given, how many entries the list has then, and which doors were given to whom.
-type Taken = ([Option<()>; 2], u64, [Option<(u32, u32)>; 2]);
-
-// The looper and the thread of a door's entry at that place.
-fn door_at(roster: &Roster, place: u64) -> Result<Option<(u32, u32)>, Fail> {
-    let entry = roster.entry(place)?.ok_or("an entry")?;
-    match &entry.event {
-        RosterEvent::Door { looper } => Ok(Some((*looper, entry.by.0))),
-        _ => Ok(None),
-    }
-}
-
-// Both, the one of the lesser looper first.
-fn in_order(one: Option<(u32, u32)>, two: Option<(u32, u32)>) -> [Option<(u32, u32)>; 2] {
-    match (one, two) {
-        (Some(a), Some(b)) if b.0 < a.0 => [two, one],
-        _ => [one, two],
-    }
-}
-
-fn told(roster: &Roster, given: [Option<()>; 2]) -> Result<Taken, Fail> {
-    let doors = in_order(door_at(roster, 1)?, door_at(roster, 2)?);
-    Ok((given, roster.len(), doors))
-}
+/// What two threads are given.
+type Both = (Result<Option<()>, NoMemory>, Result<Option<()>, NoMemory>);
 
 // Session 1 and looper 4 take a door each at a time, of the loopers 1 and 2.
 fn two_take<R: Threads + Wait + Sync>(
@@ -159,11 +138,11 @@ fn two_take<R: Threads + Wait + Sync>(
     lock: &TurnLock<Roster>,
     one: Seat<Roster>,
     two: Seat<Roster>,
-) -> Result<[Option<()>; 2], NoMemory>
+) -> Both
     requires one { (one.lock ≡ lock.now) × (one.turn ≡ false) × (one.thread ≡ 1) × (one.own ≡ []) }
     requires two { (two.lock ≡ lock.now) × (two.turn ≡ false) × (two.thread ≡ 10004) × (two.own ≡ []) }
 {
-    let (first, second) = join(
+    join(
         rt,
         || -> Result<Option<()>, NoMemory>
             requires { (one.lock ≡ lock.now) × (one.turn ≡ false) × (one.thread ≡ 1) × (one.own ≡ []) }
@@ -171,8 +150,7 @@ fn two_take<R: Threads + Wait + Sync>(
         || -> Result<Option<()>, NoMemory>
             requires { (two.lock ≡ lock.now) × (two.turn ≡ false) × (two.thread ≡ 10004) × (two.own ≡ []) }
         { take_door(rt, lock, two, ThreadId(10_004), 2) },
-    );
-    Ok([first?, second?])
+    )
 }
 
 // A seat for a new thread.
@@ -188,19 +166,53 @@ fn seat_for(lock: &TurnLock<Roster>, seat: &mut Seat<Roster>, thread: ThreadId) 
     lock.split(seat, thread)
 }
 
-fn two_threads<R: Threads + Wait + Sync>(rt: &R, alloc: Global) -> Result<Taken, Fail> {
-    let (shared, mut seat) = TurnLock::new(alloc, five(alloc)?, ThreadId(0))?;
-    let lock: &TurnLock<Roster> = &shared;
+// The whole list, once both took their doors, and what they were given.
+fn taken_by_two<R: Threads + Wait + Sync>(
+    rt: &R,
+    lock: &TurnLock<Roster>,
+    mut seat: Seat<Roster>,
+) -> (Roster, Both)
+    requires of { seat.lock ≡ lock.now }
+    requires idle { seat.turn ≡ false }
+    requires one { IsNewName seat.names 1 }
+    requires two { IsNewName (names_with seat.names 1) 10004 }
+{
     let one = seat_for(lock, &mut seat, ThreadId(1));
     let two = seat_for(lock, &mut seat, ThreadId(10_004));
-    let given = two_take(rt, lock, one, two)?;
-    let roster = lock.lock(rt, &mut seat).keep();
-    told(&roster, given)
+    let both = two_take(rt, lock, one, two);
+    (lock.lock(rt, &mut seat).keep(), both)
+}
+
+/// What two threads are given, how many entries the list has then, and which doors were given to whom.
+type Taken = ([Option<()>; 2], u64, [(u32, u32); 2]);
+
+// The looper and the thread of the door's entry at that place.
+fn taken_at(roster: &Roster, place: u64) -> Result<(u32, u32), Fail> {
+    let (_, by, looper) = door_at(roster, place)?;
+    Ok((looper, by.0))
+}
+
+// The one of the lesser looper first.
+fn told(roster: &Roster, both: Both) -> Result<Taken, Fail> {
+    let (one, two) = (taken_at(roster, 1)?, taken_at(roster, 2)?);
+    let doors = if two.0 < one.0 {
+        [two, one]
+    } else {
+        [one, two]
+    };
+    Ok(([both.0?, both.1?], roster.len(), doors))
+}
+
+fn two_threads<R: Threads + Wait + Sync>(rt: &R, alloc: Global) -> Result<Taken, Fail> {
+    let roster = five(alloc)?;
+    let (shared, seat) = TurnLock::new(alloc, roster, ThreadId(0))?;
+    let (roster, both) = taken_by_two(rt, &shared, seat);
+    told(&roster, both)
 }
 
 #[test]
 fn two_threads_take_doors(rt: HostRuntime) -> Result<(), Fail> {
-    let wanted = ([Some(()); 2], 3, [Some((1, 1)), Some((2, 10_004))]);
-    assert_eq!(rt; two_threads(&rt, rt.alloc())?, wanted);
+    let wanted = ([Some(()); 2], 3, [(1, 1), (2, 10_004)]);
+    same(&rt, "doors", two_threads(&rt, rt.alloc())?, wanted);
     Ok(())
 }

@@ -1,12 +1,13 @@
 //! Each call once, and a thread that waits for entries.
 ghost use Rattle.std.specs.Prelude.{◌≡◌, false};
 ghost use Rattle.std.specs.Arc.{arc_value};
+ghost use Rattle.ak_turn.specs.Steps.{IsNewName};
 
 use super::shared::{add_to, await_count, look};
 use super::stamps::{BOOKS, first_stamp, two_entries, two_stamps};
-use super::tally::Tally;
+use super::tally::{Count, Tally};
 use crate::compare::same;
-use ak_base::ThreadId;
+use ak_base::{NoMemory, ThreadId};
 use ak_turn::{Book, Clock, Seat, TurnLock, fronts_go_on, new_seats_know};
 use std::alloc::Global;
 use std::sync::{Arc, Wait};
@@ -16,9 +17,25 @@ use std::thread::yield_now;
 
 /// The stamp of a call; how many entries were seen by its seat behind it, by main's before it waited for it and after, and
 /// by a seat that is split off then; how long the tally is; and whether the entry of the call stands in it.
-type Called = (u64, [u64; 4], u64, bool);
+type Called = (u64, [u64; 4], (u64, bool));
 
-fn split_call_and_join<R: Wait>(rt: &R, alloc: Global) -> Result<Called, Fail> {
+// What a seat for a new thread sees, and the tally.
+fn seen_by_a_new_one<R: Wait>(rt: &R, lock: &TurnLock<Tally>, mut main: Seat<Tally>) -> (u64, Tally)
+    requires of { main.lock ≡ lock.now }
+    requires idle { main.turn ≡ false }
+    requires name { IsNewName main.names 3 }
+{
+    let mut fourth = lock.split(&mut main, ThreadId(3));
+    let seen = look(rt, lock, &mut fourth);
+    (seen, lock.lock(rt, &mut main).keep())
+}
+
+// How long the tally is, and whether that entry stands first in it.
+fn begins_with(tally: &Tally, count: Count) -> Result<(u64, bool), NoMemory> {
+    Ok((tally.len(), tally.entry(0)? == Some(count)))
+}
+
+fn split_call_and_join<R: Wait>(rt: &R, alloc: Global) -> Result<Called, NoMemory> {
     let (lock, mut main) = TurnLock::new(alloc, Tally::new(alloc), ThreadId(0))?;
     let mut head = lock.split_head(&mut main, ThreadId(1));
     let mut third = lock.split(&mut head, ThreadId(2));
@@ -32,18 +49,12 @@ fn split_call_and_join<R: Wait>(rt: &R, alloc: Global) -> Result<Called, Fail> {
     let waited = main.seen();
     lock.join(&mut main, head);
     lock.join(&mut main, third);
-    let mut fourth = lock.split(&mut main, ThreadId(3));
-    let by_a_new_one = look(rt, &lock, &mut fourth);
-    let tally = lock.lock(rt, &mut main).keep();
-    Ok((
-        count.stamp,
-        [by_its_seat, before, waited, by_a_new_one],
-        tally.len(),
-        tally.entry(0)? == Some(count),
-    ))
+    let (by_a_new_one, tally) = seen_by_a_new_one(rt, &lock, main);
+    let seen = [by_its_seat, before, waited, by_a_new_one];
+    Ok((count.stamp, seen, begins_with(&tally, count)?))
 }
 
-const CALLED: Called = (7, [1, 0, 1, 1], 1, true);
+const CALLED: Called = (7, [1, 0, 1, 1], (1, true));
 
 #[test]
 fn turns_are_entries_with_stamps(rt: HostRuntime) -> Result<(), Fail> {
@@ -97,7 +108,7 @@ fn a_thread_waits_for_entries(rt: HostRuntime) -> Result<(), Fail> {
     );
     if let Ok(child) = started {
         await_count(&rt, &lock, &mut seat, AWAITED);
-        assert_eq!(rt; seat.seen(), AWAITED);
+        same(&rt, "entries", seat.seen(), AWAITED);
         child.join(&rt);
     }
     Ok(())

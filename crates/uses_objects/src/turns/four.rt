@@ -7,6 +7,7 @@ ghost use Rattle.ak_turn.specs.Steps.{IsNewName, names_with};
 
 use super::shared::add_to;
 use super::tally::{Count, Tally};
+use crate::compare::same;
 use ak_base::{NoMemory, ThreadId};
 use ak_turn::{Book, Clock, Seat, TurnLock};
 use std::alloc::Global;
@@ -96,7 +97,6 @@ fn seat_for(lock: &TurnLock<Tally>, seat: &mut Seat<Tally>, thread: ThreadId) ->
 }
 
 // The seat takes in what a thread's seat knows, and answers what the thread made.
-#[tactic(auto, using(crate::proofs::Calls::known))]
 fn take_in(
     lock: &TurnLock<Tally>,
     seat: &mut Seat<Tally>,
@@ -242,6 +242,6 @@ fn told_by(tale: &Tale) -> Result<Told, Fail> {
 #[test]
 fn four_threads_add_a_thousand_each(rt: HostRuntime) -> Result<(), Fail> {
     let tale = four_threads(&rt, rt.alloc(), 1000)?;
-    assert_eq!(rt; told_by(&tale)?, ([(1000, true); 4], 4000, true));
+    same(&rt, "all", told_by(&tale)?, ([(1000, true); 4], 4000, true));
     Ok(())
 }
