@@ -5,4 +5,5 @@ pub mod Describing
 pub mod Ids
 pub mod Keeping
 pub mod Parts
+pub mod Refusing
 pub mod Reversing

@@ -4,7 +4,7 @@ ghost use Rattle.std.specs.Prelude.{◌≡◌, ◌+◌, ◌≤◌, pos, length, 
 ghost use Rattle.std.specs.List.{position};
 ghost use Rattle.std.specs.Str.{bytes_eq};
 ghost use Rattle.ak_message.specs.Specifier.{at_of};
-ghost use Rattle.ak_value.specs.Choice.{one_at, whole_of, within, before_end, part_of, chosen, choice_fault, has_id};
+ghost use Rattle.ak_value.specs.Choice.{one_at, whole_of, within, before_end, with_number, part_of, chosen, choice_fault, has_id};
 ghost use Rattle.ak_value.specs.Seen.{elements_of_list, part_seen};
 
 use crate::elements::Element;
@@ -49,12 +49,12 @@ fn part_of(list: &[Element], at: AtRef<'_>) -> Option<Part>
     let len = list.len();
     match at {
         AtRef::Direct => part_within(len, 0, 1),
-        AtRef::Index(index) => part_within(len, whole(index)?, 1),
-        AtRef::Reverse(index) => part_before_end(len, whole(index)?, 1),
-        AtRef::Range { index, count } => part_within(len, whole(index)?, whole(count)?),
-        AtRef::ReverseRange { index, count } => part_before_end(len, whole(index)?, whole(count)?),
-        AtRef::Name(name) => Some(one_at(place_of_name(list, name)?)),
-        AtRef::Id(id) => Some(one_at(place_of_id(list, whole(id)?)?)),
+        AtRef::Index(index) => range(len, index, 1),
+        AtRef::Reverse(index) => reverse_range(len, index, 1),
+        AtRef::Range { index, count } => range(len, index, count),
+        AtRef::ReverseRange { index, count } => reverse_range(len, index, count),
+        AtRef::Name(name) => one_at(place_of_name(list, name)),
+        AtRef::Id(id) => one_at(place_of_id(list, whole(id)?)),
     }
 }
 
@@ -65,13 +65,26 @@ fn whole(n: i32) -> Option<usize>
     usize::try_from(n).ok()
 }
 
-fn one_at(place: usize) -> Part
-    ensures { part_seen result ≡ one_at place }
+// The one element at the place, if there is one.
+fn one_at(place: Option<usize>) -> Option<Part>
+    ensures { option_map part_seen result ≡ option_map one_at place }
 {
-    Part {
-        from: place,
-        count: 1,
-    }
+    let from = place?;
+    Some(Part { from, count: 1 })
+}
+
+// So many from an index on, where none of the numbers is below zero and the elements are there.
+fn range(len: usize, index: i32, count: i32) -> Option<Part>
+    ensures { option_map part_seen result ≡ with_number (λ from. with_number (within len from) count) index }
+{
+    part_within(len, whole(index)?, whole(count)?)
+}
+
+// So many from a reverse index on, likewise.
+fn reverse_range(len: usize, index: i32, count: i32) -> Option<Part>
+    ensures { option_map part_seen result ≡ with_number (λ from. with_number (before_end len from) count) index }
+{
+    part_before_end(len, whole(index)?, whole(count)?)
 }
 
 // So many from an index on, where they are there.

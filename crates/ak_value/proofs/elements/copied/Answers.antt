@@ -1,0 +1,7 @@
+-- One more is copied.
+use Rattle.std.proofs.Common.{arith}
+use Rattle.std.proofs.lemmas.Grind.{common_steps}
+use Rattle.ak_value.proofs.elements.copied.Goals as goal
+
+pub loop-element-preserved : goal.loop-element-preserved
+loop-element-preserved c = grind (arith, common_steps)
