@@ -9,7 +9,7 @@ use Rattle.ak_value.specs.declared.fault.ElementFault.{ElementFault}
 use Rattle.ak_value.specs.declared.fault.ElementFault.TheVariants as fault
 use Rattle.ak_value.specs.Elements.{ElementsData}
 use Rattle.ak_value.specs.Choice.{Part, part_of, chosen, choice_fault}
-use Rattle.ak_value.specs.Access.{Accessed, access_of, has_form, is_name, chooses, data_of, has_room, HasData, Refuses, then_do, on_chosen, set_chosen, get, set, delete, count, create, name_of}
+use Rattle.ak_value.specs.Access.{Accessed, access_of, has_form, is_name, chooses, data_of, has_room, HasData, Refuses, then_do, on_chosen, get, set, delete, count, create, name_of}
 use Rattle.ak_value.specs.Laws.{OneCause}
 use Rattle.ak_value.proofs.Bringing.{no_data, other_data, same_data, no_field, other_kind, same_kind, data_cases}
 
@@ -260,9 +260,6 @@ pub one_cause : OneCause
 one_cause e what at m f sound = by_form e what at m f sound (has_form what at) refl
 
 -- ---- of an answer that follows it
-pub set_is : (e : ElementsData) (what : ℕ) (at : At) (m : MessageData) → what ≡ SET → access_of e what at m ≡ set_chosen e at m
-set_is e what at m code = ap (λ w. access_of e w at m) code
-
 module _ {A : Type 0} (f : ElementFault) (known : f ≢ fault.NoMemory) where
   err_of : (r : Result Accessed ElementFault) (answer : Result A ElementFault) → IfErr r (λ g. answer ≡ Err g) → IfOk r (λ _. IsOkUnless answer fault.NoMemory) → answer ≡ Err f → r ≡ Err f
   err_of (Ok a) (Ok x) refused only e = absurd cc
