@@ -31,6 +31,14 @@ known_still {O} {L} by thread seat seat' is known other new =
     let front : seat'.front ≡ seat.front = ap (λ (s : SeatData O L). s.front) is in
     ap (made_by by other) front ∙ known other (still_new seat.names thread other (subst (λ (names : Option (List ℕ)). IsNewName names other) (ap (λ (s : SeatData O L). s.names) is) new))
 
+-- a head that was split is still a head
+named_still : (names : Option (List ℕ)) (thread : ℕ) → is_some names ≡ true → is_some (names_with names thread) ≡ true
+named_still None thread head = absurd (cc)
+named_still (Some ns) thread head = refl
+
+pub still_head : {O L : Type 0} (thread : ℕ) (seat seat' : SeatData O L) → seat' ≡ titled_seat (names_with seat.names thread) seat → is_some seat.names ≡ true → is_some seat'.names ≡ true
+still_head {O} {L} thread seat seat' is head = ap (λ (s : SeatData O L). is_some s.names) is ∙ named_still seat.names thread head
+
 -- ---- what was noted
 nothing_mapped : {A B : Type 0} (f : A → B) (xs : List A) → map f xs ≡ [] → xs ≡ []
 nothing_mapped f [] e = refl

@@ -1,6 +1,7 @@
 -- What one turn at the roster comes to, from what the turn, the book and the end of the turn told.
-use Rattle.std.proofs.Common.{◌≡◌, ℕ, zero, suc, Bool, false, List, [], ◌∷◌, ◌++◌, map, Option, None, Some, refl, sym, ap, ◌∙◌, subst, append_assoc}
-use Rattle.std.specs.Prelude.{slice_get}
+use Rattle.std.proofs.Common.{◌≡◌, ℕ, zero, suc, Bool, true, false, List, [], ◌∷◌, ◌++◌, map, Option, None, Some, refl, sym, ap, ◌∙◌, subst, append_assoc}
+use Rattle.std.specs.List.{list_any}
+use Rattle.std.specs.Prelude.{IsFalse, IsTrue, slice_get}
 use Rattle.std.proofs.lemmas.List.Concat.{flat_map-append}
 use Rattle.ak_base.specs.declared.app_word.AppWord.{AppWord}
 use Rattle.ak_turn.specs.declared.clock.Clock.{Clock}
@@ -18,12 +19,13 @@ use Rattle.ak_roster.specs.declared.entry.RosterEvent.TheVariants as event
 use Rattle.ak_roster.specs.declared.team.Running.{Running}
 use Rattle.ak_roster.specs.Answers.{OnFound, UnlessFound, answer_of}
 use Rattle.ak_roster.specs.Heads.{team_for}
-use Rattle.ak_roster.specs.Machine.{IsHistory, find_of, state_of}
+use Rattle.ak_roster.specs.Machine.{IsHistory, find_of, runs_team, state_of}
 use Rattle.ak_roster.specs.Roster.{Enters, IsStranger, RosterData, Stays, entry_with, new_entry, objects_of, plain_entries, stamp_number, state}
 use Rattle.ak_action.specs.declared.answer.Answer.{Answer}
 use Rattle.ak_diary.specs.Wants.{found_answer}
 use Rattle.ak_looper.specs.Rosters.{HasEntered, HasLooked, MayGetDoor, Object, RosterSeat, by_number}
-use Rattle.ak_looper.specs.RosterCalls.{HasFound, HasLookedUp, heard_find}
+use Rattle.ak_looper.specs.RosterCalls as calls
+use Rattle.ak_looper.specs.RosterCalls.{HasFound, HasLeft, HasLookedUp, heard_find}
 
 -- ---- entries of others
 module _ {L : Type 0} (by : L → ℕ) where
@@ -125,6 +127,23 @@ module _ {D : Type 0} (seat given seat' : RosterSeat) (book book' : RosterData D
   pub found_by_turn : (f : FindAnswer) (a : Answer) → a ≡ heard_find f → OnFound f (f ≡ answer_of (team_for book.heads (state book).running word))
       → OnFound f (Enters (event.Find word (find_of book.heads (state book) word)) [] book.doors book book' clock clock') → UnlessFound f (Stays book book' clock clock') → HasFound word a clock clock' seat seat'
   found_by_turn f a heard is enters stays = subst (λ (b : Answer). HasFound word b clock clock' seat seat') (sym heard) (found_so f is enters stays)
+
+-- ---- the end of a team
+module _ {D : Type 0} (seat given seat' : RosterSeat) (book book' : RosterData D Object) (clock clock' : Clock) (idle : seat.turn ≡ false) (thread : seat.thread ≡ clock.thread.0) (seen : IsGiven by_number seat given)
+    (list : book.entries ≡ given.front) (opening : seat.opening ≡ Some book.heads) (same : book'.entries ≡ given.front → seat' ≡ at_leisure given)
+    (entered : (x : EntryWithObjects Object) → book'.entries ≡ given.front ++ x ∷ [] → seat' ≡ at_leisure (entered_by given x)) (team : ℕ) where
+  pub left_by_turn : (ran : Bool) → ran ≡ list_any (runs_team team) (state book).running → (IsTrue ran → Enters (event.Gone team) [] book.doors book book' clock clock') → (IsFalse ran → Stays book book' clock clock')
+      → HasLeft team clock clock' seat seat'
+  left_by_turn true is enters stays = calls.entered (entered_by_turn seat given seat' book book' clock clock' idle thread seen list entered book.doors (event.Gone team) (enters refl))
+  left_by_turn false is enters stays =
+      let left : seat' ≡ at_leisure given = same (ap (λ (r : RosterData D Object). r.entries) (stays refl).0 ∙ list) in
+      let front : seat'.front ≡ book.entries = ap (λ (s : RosterSeat). s.front) left ∙ sym list in
+      calls.seen (record {
+        looked = looked_by_turn seat given seat' book book' clock clock' idle thread seen list same (stays refl);
+        heads = book.heads;
+        opening = ap (λ (s : RosterSeat). s.opening) left ∙ ap (λ (s : RosterSeat). s.opening) seen.after ∙ opening;
+        gone = ap (λ (l : List (EntryWithObjects Object)). list_any (runs_team team) (state_of book.heads (plain_entries l)).running) front ∙ sym is;
+      })
 
 -- ---- one call after another
 pub seen_then_entered : (e : RosterEvent) (clock a b : Clock) (x y z : RosterSeat) → HasSeen by_number x y → a ≡ clock → HasEntered a b e y z → HasEntered clock b e x z

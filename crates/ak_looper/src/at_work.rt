@@ -23,7 +23,7 @@ pub(crate) struct Life {
 }
 
 /// What a served message leaves: whether the looper goes on, or how it ends.
-#[derive(Clone, Copy, Debug, PartialEq, Eq)]
+#[derive(Clone, Copy)]
 pub(crate) enum After {
     GoesOn,
     Closed(EndKind),

@@ -44,7 +44,7 @@ pub(crate) struct Reach {
 }
 
 /// The way to a looper's port: its own, or the door at that place.
-#[derive(Clone, Copy, Debug, PartialEq, Eq)]
+#[derive(Clone, Copy)]
 pub(crate) enum Way {
     Own,
     Through(usize),

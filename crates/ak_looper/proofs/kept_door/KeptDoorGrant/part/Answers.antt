@@ -2,11 +2,34 @@
 use Rattle.std.proofs.Common.{ap, subst, sym, ◌∙◌}
 use Rattle.ak_base.specs.Thread.{keeper_thread}
 use Rattle.ak_turn.specs.Entries.{made_by}
-use Rattle.ak_turn.specs.Steps.{IsNewName}
+use Rattle.ak_turn.specs.Steps.{IsNewName, names_with}
 use Rattle.ak_port.specs.PortCalls as ports
 use Rattle.ak_desk.specs.Shared as desks
-use Rattle.ak_looper.proofs.Doors.{known_still, new_door, new_name}
+use Rattle.ak_looper.proofs.Doors.{known_still, new_door, new_name, still_head}
 use Rattle.ak_looper.proofs.kept_door.KeptDoorGrant.part.Goals as goal
+
+pub invariant_of-self-2-clause-port_of : goal.invariant_of-self-2-clause-port_of
+invariant_of-self-2-clause-port_of c = ap (λ (s : ports.PortSeat). s.lock) c.split-port_seat.ensures.old ∙ c.args.self.now.port_of
+
+pub invariant_of-self-2-clause-port_idle : goal.invariant_of-self-2-clause-port_idle
+invariant_of-self-2-clause-port_idle c = ap (λ (s : ports.PortSeat). s.turn) c.split-port_seat.ensures.old ∙ c.args.self.now.port_idle
+
+pub invariant_of-self-2-clause-desk_of : goal.invariant_of-self-2-clause-desk_of
+invariant_of-self-2-clause-desk_of c = ap (λ (s : desks.DeskSeat). s.lock) c.split-desk_seat.ensures.old ∙ c.args.self.now.desk_of
+
+pub invariant_of-self-2-clause-desk_idle : goal.invariant_of-self-2-clause-desk_idle
+invariant_of-self-2-clause-desk_idle c = ap (λ (s : desks.DeskSeat). s.turn) c.split-desk_seat.ensures.old ∙ c.args.self.now.desk_idle
+
+pub invariant_of-self-2-clause-names : goal.invariant_of-self-2-clause-names
+invariant_of-self-2-clause-names c =
+    ap (λ (s : desks.DeskSeat). s.names) c.split-desk_seat.ensures.old ∙ ap (λ names. names_with names c.args.thread.0) c.args.self.now.names
+    ∙ sym (ap (λ (s : ports.PortSeat). s.names) c.split-port_seat.ensures.old)
+
+pub invariant_of-self-2-clause-head : goal.invariant_of-self-2-clause-head
+invariant_of-self-2-clause-head c = still_head c.args.thread.0 c.args.self.now.port_seat c.split-port_seat.new.seat c.split-port_seat.ensures.old c.args.self.now.head
+
+pub invariant_of-self-2-clause-keeper : goal.invariant_of-self-2-clause-keeper
+invariant_of-self-2-clause-keeper c = ap (λ (s : ports.PortSeat). s.thread) c.split-port_seat.ensures.old ∙ c.args.self.now.keeper
 
 pub invariant_of-self-2-clause-port_known : goal.invariant_of-self-2-clause-port_known
 invariant_of-self-2-clause-port_known c =
