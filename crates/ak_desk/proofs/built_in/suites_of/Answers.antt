@@ -31,3 +31,21 @@ returns-clause-limit c =
     let second = pushed_len _ c.push-2.new.self.items _ c.in_ok-push-2.ensures.items in
     let third = pushed_len _ c.push-3.new.self.items _ c.in_ok-push-3.ensures.items in
     omega (arith, least, first, second, third)
+
+pub returns-then-not-is_own-clause-some : goal.returns-then-not-is_own-clause-some
+returns-then-not-is_own-clause-some c = omega (arith, pushed_len _ c.push-2.new.self.items _ c.in_ok-push-2.ensures.items)
+
+pub returns-then-not-is_own-clause-limit : goal.returns-then-not-is_own-clause-limit
+returns-then-not-is_own-clause-limit c =
+    let least : length c.in_ok-suites.suites.items ≤ 16 = subst (λ (l : List (List ℕ)). length l ≤ 16) (sym c.in_ok-suites.ensures) c.first_suites.ensures.limit in
+    let first = pushed_len _ c.push.new.self.items _ c.in_ok-push.ensures.items in
+    let second = pushed_len _ c.push-2.new.self.items _ c.in_ok-push-2.ensures.items in
+    omega (arith, least, first, second)
+
+pub returns-then-token-ne-LOOPER-clause-some : goal.returns-then-token-ne-LOOPER-clause-some
+returns-then-token-ne-LOOPER-clause-some c = omega (arith, pushed_len _ c.push.new.self.items _ c.in_ok-push.ensures.items)
+
+pub returns-then-token-ne-LOOPER-clause-limit : goal.returns-then-token-ne-LOOPER-clause-limit
+returns-then-token-ne-LOOPER-clause-limit c =
+    let least : length c.in_ok-suites.suites.items ≤ 16 = subst (λ (l : List (List ℕ)). length l ≤ 16) (sym c.in_ok-suites.ensures) c.first_suites.ensures.limit in
+    omega (arith, least, pushed_len _ c.push.new.self.items _ c.in_ok-push.ensures.items)
