@@ -1,6 +1,7 @@
 pub mod Accessing
 pub mod AtOnce
 pub mod Coming
+pub mod Copies
 pub mod Editing
 pub mod Fitting
 pub mod Going

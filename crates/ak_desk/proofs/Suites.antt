@@ -1,5 +1,6 @@
 -- The suites of a handler, one behind the other.
-use Rattle.std.proofs.Common.{◌≡◌, ℕ, Bool, true, false, cond, List, [], ◌∷◌, ◌++◌, take, codes, sym, ap, ◌∙◌, append_assoc}
+use Rattle.std.proofs.Common.{◌≡◌, ℕ, ◌+◌, Bool, true, false, cond, List, [], ◌∷◌, ◌++◌, length, take, codes, sym, ap, ◌∙◌, append_assoc, arith}
+use Rattle.std.proofs.lemmas.List.{length_push}
 use Rattle.ak_action.specs.declared.row.DeskRow.{DeskRow}
 use Rattle.ak_action.specs.declared.state.DeskState.{DeskState}
 use Rattle.ak_action.specs.Doing.{row_of}
@@ -32,3 +33,10 @@ module _ (s : DeskState) (token : ℕ) (row : DeskRow) (same : row_of s token �
       e ∙ ap (λ (l : List (List ℕ)). l ++ application_suite ∷ []) (append_assoc (take 16 row.suites) (handler_suite ∷ []) (looper_suite ∷ []))
       ∙ append_assoc (take 16 row.suites) (handler_suite ∷ looper_suite ∷ []) (application_suite ∷ [])
       ∙ told_with (application_suite ∷ []) (ap (λ (b : Bool). cond b (application_suite ∷ []) []) own)
+
+-- ---- one suite more
+pub pushed_as : (xs ys base : List (List ℕ)) (t name : List ℕ) → ys ≡ xs ++ t ∷ [] → xs ≡ base → t ≡ name → ys ≡ base ++ name ∷ []
+pushed_as xs ys base t name e b n = e ∙ ap (λ (l : List (List ℕ)). l ++ t ∷ []) b ∙ ap (λ (x : List ℕ). base ++ x ∷ []) n
+
+pub pushed_len : (xs ys : List (List ℕ)) (t : List ℕ) → ys ≡ xs ++ t ∷ [] → length ys ≡ length xs + 1
+pushed_len xs ys t e = omega (arith, ap (λ (l : List (List ℕ)). length l) e, length_push xs t)

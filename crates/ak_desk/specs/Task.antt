@@ -68,6 +68,12 @@ abbrev pub IsNoReaction : Task → Type 0
 IsNoReaction (task.Reaction _) = ⊥
 IsNoReaction _ = Unit {0}
 
+-- what is sent on, or is to be, keeps a reply for a refusal
+abbrev pub spare_in : Task → Option (Unit {0})
+spare_in (task.Forward looper popped spare) = Some spare
+spare_in (task.Forwarding spare) = Some spare
+spare_in _ = None
+
 -- ---- what is wanted next
 pub data Wanted : Type 0 where
   wants : Want → Task → DeskState → Wanted

@@ -123,8 +123,8 @@ impl Desk {
         ensures goes_on { OnOk result (DeskMayWant self.new) }
         ensures err { OnErr result (self.new ≡ self.old) }
     {
-        let begun = begun_at(*self.entries.allocator(), &self.state, taken)?;
         self.entries.reserve(2)?;
+        let begun = begun_at(*self.entries.allocator(), &self.state, taken)?;
         self.begun = Some(begun);
         Ok(())
     }
@@ -225,14 +225,16 @@ fn begun_at(alloc: Global, state: &DeskState, taken: &Taken) -> Result<Begun, No
 {
     // Reading how many specifiers are popped shows that no more are than there are.
     let _popped = taken.item.popped();
+    let room = WordRoom::new(alloc)?;
+    let spare = Spare::new(alloc)?;
     let mut message = taken.item.message(alloc)?;
     let route = routed(state, &taken.item, &mut message);
     Ok(Begun {
         position: taken.position,
         route: entry_route(state, route),
         task: Task::start(alloc, state.first, message, route)?,
-        room: WordRoom::new(alloc)?,
-        spare: Spare::new(alloc)?,
+        room,
+        spare,
         item: Snapshot::of(&taken.item),
         before: Snapshot::of(state),
         asked: Trail::new(),

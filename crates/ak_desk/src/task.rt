@@ -1,12 +1,12 @@
 //! What is still to do for a message, step by step.
 
-ghost use Rattle.std.specs.Prelude.{◌≡◌, ◌+◌, ◌<◌, ◌^◌, None, Some, false, ℕ, IfOk, OnErr};
+ghost use Rattle.std.specs.Prelude.{◌≡◌, ◌+◌, ◌<◌, ◌^◌, None, Some, Ok, false, ℕ, IsSome, IsErr, IfOk, OnErr};
 ghost use Rattle.ak_action.specs.declared.state.DeskState.{DeskState};
 ghost use Rattle.ak_action.specs.Acts.{error_of};
 ghost use Rattle.ak_desk.specs.Answering.{AnswersForward};
 ghost use Rattle.ak_desk.specs.Dispatch.{forward_reply};
 ghost use Rattle.ak_desk.specs.Replies.{error_reply};
-ghost use Rattle.ak_desk.specs.Task.{taken_as, ready, task_by, Awaits, MayWant, TakesAnswer, IsDone, IsNoReaction, wants, wants_none, want_of, place_in, starved, heard_of, words_of, reply_of, quits};
+ghost use Rattle.ak_desk.specs.Task.{taken_as, ready, task_by, Awaits, MayWant, TakesAnswer, IsDone, IsNoReaction, wants, wants_none, want_of, place_in, starved, spare_in, heard_of, words_of, reply_of, quits};
 
 use crate::built_in::{built_in_quits, built_in_reply};
 use crate::properties::property_replied;
@@ -110,36 +110,62 @@ impl Task {
         ensures awaits { IfOk result (λ w. Awaits w self.new) }
         ensures ends { OnErr result (IsDone self.new) }
     {
-        match mem::replace(self, starved(alloc, false)) {
+        match &*self {
             Task::Property {
                 token,
                 place,
                 message,
             } => {
-                let reply = property_replied(alloc, state, token, place as usize, &message)?;
-                *self = ready(reply);
-                Ok(Want::Done)
+                let reply = property_replied(alloc, state, *token, *place as usize, message);
+                self.answer(alloc, reply, false)
             }
             Task::BuiltIn { token, message } => {
-                let quit = built_in_quits(state, &message);
                 // Whether the looper is to end does not hang on memory for the reply.
-                *self = starved(alloc, quit);
-                let reply = built_in_reply(alloc, state, token, &message)?;
+                let quit = built_in_quits(state, message);
+                let reply = built_in_reply(alloc, state, *token, message);
+                self.answer(alloc, reply, quit)
+            }
+            Task::Forward { looper, popped, .. } => {
+                let want = Want::Forward {
+                    looper: *looper,
+                    popped: *popped,
+                };
+                self.send_on(alloc);
+                Ok(want)
+            }
+            Task::Reaction(_) | Task::Forwarding { .. } | Task::Done { .. } => Ok(Want::Done),
+        }
+    }
+
+    // Nothing is left to do but to send the reply, or there was no memory for it.
+    fn answer(
+        &mut self,
+        alloc: Global,
+        reply: Result<Message, NoMemory>,
+        quit: bool,
+    ) -> Result<Want, NoMemory>
+        ensures ok { IfOk reply (λ m. (result ≡ Ok Want.Done) × (self.new ≡ Task.Done None (Some m) quit)) }
+        ensures err { OnErr reply (IsErr result × (self.new ≡ starved quit)) }
+    {
+        match reply {
+            Ok(reply) => {
                 *self = done(None, Some(reply), quit);
                 Ok(Want::Done)
             }
-            Task::Forward {
-                looper,
-                popped,
-                spare,
-            } => {
-                *self = Task::Forwarding { spare };
-                Ok(Want::Forward { looper, popped })
+            Err(NoMemory) => {
+                *self = starved(alloc, quit);
+                Err(NoMemory)
             }
-            other => {
-                *self = other;
-                Ok(Want::Done)
-            }
+        }
+    }
+
+    // The message is sent on, and there is no answer yet.
+    fn send_on(&mut self, alloc: Global)
+        requires { IsSome (spare_in self.old) }
+        ensures { self.new ≡ Task.Forwarding tt }
+    {
+        if let Some(spare) = spare_of(mem::replace(self, starved(alloc, false))) {
+            *self = Task::Forwarding { spare };
         }
     }
 
@@ -162,7 +188,7 @@ impl Task {
         ensures heard { (s : DeskState) → heard_of self.old s a ≡ record { task = self.new; state = s } }
         ensures goes_on { MayWant self.new }
     {
-        if let Task::Forwarding { spare } = mem::replace(self, starved(alloc, false)) {
+        if let Some(spare) = spare_of(mem::replace(self, starved(alloc, false))) {
             *self = forwarded(alloc, spare, a);
         }
     }
@@ -194,6 +220,16 @@ impl Task {
                 quit: false,
             },
         }
+    }
+}
+
+// What a message that is sent on, or is to be, keeps for a refusal.
+fn spare_of(task: Task) -> Option<Spare>
+    ensures { result ≡ spare_in task }
+{
+    match task {
+        Task::Forward { spare, .. } | Task::Forwarding { spare } => Some(spare),
+        _ => None,
     }
 }
 
