@@ -6,9 +6,7 @@ use crate::slots::join_slots;
 use ak_base::Items;
 use ak_diary::Histories;
 use ak_doors::Shared;
-use ak_gather::{
-    AllJoined, join_all, keep_all, keep_book, keep_roster, take_all_ways, take_kept,
-};
+use ak_gather::{AllJoined, join_all, keep_all, keep_book, keep_roster, take_all_ways, take_kept};
 use ak_headline::{each_waiting_send_got_one_reply, runs_are_accounted, runs_go_by_rule};
 use ak_looper::KeptDoor;
 use ak_messenger::Hands;

@@ -18,7 +18,7 @@ use std::collections::VecDeque;
 use std::sync::Wait;
 
 /// Where a looper stands in the run: its number, its team's, and the number of the team's first looper.
-#[derive(Clone, Copy, Debug, PartialEq, Eq)]
+#[derive(Drop)]
 pub(crate) struct Place {
     pub(crate) number: u32,
     pub(crate) team: u32,
