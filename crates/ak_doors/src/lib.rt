@@ -1,8 +1,8 @@
-//! Doors to the loopers of a run. Main makes of its own door to a looper, before that starts, one for each thread that is to
-//! have one: the looper itself, the own looper of its team, and the keeper, whose door the roster keeps. With them stand the
-//! objects that all threads of a run share, and what the doors that the roster keeps tell of how many loopers main has
-//! started. Each door leads to the port and the desk that main's leads to, and its thread has done nothing there.
-//! Nothing here waits.
+//! Doors to the loopers of a run. Before a looper starts, main parts its own door to it: one part for the looper's thread,
+//! one for the first looper of the team, and one for the keeper, which the roster keeps. Each part leads to the same port
+//! and desk, and its thread has done nothing there. Next to them are the objects that all threads of a run share, and the
+//! proof that main's own entries at the roster say how many loopers there are: each door that the roster keeps says who
+//! started its looper. Nothing here waits.
 #![tactic(auto)]
 
 mod counting;

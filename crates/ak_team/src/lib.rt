@@ -1,8 +1,8 @@
 //! A team before its threads start. In one turn at the roster main launches an application: it makes a port and a desk for
-//! each looper, greets the first one, parts its doors, and enters the launch with the doors that the roster is to keep. What
-//! a looper's thread is then started with is its job, which is ready. Main alone calls these, and a launch that runs out of
-//! memory makes no entry. A send to a looper waits for room, and each call may wait for its turn.
-//! No thread is started here.
+//! each looper, greets the first one, parts its doors, and enters the launch with the doors that the roster keeps. From
+//! each new looper main then makes the job with which the looper's thread starts. Where memory runs out, a launch makes no
+//! entry, and main's time is as it was. A send to a looper waits for room; other calls wait for turns.
+//! This crate starts no thread.
 #![tactic(auto)]
 
 mod greeting;
