@@ -5,10 +5,10 @@
 //! started its looper. Nothing here waits.
 #![tactic(auto)]
 
-mod counting;
+mod by_main;
 mod doors;
 mod shared;
 
-pub use counting::count_by_main;
+pub use by_main::count_by_main;
 pub use doors::{keep_door, part_door};
 pub use shared::Shared;
