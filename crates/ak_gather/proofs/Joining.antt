@@ -21,10 +21,10 @@ use Rattle.ak_looper.specs.Doors.{door_object}
 use Rattle.ak_looper.specs.Rosters.{Object, RosterSeat}
 use Rattle.ak_gather.specs.declared.gathering.Joined.{Joined}
 use Rattle.ak_gather.specs.declared.member.Member.{Member}
-use Rattle.ak_doors.specs.declared.shared.Shared.{Shared}
-use Rattle.ak_doors.specs.Doors.{HasNoNames}
+use Rattle.ak_looper.specs.declared.shared.Shared.{Shared}
+use Rattle.ak_looper.specs.NoHead.{HasNoNames}
 use Rattle.ak_gather.specs.Gathering.{GoesOnKnowing, IsJoined, TookIn}
-use Rattle.ak_doors.specs.Starts.{StartsAt}
+use Rattle.ak_looper.specs.Starts.{StartsAt}
 use Rattle.ak_gather.specs.Members.{IsMember}
 
 -- ---- a seat that takes in what another one knew

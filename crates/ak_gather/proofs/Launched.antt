@@ -11,7 +11,7 @@ use Rattle.ak_looper.specs.Job.{facts_of}
 use Rattle.ak_looper.specs.Rosters.{Object, RosterSeat}
 use Rattle.ak_looper.specs.Stands.{StartsTeam}
 use Rattle.ak_gather.specs.declared.gathering.Joined.{Joined}
-use Rattle.ak_doors.specs.Starts.{StartsAt}
+use Rattle.ak_looper.specs.Starts.{StartsAt}
 use Rattle.ak_gather.specs.Gathering.{IsJoined, IsRosterOf}
 use Rattle.ak_gather.proofs.Paired.{AllAreJoined}
 use Rattle.ak_gather.proofs.Placed.{number_at}

@@ -35,7 +35,7 @@ use Rattle.ak_gather.specs.declared.gathering.Joined.{Joined}
 use Rattle.ak_gather.specs.Gathering.{AreBooksOf, AreGaining, AreHeadsIn, AreTakenIn, IsBookOf, IsDeskOf, IsHeadFor, IsPortOf}
 use Rattle.ak_gather.specs.Below.{AreBelow, IsBelow}
 use Rattle.ak_gather.proofs.Books.{as_many_desks, as_many_ports}
-use Rattle.ak_doors.proofs.Surface.{threads}
+use Rattle.ak_looper.proofs.Surface.{threads}
 use Rattle.ak_gather.proofs.Knowing.{part_known}
 use Rattle.ak_gather.proofs.Launched.{all_launched}
 use Rattle.ak_gather.proofs.Paired.{AllAreJoined, all_started, door_count, roster_heads}

@@ -19,11 +19,10 @@ use Rattle.ak_looper.specs.Doors.{door_object}
 use Rattle.ak_looper.specs.Rosters as rosters
 use Rattle.ak_looper.specs.Rosters.{Object, RosterSeat}
 use Rattle.ak_looper.specs.Stands.{DoorStands}
-use Rattle.ak_looper.proofs.Surface.{leads_on}
+use Rattle.ak_looper.proofs.Surface.{leads_on, all_by_main, object}
 use Rattle.ak_gather.specs.declared.gathering.Joined.{Joined}
-use Rattle.ak_doors.specs.Counting.{started_by_main, started_in}
+use Rattle.ak_looper.specs.Counting.{started_by_main, started_in}
 use Rattle.ak_gather.specs.Gathering.{AreKeptIn, IsAt, IsJoined, IsRosterOf, IsWayIn}
-use Rattle.ak_doors.proofs.Surface.{all_by_main, object}
 use Rattle.ak_gather.proofs.Taking.{some_same, all_at, at_place}
 use Rattle.ak_gather.proofs.Knowing.{part_known, plain_still}
 use Rattle.ak_gather.proofs.Placed.{kept_in, number_at}

@@ -12,7 +12,7 @@ use Rattle.ak_desk.specs.Shared.{DeskSeat}
 use Rattle.ak_looper.specs.declared.door.Door.{Door}
 use Rattle.ak_looper.specs.declared.kept_door.KeptDoor.{KeptDoor}
 use Rattle.ak_gather.specs.declared.gathering.Joined.{Joined}
-use Rattle.ak_doors.specs.Doors.{HasNoNames}
+use Rattle.ak_looper.specs.NoHead.{HasNoNames}
 use Rattle.ak_gather.specs.Gathering.{AreGaining, AreHeadsIn, AreKeptIn, AreTakenIn, AreWaysIn, GoesOnKnowing, HasTakenAt, IsAt, IsGaining, IsHeadFor, IsTakenIn, IsWayIn, TookBothIn, is_short, short_of}
 use Rattle.ak_gather.proofs.Joining.{goes_on_knowing, knows_as_before, knows_further, took}
 

@@ -50,7 +50,7 @@ use Rattle.ak_looper.proofs.Surface.{is_stranger, no_entries, no_sights, plain_s
 use Rattle.ak_gather.specs.declared.gathering.Joined.{Joined}
 use Rattle.ak_gather.specs.Ending.{IsRunOfLoopers}
 use Rattle.ak_gather.specs.Gathering.{IsGaining, IsJoined, IsTakenIn, IsWayIn, TookBothIn, is_short, short_of}
-use Rattle.ak_doors.specs.Starts.{StartsAt}
+use Rattle.ak_looper.specs.Starts.{StartsAt}
 use Rattle.ak_gather.specs.Below.{AreBelow}
 use Rattle.ak_gather.proofs.Books.{all_desks, all_ports, as_many_desks, as_many_ports}
 use Rattle.ak_gather.proofs.Elsewhere.{elsewhere}

@@ -34,8 +34,8 @@ use Rattle.ak_looper.specs.Rosters as rosters
 use Rattle.ak_looper.specs.Rosters.{LeadsTo, Object, RosterSeat}
 use Rattle.ak_gather.specs.declared.gathering.AllJoined.{AllJoined}
 use Rattle.ak_gather.specs.declared.gathering.Joined.{Joined}
-use Rattle.ak_doors.specs.Doors.{HasNoNames}
-use Rattle.ak_doors.specs.Starts.{StartsAt}
+use Rattle.ak_looper.specs.NoHead.{HasNoNames}
+use Rattle.ak_looper.specs.Starts.{StartsAt}
 use Rattle.ak_port.specs.PortCalls as at_ports
 
 -- ---- behind main's seats

@@ -12,9 +12,9 @@ use Rattle.ak_action.specs.declared.state.DeskState.{DeskState}
 use Rattle.ak_looper.specs.Job.{IsReady, facts_of, HasLived}
 use Rattle.ak_looper.specs.Rosters as rosters
 use Rattle.ak_looper.specs.Rosters.{LeadsTo}
-use Rattle.ak_doors.specs.declared.shared.Shared.{Shared}
-use Rattle.ak_doors.specs.Doors.{HasNoNames}
-use Rattle.ak_doors.specs.Starts.{StartsAt}
+use Rattle.ak_looper.specs.declared.shared.Shared.{Shared}
+use Rattle.ak_looper.specs.NoHead.{HasNoNames}
+use Rattle.ak_looper.specs.Starts.{StartsAt}
 use Rattle.ak_looper.specs.declared.job.LooperJob.{LooperJob}
 use Rattle.ak_gather.specs.declared.member.Life.{Life}
 use Rattle.ak_gather.specs.declared.member.Life.TheVariants as life

@@ -3,7 +3,7 @@ ghost use Rattle.std.specs.Prelude.{◌≡◌, ◌≤◌, ◌+◌, ℕ, suc, [],
 ghost use Rattle.std.specs.Arc.{arc_value};
 ghost use Rattle.ak_turn.specs.Seats.{joined_seat};
 ghost use Rattle.ak_roster.specs.declared.head.AppHead.{AppHead};
-ghost use Rattle.ak_doors.specs.declared.shared.Shared.{Shared};
+ghost use Rattle.ak_looper.specs.declared.shared.Shared.{Shared};
 ghost use Rattle.ak_gather.specs.Gathering.{AreBooksOf, AreGaining, AreHeadsIn, AreKeptIn, AreTakenIn, AreWaysIn, GoesOnKnowing, HasRoomFor, HasTakenAt, HoldsNothing, IsAt, IsBookOf, IsDeskOf, IsJoined, IsNoHead, IsPortOf, IsRosterOf, IsTakenIn, IsWayIn, is_short, joined_desk_front, joined_front, short_of};
 ghost use Rattle.ak_gather.specs.Members.{member_desk_front, member_front, IsMember};
 

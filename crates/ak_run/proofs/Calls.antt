@@ -27,9 +27,9 @@ use Rattle.ak_headline.specs.Main.{MayEnterPort}
 use Rattle.ak_looper.specs.declared.door.Door.{Door}
 use Rattle.ak_gather.specs.declared.member.Member.{Member}
 use Rattle.ak_run.specs.declared.run.Run.{Run}
-use Rattle.ak_doors.specs.Counting.{started_by_main}
+use Rattle.ak_looper.specs.Counting.{started_by_main}
 use Rattle.ak_run.specs.Doing.{AskedSo, DoesSo, EnteredSo, desk_front}
-use Rattle.ak_doors.specs.Doors.{KeepsDoor, KeepsSeats}
+use Rattle.ak_team.specs.Doors.{KeepsDoor, KeepsSeats}
 use Rattle.ak_run.specs.Entering.{AreAtPorts}
 use Rattle.ak_team.specs.InTime.{AddsAtPort}
 use Rattle.ak_run.specs.Recording.{fronts_of}

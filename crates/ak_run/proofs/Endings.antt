@@ -24,7 +24,7 @@ use Rattle.ak_run.specs.declared.run.Run.{Run}
 use Rattle.ak_run.specs.declared.slots.Slots.{Slots}
 use Rattle.ak_session.specs.declared.session.Session.{Session}
 use Rattle.ak_session.specs.Stands.{Stands}
-use Rattle.ak_doors.specs.Counting.{started_in}
+use Rattle.ak_looper.specs.Counting.{started_in}
 use Rattle.ak_gather.specs.Ending.{IsRunOfLoopers}
 use Rattle.ak_gather.specs.Gathering.{GoesOnKnowing, IsJoined, IsRosterOf}
 use Rattle.ak_run.specs.AtEnd.{SessionDone, SessionsDone}

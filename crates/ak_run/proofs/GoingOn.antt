@@ -14,7 +14,7 @@ use Rattle.ak_desk.specs.Shared as at_desks
 use Rattle.ak_looper.specs.Rosters.{Object, RosterSeat, plain_of}
 use Rattle.ak_gather.specs.declared.member.Member.{Member}
 use Rattle.ak_run.specs.declared.run.Run.{Run}
-use Rattle.ak_doors.specs.Counting.{started_by_main}
+use Rattle.ak_looper.specs.Counting.{started_by_main}
 use Rattle.ak_run.specs.Doing.{IsQuietAtDesks, desk_front}
 use Rattle.ak_run.specs.Recording.{HasRecord, Records, RecordsBeside, fronts_of, fronts_with}
 use Rattle.ak_gather.specs.Members.{member_desk_front}

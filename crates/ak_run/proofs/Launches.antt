@@ -31,19 +31,19 @@ use Rattle.ak_session.specs.declared.answers.Found.{Found}
 use Rattle.ak_team.specs.declared.launching.Launch.{Launch}
 use Rattle.ak_team.specs.declared.launching.Launch.TheVariants as launch
 use Rattle.ak_team.specs.declared.launching.StartedTeam.{StartedTeam}
-use Rattle.ak_doors.specs.declared.shared.Shared.{Shared}
+use Rattle.ak_looper.specs.declared.shared.Shared.{Shared}
 use Rattle.ak_run.specs.declared.run.Run.{Run}
 use Rattle.ak_run.specs.Closing.{ClosesSo, EntersGone, FindsGone, IsRecordedAtRoster, LeavesBook, LeavesSo}
-use Rattle.ak_doors.specs.Counting.{started_by_main, Book, ByMain}
+use Rattle.ak_looper.specs.Counting.{started_by_main}
+use Rattle.ak_team.specs.Launching.{Book, ByMain, ComesTo, HasEntered, HasStarted, IsTurnInTime, LaunchInTime, TellsTeam, turn_step}
 use Rattle.ak_run.specs.Doing.{DoesSo, LaunchesAt, desk_front}
 use Rattle.ak_session.specs.Doing.{FindsAt, FoundSo}
 use Rattle.ak_run.specs.Entering.{DoesWith, EntersLaunch, EntersRunning, LaunchesLast}
 use Rattle.ak_run.specs.Finding.{LooksUp}
 use Rattle.ak_session.specs.Calls.{IsFoundAt}
 use Rattle.ak_team.specs.Greeting.{at_looper, capacities_in, made_from, start_entries, told_first, written_from}
-use Rattle.ak_doors.specs.Starts.{StartsAt}
+use Rattle.ak_looper.specs.Starts.{StartsAt}
 use Rattle.ak_team.specs.Jobs.{facts_in}
-use Rattle.ak_team.specs.Launching.{ComesTo, HasEntered, HasStarted, IsTurnInTime, LaunchInTime, TellsTeam, turn_step}
 use Rattle.ak_team.specs.NewTeam.{IsNewTeam, IsOneOf}
 use Rattle.ak_run.specs.Recording.{GoesBy, fronts, fronts_of, fronts_with}
 use Rattle.ak_gather.specs.Members.{member_front}
@@ -61,7 +61,7 @@ use Rattle.ak_team.proofs.Surface.{one_at_least, plain-append, all_paired, own_w
 use Rattle.ak_run.proofs.Recorded.{no_event, one_event, record_on, turn_goes}
 use Rattle.ak_run.proofs.RosterTurn.{RosterOn, goes_on, sees_all, started_at_turn}
 use Rattle.ak_run.proofs.Standing.{BookOn, same_loopers, stands_on}
-use Rattle.ak_doors.proofs.Surface.{object}
+use Rattle.ak_looper.proofs.Surface.{object}
 
 -- whatever it comes to, main entered one entry or none
 pub comes_entered : (apps : List AppText) (shared : Shared) (word : AppWord) (book book' : Book) (l : Launch) → ComesTo apps shared word book book' l → (what : Option RosterEvent) × (n : ℕ) × HasEntered what n book book'

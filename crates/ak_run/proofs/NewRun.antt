@@ -21,7 +21,7 @@ use Rattle.ak_looper.specs.Rosters.{Object, RosterSeat}
 use Rattle.ak_desk.specs.Shared as at_desks
 use Rattle.ak_gather.specs.declared.member.Member.{Member}
 use Rattle.ak_run.specs.declared.run.Run.{Run}
-use Rattle.ak_doors.specs.Counting.{started_by_main}
+use Rattle.ak_looper.specs.Counting.{started_by_main}
 use Rattle.ak_run.specs.Doing.{HasDoneSoFar, IsRecordedAtDesks, desk_front}
 use Rattle.ak_run.proofs.GoingOn.{desk_in}
 use Rattle.ak_run.proofs.Recorded.{nothing_yet}

@@ -25,8 +25,7 @@ use Rattle.ak_gather.specs.declared.member.Member.{Member}
 use Rattle.ak_run.specs.declared.run.Run.{Run}
 use Rattle.ak_run.specs.Ending.{EndsAs}
 use Rattle.ak_gather.specs.Gathering.{AreBooksOf, AreGaining, IsGaining, IsJoined}
-use Rattle.ak_doors.specs.Counting.{Book}
-use Rattle.ak_team.specs.Launching.{HasEntered}
+use Rattle.ak_team.specs.Launching.{Book, HasEntered}
 use Rattle.ak_team.specs.Jobs.{IsLaunchOf}
 use Rattle.ak_run.specs.Opened.{WasOpened, WereOpened}
 use Rattle.ak_gather.specs.Members.{IsMember}

@@ -23,8 +23,7 @@ use Rattle.ak_looper.specs.declared.door.Door.{Door}
 use Rattle.ak_looper.specs.Rosters.{Object, RosterSeat, by_number, plain_of}
 use Rattle.ak_gather.specs.declared.member.Member.{Member}
 use Rattle.ak_run.specs.declared.run.Run.{Run}
-use Rattle.ak_doors.specs.Counting.{Book}
-use Rattle.ak_team.specs.Launching.{HasEntered, IsTurnInTime, turn_step}
+use Rattle.ak_team.specs.Launching.{Book, HasEntered, IsTurnInTime, turn_step}
 use Rattle.ak_run.specs.Recording.{Fronts, GoesBy, HasRecord, IsRecorded, Records, RecordsAtNew, RecordsBeside, RecordsSo, RecordsStart, StartsQuietly, fronts, fronts_of, fronts_with, list_at}
 use Rattle.ak_gather.specs.Members.{member_front}
 use Rattle.ak_run.proofs.Acting.{ActsAtBoth, roster_goes, turn_no_edits}

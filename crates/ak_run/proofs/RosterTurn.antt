@@ -14,8 +14,8 @@ use Rattle.ak_roster.specs.Kept.{count_of}
 use Rattle.ak_roster.specs.Roster.{plain_entries}
 use Rattle.ak_looper.specs.Rosters.{Object, RosterSeat, by_number, maker_of}
 use Rattle.ak_looper.proofs.Surface.{made_on}
-use Rattle.ak_doors.specs.Counting.{started_by_main, started_in, Book}
-use Rattle.ak_team.specs.Launching.{HasEntered}
+use Rattle.ak_looper.specs.Counting.{started_by_main, started_in}
+use Rattle.ak_team.specs.Launching.{Book, HasEntered}
 use Rattle.ak_team.proofs.Surface.{plain-append}
 
 abbrev Entries : Type 0

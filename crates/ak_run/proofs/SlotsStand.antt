@@ -13,7 +13,7 @@ use Rattle.ak_looper.specs.declared.door.Door.{Door}
 use Rattle.ak_looper.specs.Rosters.{RosterSeat}
 use Rattle.ak_session.specs.declared.session.Session.{Session}
 use Rattle.ak_session.specs.Stands.{IsStanding}
-use Rattle.ak_doors.specs.declared.shared.Shared.{Shared}
+use Rattle.ak_looper.specs.declared.shared.Shared.{Shared}
 use Rattle.ak_run.specs.declared.slots.Slot.{Slot}
 use Rattle.ak_run.specs.declared.slots.Slots.{Slots}
 use Rattle.ak_gather.specs.Gathering.{GoesOnKnowing}

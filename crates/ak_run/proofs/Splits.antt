@@ -32,14 +32,14 @@ use Rattle.ak_looper.specs.Rosters.{LeadsTo, Object, RosterSeat, maker_of, plain
 use Rattle.ak_team.specs.declared.launching.Team.{Team}
 use Rattle.ak_gather.specs.declared.member.Member.{Member}
 use Rattle.ak_team.specs.declared.new_looper.NewLooper.{NewLooper}
-use Rattle.ak_doors.specs.declared.shared.Shared.{Shared}
+use Rattle.ak_looper.specs.declared.shared.Shared.{Shared}
 use Rattle.ak_run.specs.declared.run.Run.{Run}
 use Rattle.ak_run.specs.declared.slots.Slots.{Slots}
-use Rattle.ak_doors.specs.Counting.{started_by_main}
-use Rattle.ak_doors.specs.Doors.{HasNoNames}
+use Rattle.ak_looper.specs.Counting.{started_by_main}
+use Rattle.ak_looper.specs.NoHead.{HasNoNames}
 use Rattle.ak_gather.specs.Gathering.{HasRoomFor, HoldsNothing}
 use Rattle.ak_team.specs.Jobs.{CanStart, IsJobOf, facts_in, IsLaunchOf}
-use Rattle.ak_doors.specs.Starts.{StartsAt}
+use Rattle.ak_looper.specs.Starts.{StartsAt}
 use Rattle.ak_gather.specs.Members.{IsLifeOf, member_desk_front, IsMember}
 use Rattle.ak_run.specs.Members.{StillLeads}
 use Rattle.ak_team.specs.NewLooper.{IsNewLooper}
@@ -49,7 +49,7 @@ use Rattle.ak_run.specs.Sessions.{session_count, session_limit, told_in}
 use Rattle.ak_run.specs.Starting.{GoesOnAtNew, GoesOnWith, HasSplit, MayStart}
 use Rattle.ak_run.proofs.GoingOn.{desks_then, push_desks, same_desks}
 use Rattle.ak_gather.proofs.Surface.{some_same}
-use Rattle.ak_doors.proofs.Surface.{by_others, nothing_by_new}
+use Rattle.ak_team.proofs.Surface.{by_others, nothing_by_new}
 use Rattle.ak_run.proofs.Standing.{leads_still, member_sees, slots_still}
 
 -- ---- names

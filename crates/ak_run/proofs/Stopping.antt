@@ -27,8 +27,7 @@ use Rattle.ak_gather.specs.declared.member.Member.{Member}
 use Rattle.ak_team.specs.declared.new_looper.NewLooper.{NewLooper}
 use Rattle.ak_team.specs.declared.new_team.NewTeam.{NewTeam}
 use Rattle.ak_run.specs.declared.run.Run.{Run}
-use Rattle.ak_doors.specs.Counting.{Book}
-use Rattle.ak_team.specs.Launching.{HasEntered, IsTurnInTime, turn_step}
+use Rattle.ak_team.specs.Launching.{Book, HasEntered, IsTurnInTime, turn_step}
 use Rattle.ak_run.specs.Recording.{Fronts, GoesBy, RecordsAtNew, RecordsBesideSo, RecordsSo, RecordsStart, fronts, fronts_with}
 use Rattle.ak_gather.specs.Members.{member_front}
 use Rattle.ak_team.specs.InTime.{new_front, team_fronts}

@@ -18,8 +18,7 @@ use Rattle.ak_headline.specs.Run.{roster_maker}
 use Rattle.ak_looper.specs.Rosters.{plain_of}
 use Rattle.ak_run.specs.declared.run.Run.{Run}
 use Rattle.ak_run.specs.Closing.{ClosesSo, EndsTeam, EndsTeams, IsRecordedAtRoster, LeavesBook, LeavesSo, ports_of}
-use Rattle.ak_doors.specs.Counting.{Book}
-use Rattle.ak_team.specs.Launching.{HasEntered}
+use Rattle.ak_team.specs.Launching.{Book, HasEntered}
 use Rattle.ak_run.specs.Recording.{GoesBy, RecordsSo, fronts_of}
 use Rattle.ak_run.proofs.Acts.{goes_then, same_goes, then_those}
 use Rattle.ak_gather.proofs.Surface.{nothing_after}

@@ -18,7 +18,7 @@ use Rattle.ak_team.specs.declared.new_looper.NewLooper.{NewLooper}
 use Rattle.ak_team.specs.declared.new_team.NewTeam.{NewTeam}
 use Rattle.ak_run.specs.declared.run.Run.{Run}
 use Rattle.ak_team.specs.Jobs.{HasWays, IsStartedFrom, IsStartedIn, facts_in, IsLaunchOf, IsPaired}
-use Rattle.ak_doors.specs.Starts.{StartsAt}
+use Rattle.ak_looper.specs.Starts.{StartsAt}
 use Rattle.ak_team.specs.NewTeam.{AreOthers, IsOneOf}
 use Rattle.ak_run.specs.Starting.{GoesOnWith, IsStarting, MayStart, MayStartTeam}
 use Rattle.ak_run.proofs.GoingOn.{plain_on, with_then_with}

@@ -37,7 +37,7 @@ use Rattle.ak_looper.proofs.Surface.{leads_on, none_of_door, own_entries, plain_
 use Rattle.ak_session.specs.declared.session.Session.{Session}
 use Rattle.ak_session.specs.Stands.{DoorStands, IsAtOneOf, IsStanding, Stands, numbers_of}
 use Rattle.ak_gather.specs.declared.gathering.Joined.{Joined}
-use Rattle.ak_doors.specs.declared.shared.Shared.{Shared}
+use Rattle.ak_looper.specs.declared.shared.Shared.{Shared}
 use Rattle.ak_run.specs.declared.slots.Slots.{Slots}
 use Rattle.ak_run.specs.AtEnd.{SessionDone}
 use Rattle.ak_gather.specs.Gathering.{AreTakenIn, AreWaysIn, TookBothIn, IsTakenIn, IsWayIn, TookIn}

@@ -11,7 +11,7 @@ use Rattle.ak_describe.specs.Whole.{IsWholeApp, heads_of}
 use Rattle.ak_looper.specs.Rosters as rosters
 use Rattle.ak_gather.specs.declared.member.Member.{Member}
 use Rattle.ak_run.specs.declared.run.Run.{Run}
-use Rattle.ak_doors.specs.Counting.{started_by_main}
+use Rattle.ak_looper.specs.Counting.{started_by_main}
 use Rattle.ak_run.specs.Doing.{desk_front}
 use Rattle.ak_gather.specs.Gathering.{HasRoomFor, HoldsNothing}
 use Rattle.ak_gather.specs.Members.{IsMember}

@@ -18,7 +18,7 @@ use Rattle.ak_team.specs.declared.launching.Team.{Team}
 use Rattle.ak_team.specs.declared.new_looper.NewLooper.{NewLooper}
 use Rattle.ak_team.specs.declared.new_team.NewTeam.{NewTeam}
 use Rattle.ak_run.specs.declared.run.Run.{Run}
-use Rattle.ak_doors.specs.Counting.{started_by_main}
+use Rattle.ak_looper.specs.Counting.{started_by_main}
 use Rattle.ak_run.specs.Doing.{IsQuietAtDesks, desk_front}
 use Rattle.ak_team.specs.Jobs.{HasWays, IsStartedFrom, IsStartedIn, facts_in, IsPaired}
 use Rattle.ak_team.specs.NewLooper.{IsNewLooper}

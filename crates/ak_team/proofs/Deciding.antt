@@ -21,12 +21,11 @@ use Rattle.ak_describe.specs.declared.described.AppText.{AppText}
 use Rattle.ak_describe.specs.Whole.{IsWholeApp, head_of, heads_of}
 use Rattle.ak_team.specs.declared.launching.Launch.{Launch}
 use Rattle.ak_team.specs.declared.launching.Launch.TheVariants as answer
-use Rattle.ak_doors.specs.declared.shared.Shared.{Shared}
+use Rattle.ak_looper.specs.declared.shared.Shared.{Shared}
 use Rattle.ak_team.specs.declared.new_team.Making.{Making}
 use Rattle.ak_team.specs.declared.new_team.NewTeam.{NewTeam}
 use Rattle.ak_team.specs.Greeting.{EachMains, FirstHoldsTwo, capacities_in, port_events, told_first, written_from}
-use Rattle.ak_doors.specs.Counting.{Book}
-use Rattle.ak_team.specs.Launching.{ComesTo, HasEntered, IsDecided, IsMade, IsRunningTeam, IsTeamOf, IsTurnInTime, LaunchInTime, TellsTeam}
+use Rattle.ak_team.specs.Launching.{Book, ComesTo, HasEntered, IsDecided, IsMade, IsRunningTeam, IsTeamOf, IsTurnInTime, LaunchInTime, TellsTeam}
 use Rattle.ak_team.specs.NewTeam.{IsNewTeam}
 use Rattle.ak_team.specs.Opening.{FitPlaces}
 use Rattle.ak_team.specs.InTime.{ArePortsInTime, team_fronts}

@@ -30,8 +30,8 @@ use Rattle.ak_headline.specs.Main.{MayEnterRoster}
 use Rattle.ak_looper.specs.declared.kept_door.KeptDoor.{KeptDoor}
 use Rattle.ak_looper.specs.Rosters.{Object}
 use Rattle.ak_looper.proofs.Surface.{last_shown}
-use Rattle.ak_doors.specs.Counting.{started_in, Book}
-use Rattle.ak_team.specs.Launching.{HasEntered, IsTurnInTime, turn_step}
+use Rattle.ak_looper.specs.Counting.{started_in}
+use Rattle.ak_team.specs.Launching.{Book, HasEntered, IsTurnInTime, turn_step}
 use Rattle.ak_team.specs.InTime.{AreInTime}
 use Rattle.std.proofs.lemmas.List.{map-append}
 

@@ -24,7 +24,7 @@ use Rattle.ak_looper.specs.Stands.{DoorStands, StartsTeam, doors_kept}
 use Rattle.ak_team.specs.declared.launching.Team.{Team}
 use Rattle.ak_team.specs.declared.new_looper.NewLooper.{NewLooper}
 use Rattle.ak_team.specs.Jobs.{CanStart, facts_in}
-use Rattle.ak_doors.specs.Starts.{StartsAt}
+use Rattle.ak_looper.specs.Starts.{StartsAt}
 
 -- threads with one number are one
 same_thread : (a b : ThreadId) → a.0 ≡ b.0 → a ≡ b

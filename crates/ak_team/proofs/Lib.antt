@@ -1,6 +1,7 @@
 pub mod Adding
 pub mod Deciding
 pub mod Entering
+pub mod Heads
 pub mod Jobs
 pub mod Makings
 pub mod NewDoors

@@ -12,7 +12,7 @@ use Rattle.ak_looper.specs.declared.kept_door.KeptDoor.{KeptDoor}
 use Rattle.ak_team.specs.declared.new_looper.NewLooper.{NewLooper}
 use Rattle.ak_team.specs.declared.new_looper.Other.{Other}
 use Rattle.ak_team.specs.declared.new_looper.Own.{Own}
-use Rattle.ak_doors.specs.declared.shared.Shared.{Shared}
+use Rattle.ak_looper.specs.declared.shared.Shared.{Shared}
 use Rattle.ak_team.specs.declared.new_team.NewTeam.{NewTeam}
 use Rattle.ak_team.specs.declared.opening.Opened.{Opened}
 use Rattle.ak_team.specs.NewLooper.{IsKept, IsNewLooper, IsNewOther, IsNewOwn, own_threads}

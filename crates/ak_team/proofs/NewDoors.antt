@@ -11,8 +11,9 @@ use Rattle.ak_desk.specs.Shared as desks
 use Rattle.ak_looper.specs.declared.door.Door.{Door}
 use Rattle.ak_looper.specs.Doors.{IsNewDoor}
 use Rattle.ak_looper.proofs.Surface.{new_door}
-use Rattle.ak_doors.specs.Doors.{HasGivenUpNames, HasNames, HasNoNames, HasParted, IsNewAt, IsPartOf, KeepsDoor, KnowsBoth}
-use Rattle.ak_doors.proofs.Surface.{made_nothing}
+use Rattle.ak_team.specs.Doors.{HasGivenUpNames, HasNames, HasParted, IsNewAt, IsPartOf, KeepsDoor, KnowsBoth}
+use Rattle.ak_looper.specs.NoHead.{HasNoNames}
+use Rattle.ak_team.proofs.Heads.{made_nothing}
 
 -- ---- names
 -- who is none of the names has had no seat

@@ -14,10 +14,11 @@ use Rattle.ak_looper.specs.declared.door.Door.{Door}
 use Rattle.ak_looper.specs.declared.kept_door.KeptDoor.{KeptDoor}
 use Rattle.ak_looper.specs.Doors.{IsNewDoor}
 use Rattle.ak_team.specs.declared.new_looper.NewLooper.{NewLooper}
-use Rattle.ak_doors.specs.declared.shared.Shared.{Shared}
+use Rattle.ak_looper.specs.declared.shared.Shared.{Shared}
 use Rattle.ak_team.specs.declared.opening.Opened.{Opened}
-use Rattle.ak_doors.specs.Doors.{HasNames, HasNoNames, IsKeptOf, IsNewAt, IsPartOf, KeepsDoor, KnowsBoth}
-use Rattle.ak_doors.specs.Shared.{AreSame}
+use Rattle.ak_team.specs.Doors.{HasNames, IsKeptOf, IsNewAt, IsPartOf, KeepsDoor, KnowsBoth}
+use Rattle.ak_looper.specs.NoHead.{HasNoNames}
+use Rattle.ak_looper.specs.Shared.{AreSame}
 use Rattle.ak_team.specs.NewLooper.{IsKept, IsNewLooper, IsWay}
 use Rattle.ak_team.specs.Opening.{IsOpenedAt}
 use Rattle.ak_team.proofs.NewDoors.{LeadsAsBefore, new_beside, new_part, part_no_head, part_takes}

@@ -24,15 +24,14 @@ use Rattle.ak_looper.specs.declared.kept_door.KeptDoor.{KeptDoor}
 use Rattle.ak_looper.specs.Rosters.{Object}
 use Rattle.ak_looper.specs.Stands.{StartsTeam}
 use Rattle.ak_team.specs.declared.launching.StartedTeam.{StartedTeam}
-use Rattle.ak_doors.specs.declared.shared.Shared.{Shared}
+use Rattle.ak_looper.specs.declared.shared.Shared.{Shared}
 use Rattle.ak_team.specs.declared.new_team.Making.{Making}
 use Rattle.ak_team.specs.declared.new_team.NewTeam.{NewTeam}
-use Rattle.ak_doors.specs.Starts.{StartsAt}
+use Rattle.ak_looper.specs.Starts.{StartsAt}
 use Rattle.ak_team.specs.Jobs.{facts_in}
-use Rattle.ak_doors.specs.Counting.{Book}
-use Rattle.ak_team.specs.Launching.{HasEntered, HasStarted, IsDecided, IsMade}
+use Rattle.ak_team.specs.Launching.{Book, HasEntered, HasStarted, IsDecided, IsMade}
 use Rattle.ak_team.specs.NewTeam.{IsNewTeam}
-use Rattle.ak_doors.proofs.Surface.{threads, object}
+use Rattle.ak_looper.proofs.Surface.{threads, object}
 use Rattle.ak_team.proofs.Entering.{one_entered}
 use Rattle.ak_team.proofs.Ways.{doors_kept_so, kept_count}
 

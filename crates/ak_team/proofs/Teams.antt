@@ -6,7 +6,7 @@ use Rattle.ak_action.specs.declared.plan.PlanParts.{PlanParts}
 use Rattle.ak_looper.specs.declared.door.Door.{Door}
 use Rattle.ak_looper.specs.declared.kept_door.KeptDoor.{KeptDoor}
 use Rattle.ak_team.specs.declared.new_looper.NewLooper.{NewLooper}
-use Rattle.ak_doors.specs.declared.shared.Shared.{Shared}
+use Rattle.ak_looper.specs.declared.shared.Shared.{Shared}
 use Rattle.ak_team.specs.declared.opening.Opened.{Opened}
 use Rattle.ak_team.specs.NewTeam.{AreOthers, IsOther}
 use Rattle.ak_team.specs.Opening.{AreOpened, IsOpenedAt}

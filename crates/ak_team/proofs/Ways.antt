@@ -15,12 +15,12 @@ use Rattle.ak_looper.specs.declared.kept_door.KeptDoor.{KeptDoor}
 use Rattle.ak_looper.specs.Doors.{IsNewDoor, door_object}
 use Rattle.ak_looper.specs.Rosters.{LeadsTo, Object, RosterSeat}
 use Rattle.ak_team.specs.declared.new_looper.NewLooper.{NewLooper}
-use Rattle.ak_doors.specs.declared.shared.Shared.{Shared}
+use Rattle.ak_looper.specs.declared.shared.Shared.{Shared}
 use Rattle.ak_team.specs.declared.new_team.NewTeam.{NewTeam}
 use Rattle.ak_team.specs.Jobs.{HasWays, IsPaired}
 use Rattle.ak_team.specs.NewLooper.{other_threads, own_threads}
 use Rattle.ak_team.specs.NewTeam.{AreOthers, IsNewTeam}
-use Rattle.ak_doors.proofs.Surface.{threads, object}
+use Rattle.ak_looper.proofs.Surface.{threads, object}
 
 -- ---- the threads that they tell
 abbrev new_looper : ℕ → LooperData

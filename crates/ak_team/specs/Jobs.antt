@@ -24,7 +24,7 @@ use Rattle.ak_base.specs.declared.app_word.AppWord.{AppWord}
 use Rattle.ak_roster.specs.declared.entry.RosterEntry.{RosterEntry}
 use Rattle.ak_roster.specs.declared.entry.RosterEvent.TheVariants as event
 use Rattle.ak_roster.specs.declared.entry.LaunchOutcome.TheVariants as outcome
-use Rattle.ak_doors.specs.Starts.{StartsAt}
+use Rattle.ak_looper.specs.Starts.{StartsAt}
 
 -- by a launch of the application at that place among the descriptions this team was started, whose first looper has that number
 abbrev pub IsLaunchOf : ℕ → ℕ → ℕ → RosterEntry → Type 0

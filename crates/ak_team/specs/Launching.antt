@@ -4,6 +4,7 @@ use Rattle.std.specs.Arc.{arc_value}
 use Rattle.std.specs.List.{find}
 use Rattle.ak_base.specs.Limits.{looper_limit}
 use Rattle.ak_base.specs.Thread.{main_thread}
+use Rattle.ak_turn.specs.Entries.{made_by}
 use Rattle.ak_turn.specs.Noted.{note}
 use Rattle.ak_roster.specs.declared.entry.EntryWithObjects.{EntryWithObjects}
 use Rattle.ak_roster.specs.declared.entry.RosterEvent.{RosterEvent}
@@ -13,7 +14,7 @@ use Rattle.ak_message.specs.Message.{MessageData}
 use Rattle.ak_roster.specs.Machine.{launch_of, loopers_at, runs_team}
 use Rattle.ak_roster.specs.declared.team.Running.{Running}
 use Rattle.ak_roster.specs.declared.entry.LaunchOutcome.TheVariants as outcome
-use Rattle.ak_roster.specs.Roster.{objects_of, plain_entries, state}
+use Rattle.ak_roster.specs.Roster.{RosterData, objects_of, plain_entries, state}
 use Rattle.ak_action.specs.declared.plan.PlanParts.{PlanParts}
 use Rattle.ak_action.specs.declared.state.DeskState.{DeskState}
 use Rattle.ak_describe.specs.declared.described.AppText.{AppText}
@@ -21,19 +22,27 @@ use Rattle.ak_diary.specs.Step.{Step, at_roster}
 use Rattle.ak_headline.specs.Main.{MayEnterRoster}
 use Rattle.ak_looper.specs.declared.kept_door.KeptDoor.{KeptDoor}
 use Rattle.ak_looper.specs.Doors.{door_object}
-use Rattle.ak_looper.specs.Rosters.{Object}
+use Rattle.ak_looper.specs.Rosters.{Object, maker_of}
 use Rattle.ak_team.specs.declared.launching.Launch.{Launch}
 use Rattle.ak_team.specs.declared.launching.Launch.TheVariants as launch
 use Rattle.ak_team.specs.declared.launching.StartedTeam.{StartedTeam}
 use Rattle.ak_team.specs.declared.new_team.Making.{Making}
-use Rattle.ak_doors.specs.declared.shared.Shared.{Shared}
+use Rattle.ak_looper.specs.declared.shared.Shared.{Shared}
 use Rattle.ak_team.specs.declared.new_team.NewTeam.{NewTeam}
-use Rattle.ak_doors.specs.Counting.{started_in, Book}
-use Rattle.ak_doors.specs.Starts.{StartsAt}
+use Rattle.ak_looper.specs.Counting.{started_in}
+use Rattle.ak_looper.specs.Starts.{StartsAt}
 use Rattle.ak_team.specs.Jobs.{facts_in}
 use Rattle.ak_team.specs.Greeting.{EachMains, capacities_in, port_events, told_first, written_from}
 use Rattle.ak_team.specs.NewTeam.{IsNewTeam, IsOneOf}
 use Rattle.ak_team.specs.InTime.{AreInTime, ArePortsInTime, team_fronts}
+
+-- what a roster's book has
+abbrev pub Book : Type 0
+Book = RosterData KeptDoor Object
+
+-- as many loopers were started as main's own entries tell
+abbrev pub ByMain : Book → Type 0
+ByMain book = length (state book).loopers ≡ started_in book.heads (made_by maker_of main_thread (plain_entries book.entries))
 
 abbrev pub one_or_none : Option RosterEvent → List RosterEvent
 one_or_none None = []

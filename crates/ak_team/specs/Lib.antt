@@ -1,3 +1,4 @@
+pub mod Doors
 pub mod Greeting
 pub mod InTime
 pub mod Jobs

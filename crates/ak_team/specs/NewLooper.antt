@@ -15,9 +15,9 @@ use Rattle.ak_looper.specs.Doors.{IsNewDoor}
 use Rattle.ak_team.specs.declared.new_looper.NewLooper.{NewLooper}
 use Rattle.ak_team.specs.declared.new_looper.Other.{Other}
 use Rattle.ak_team.specs.declared.new_looper.Own.{Own}
-use Rattle.ak_doors.specs.declared.shared.Shared.{Shared}
-use Rattle.ak_doors.specs.Doors.{HasNoNames}
-use Rattle.ak_doors.specs.Shared.{AreSame}
+use Rattle.ak_looper.specs.declared.shared.Shared.{Shared}
+use Rattle.ak_looper.specs.NoHead.{HasNoNames}
+use Rattle.ak_looper.specs.Shared.{AreSame}
 
 -- its thread has a seat at its port and at its desk, which is as the plan says, and made nothing there; it can take from the port into the queue
 pub record IsNewLooper (plans : List PlanParts) (team first : ℕ) (shared : Shared) (k : ℕ) (n : NewLooper) : Type 0 where

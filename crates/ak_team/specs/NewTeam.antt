@@ -5,7 +5,7 @@ use Rattle.ak_describe.specs.declared.described.AppText.{AppText}
 use Rattle.ak_looper.specs.declared.door.Door.{Door}
 use Rattle.ak_looper.specs.declared.kept_door.KeptDoor.{KeptDoor}
 use Rattle.ak_team.specs.declared.new_looper.NewLooper.{NewLooper}
-use Rattle.ak_doors.specs.declared.shared.Shared.{Shared}
+use Rattle.ak_looper.specs.declared.shared.Shared.{Shared}
 use Rattle.ak_team.specs.declared.new_team.NewTeam.{NewTeam}
 use Rattle.ak_team.specs.NewLooper.{IsKept, IsNewLooper, IsWay, other_threads, own_threads}
 

@@ -11,7 +11,7 @@ use Rattle.ak_action.specs.declared.state.DeskState.{DeskState}
 use Rattle.ak_action.specs.Opening.{FitsPlace, Opens, names_in}
 use Rattle.ak_team.specs.declared.opening.Opened.{Opened}
 use Rattle.ak_team.specs.declared.opening.Place.{Place}
-use Rattle.ak_doors.specs.Doors.{HasNames, KnowsBoth}
+use Rattle.ak_team.specs.Doors.{HasNames, KnowsBoth}
 
 -- what main has seen of its port
 abbrev pub opened_front : Opened → List PortEntry

@@ -3,7 +3,7 @@ ghost use Rattle.std.specs.Prelude.{◌≡◌, ◌≤◌, ◌∷◌, [], ℕ, op
 ghost use Rattle.ak_base.specs.declared.thread.ThreadId.{ThreadId};
 ghost use Rattle.ak_turn.specs.Called.{KeepsSeat};
 ghost use Rattle.ak_port.specs.PortCalls.{CanTake, HasAnswered};
-ghost use Rattle.ak_doors.specs.Doors.{KeepsDoor};
+ghost use Rattle.ak_team.specs.Doors.{KeepsDoor};
 ghost use Rattle.ak_base.specs.Thread.{main_thread};
 ghost use Rattle.ak_team.specs.InTime.{AddsAtPort};
 ghost use Rattle.ak_team.specs.Greeting.{HasSent, IsAlone, arguments_told, made_event, told_first, written_from};

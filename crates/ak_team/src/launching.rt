@@ -6,15 +6,13 @@ ghost use Rattle.ak_roster.specs.Machine.{runs_team};
 ghost use Rattle.ak_roster.specs.Roster.{IsAtRest, last_stamp, state};
 ghost use Rattle.ak_describe.specs.declared.described.AppText.{AppText};
 ghost use Rattle.ak_describe.specs.Whole.{IsWholeApp, heads_of};
-ghost use Rattle.ak_doors.specs.Counting.{ByMain};
-ghost use Rattle.ak_team.specs.Launching.{ComesTo, IsDecided, IsMade, IsRunningTeam, IsTeamOf, IsTurnInTime, LaunchInTime, TellsTeam};
-ghost use Rattle.ak_doors.specs.declared.shared.Shared.{Shared};
+ghost use Rattle.ak_team.specs.Launching.{ByMain, ComesTo, IsDecided, IsMade, IsRunningTeam, IsTeamOf, IsTurnInTime, LaunchInTime, TellsTeam};
+ghost use Rattle.ak_looper.specs.declared.shared.Shared.{Shared};
 
 use crate::new_team::{Making, NewTeam, make_team};
 use ak_base::{AppWord, NoMemory};
 use ak_describe::AppText;
-use ak_doors::{Shared, count_by_main};
-use ak_looper::KeptDoor;
+use ak_looper::{KeptDoor, Shared};
 use ak_message::Message;
 use ak_messenger::Hands;
 use ak_roster::{Decision, Launched, RosterBook, Running};
@@ -144,6 +142,15 @@ fn try_launch<R: Wait>(
         Decision::Limit => Launch::Limit,
         Decision::NoMemory => Launch::NoMemory,
     }
+}
+
+/// Each looper that was started was started by main: each door that is kept tells so.
+pub fn count_by_main(book: &RosterBook<KeptDoor>)
+    requires rest { IsAtRest book.now }
+    ensures { ByMain book.now }
+{
+    // Reading the descriptions shows that the list is a roster's.
+    let _ = book.heads();
 }
 
 // The team of that number, where it runs.

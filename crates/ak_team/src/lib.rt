@@ -5,6 +5,7 @@
 //! This crate starts no thread.
 #![tactic(auto)]
 
+mod doors;
 mod greeting;
 mod launching;
 mod new_looper;
@@ -12,6 +13,6 @@ mod new_team;
 mod opening;
 
 pub use greeting::send;
-pub use launching::{Launch, StartedTeam, Team, launch_at_turn};
+pub use launching::{Launch, StartedTeam, Team, count_by_main, launch_at_turn};
 pub use new_looper::NewLooper;
 pub use new_team::NewTeam;

@@ -5,12 +5,12 @@ ghost use Rattle.ak_team.specs.NewLooper.{IsNewOther, IsNewOwn};
 ghost use Rattle.ak_team.specs.Opening.{IsOpenedAt, opened_front};
 ghost use Rattle.ak_team.specs.InTime.{new_front};
 
+use crate::doors::{keep_door, part_door};
 use crate::launching::Team;
 use crate::opening::Opened;
 use ak_base::{NoMemory, ThreadId};
-use ak_doors::{Shared, keep_door, part_door};
 use ak_flatten::Taken;
-use ak_looper::{Door, KeptDoor, LooperJob};
+use ak_looper::{Door, KeptDoor, LooperJob, Shared};
 use ak_messenger::Hands;
 use ak_port::ReplyBook;
 use ak_roster::RosterBook;

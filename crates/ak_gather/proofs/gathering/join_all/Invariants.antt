@@ -3,7 +3,7 @@ use Rattle.std.proofs.Common.{◌≡◌, List, ◌++◌, length, map, All}
 use Rattle.ak_roster.specs.declared.head.AppHead.{AppHead}
 use Rattle.ak_gather.specs.declared.gathering.Joined.{Joined}
 use Rattle.ak_gather.specs.declared.member.Member.{Member}
-use Rattle.ak_doors.specs.declared.shared.Shared.{Shared}
+use Rattle.ak_looper.specs.declared.shared.Shared.{Shared}
 use Rattle.ak_gather.specs.Gathering.{GoesOnKnowing, HasRoomFor, IsJoined, IsNoHead, joined_desk_front, joined_front, short_of}
 use Rattle.ak_gather.specs.Members.{member_desk_front, member_front, IsMember}
 use Rattle.ak_gather.proofs.gathering.join_all.Given as goal

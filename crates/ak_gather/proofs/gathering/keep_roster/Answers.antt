@@ -2,7 +2,7 @@
 use Rattle.std.proofs.Common.{◌∙◌, Some, ap, subst, sym}
 use Rattle.ak_roster.specs.Roster.{IsAtRest}
 use Rattle.ak_looper.specs.Rosters.{RosterSeat, by_number}
-use Rattle.ak_doors.specs.Counting.{Book}
+use Rattle.ak_team.specs.Launching.{Book}
 use Rattle.ak_gather.proofs.Knowing.{knows_all, named_all}
 use Rattle.ak_gather.proofs.gathering.keep_roster.Goals as goal
 

@@ -6,8 +6,7 @@ use Rattle.ak_message.specs.declared.message.Message.{Message}
 use Rattle.ak_turn.specs.declared.clock.Clock.{Clock}
 use Rattle.ak_action.specs.declared.plan.PlanParts.{PlanParts}
 use Rattle.ak_roster.specs.declared.answer.Decision.TheVariants as decision
-use Rattle.ak_doors.specs.Counting.{Book}
-use Rattle.ak_team.specs.Launching.{ComesTo, IsDecided, IsTurnInTime}
+use Rattle.ak_team.specs.Launching.{Book, ComesTo, IsDecided, IsTurnInTime}
 use Rattle.ak_team.specs.NewTeam.{IsNewTeam}
 use Rattle.ak_team.specs.Opening.{FitPlaces}
 use Rattle.ak_team.specs.Greeting.{EachMains, FirstHoldsTwo, capacities_in, port_events, told_first, written_from}

@@ -2,7 +2,7 @@
 use Rattle.std.proofs.Common.{ℕ, [], ◌∷◌, refl, sym, ap, ◌∙◌, subst, arith}
 use Rattle.ak_base.specs.Thread.{keeper_thread, main_thread, looper_thread}
 use Rattle.ak_port.specs.PortCalls as ports
-use Rattle.ak_doors.specs.Doors.{HasParted, IsNewAt, IsPartOf}
+use Rattle.ak_team.specs.Doors.{HasParted, IsNewAt, IsPartOf}
 use Rattle.ak_team.specs.NewLooper.{other_threads}
 use Rattle.ak_team.proofs.NewDoors.{leads_on, leads_parted, leads_without_names, names_more, no_names_left}
 use Rattle.ak_team.proofs.NewLoopers.{first_below, keeper_new_to_other, kept_for, new_looper, new_to_main, new_to_two, number_below, number_is, way_for}

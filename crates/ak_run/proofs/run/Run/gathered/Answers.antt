@@ -7,7 +7,7 @@ use Rattle.ak_gather.specs.Ending.{IsRunOfLoopers}
 use Rattle.ak_gather.specs.Gathering.{AreHeadsIn, AreKeptIn}
 use Rattle.ak_run.specs.Sessions.{session_count, told_in}
 use Rattle.ak_roster.specs.Roster.{plain_entries}
-use Rattle.ak_doors.specs.Counting.{Book}
+use Rattle.ak_team.specs.Launching.{Book}
 use Rattle.ak_run.proofs.Endings.{as_many, book_below, joined_all, roster_below}
 use Rattle.ak_gather.proofs.Surface.{knows_further, IsGathered, kept_leads, ways_lead, all_gain_further, heads_still, of_all, taken_later, ways_later, ways_of_all, is_run}
 use Rattle.ak_run.proofs.SlotsStand.{all_closed_at, all_stood}

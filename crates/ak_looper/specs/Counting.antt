@@ -1,13 +1,12 @@
 -- How many loopers main has started, as its own entries at the roster tell.
-use Rattle.std.specs.Prelude.{ℕ, ◌+◌, List, [], ◌∷◌, ◌≡◌, length}
+use Rattle.std.specs.Prelude.{ℕ, ◌+◌, List, [], ◌∷◌}
 use Rattle.ak_base.specs.Thread.{main_thread}
 use Rattle.ak_turn.specs.Entries.{made_by}
 use Rattle.ak_roster.specs.declared.head.AppHead.{AppHead}
 use Rattle.ak_roster.specs.declared.entry.RosterEntry.{RosterEntry}
 use Rattle.ak_roster.specs.Kept.{count_of}
-use Rattle.ak_roster.specs.Roster.{plain_entries, RosterData, state}
-use Rattle.ak_looper.specs.Rosters.{RosterSeat, maker_of, Object}
-use Rattle.ak_looper.specs.declared.kept_door.KeptDoor.{KeptDoor}
+use Rattle.ak_roster.specs.Roster.{plain_entries}
+use Rattle.ak_looper.specs.Rosters.{RosterSeat, maker_of}
 
 -- how many loopers these entries start
 abbrev pub started_in : List AppHead → List RosterEntry → ℕ
@@ -17,11 +16,3 @@ started_in heads (entry ∷ entries) = count_of heads entry.event + started_in h
 -- how many main has started, by what its seat has seen
 abbrev pub started_by_main : List AppHead → RosterSeat → ℕ
 started_by_main heads seat = started_in heads (made_by maker_of main_thread (plain_entries seat.front))
-
--- what a roster's book has
-abbrev pub Book : Type 0
-Book = RosterData KeptDoor Object
-
--- as many loopers were started as main's own entries tell
-abbrev pub ByMain : Book → Type 0
-ByMain book = length (state book).loopers ≡ started_in book.heads (made_by maker_of main_thread (plain_entries book.entries))

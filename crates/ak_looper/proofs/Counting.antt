@@ -15,7 +15,7 @@ use Rattle.ak_roster.specs.Machine.{LooperData, RosterState, after, loopers_at, 
 use Rattle.ak_roster.specs.Roster.{AreKept}
 use Rattle.ak_looper.specs.declared.kept_door.KeptDoor.{KeptDoor}
 use Rattle.ak_looper.specs.Rosters.{maker_of, Object}
-use Rattle.ak_doors.specs.Counting.{started_in}
+use Rattle.ak_looper.specs.Counting.{started_in}
 use Rattle.std.specs.Arc.{arc_value}
 use Rattle.ak_looper.specs.Doors.{door_object}
 

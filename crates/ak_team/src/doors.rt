@@ -2,7 +2,7 @@
 ghost use Rattle.std.specs.Prelude.{◌≡◌, ℕ, List, IfOk, OnOk, OnErr};
 ghost use Rattle.std.specs.Arc.{arc_value};
 ghost use Rattle.ak_base.specs.Thread.{keeper_thread};
-ghost use Rattle.ak_doors.specs.Doors.{HasGivenUpNames, HasNames, HasParted, IsKeptOf, IsNewAt, IsPartOf, KnowsBoth};
+ghost use Rattle.ak_team.specs.Doors.{HasGivenUpNames, HasNames, HasParted, IsKeptOf, IsNewAt, IsPartOf, KnowsBoth};
 
 use ak_base::{NoMemory, ThreadId};
 use ak_desk::Desk;
@@ -12,7 +12,7 @@ use ak_turn::{TurnLock, new_seats_know};
 use std::sync::Arc;
 
 /// A door of that thread's, which has had none. What main's seats know of the port's list and the desk's they know after it.
-pub fn part_door(door: &mut Door, thread: ThreadId) -> Result<Door, NoMemory>
+pub(crate) fn part_door(door: &mut Door, thread: ThreadId) -> Result<Door, NoMemory>
     requires new { IsNewAt thread.0 door.old }
     ensures part { IfOk result (λ part. IsPartOf thread.0 door.old part) }
     ensures parted { OnOk result (HasParted thread.0 door.old door.new) }
@@ -44,7 +44,7 @@ fn objects_of(door: &Door) -> Result<(Arc<Port>, Arc<TurnLock<Desk>>), NoMemory>
 }
 
 /// The keeper's door. Its seats are the heads from then on.
-pub fn keep_door(door: &mut Door) -> Result<KeptDoor, NoMemory>
+pub(crate) fn keep_door(door: &mut Door) -> Result<KeptDoor, NoMemory>
     requires new { IsNewAt keeper_thread door.old }
     requires names { (names : List ℕ) × HasNames names door.old }
     requires known { KnowsBoth door.old }

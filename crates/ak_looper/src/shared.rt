@@ -1,8 +1,8 @@
 //! What all threads of a run share.
 ghost use Rattle.std.specs.Prelude.{IfOk};
 
+use crate::roster::Roster;
 use ak_base::NoMemory;
-use ak_looper::Roster;
 use ak_port::ReplyBook;
 use ak_turn::TurnLock;
 use std::sync::Arc;
@@ -17,7 +17,7 @@ pub struct Shared {
 }
 
 impl Shared {
-    ghost use Rattle.ak_doors.specs.Shared.{AreSame};
+    ghost use Rattle.ak_looper.specs.Shared.{AreSame};
 
     /// The same objects, shared once more.
     pub fn try_clone(&self) -> Result<Shared, NoMemory>

@@ -1,7 +1,7 @@
 -- What all threads of a run share.
 use Rattle.std.specs.Prelude.{◌≡◌}
 use Rattle.std.specs.Arc.{arc_value}
-use Rattle.ak_doors.specs.declared.shared.Shared.{Shared}
+use Rattle.ak_looper.specs.declared.shared.Shared.{Shared}
 
 -- the same reply book and the same roster
 pub record AreSame (shared other : Shared) : Type 0 where

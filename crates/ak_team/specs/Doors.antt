@@ -21,11 +21,6 @@ pub record HasNames (names : List ℕ) (d : Door) : Type 0 where
   pub at_port : d.port_seat.names ≡ Some names
   pub at_desk : d.desk_seat.names ≡ Some names
 
--- neither of its seats is a head
-pub record HasNoNames (d : Door) : Type 0 where
-  pub at_port : d.port_seat.names ≡ None
-  pub at_desk : d.desk_seat.names ≡ None
-
 -- the thread has had no seat
 pub record IsNewAt (thread : ℕ) (d : Door) : Type 0 where
   pub at_port : IsNewName d.port_seat.names thread

@@ -6,8 +6,8 @@ use Rattle.ak_turn.specs.Steps.{IsNewName, names_with}
 use Rattle.ak_port.specs.PortCalls as ports
 use Rattle.ak_desk.specs.Shared as desks
 use Rattle.ak_looper.proofs.Surface.{still_new}
-use Rattle.ak_doors.proofs.Heads.{head_with, made_nothing}
-use Rattle.ak_doors.proofs.doors.keep_door.Goals as goal
+use Rattle.ak_team.proofs.Heads.{head_with, made_nothing}
+use Rattle.ak_team.proofs.doors.keep_door.Goals as goal
 
 pub invariant_of-result-clause-names : goal.invariant_of-result-clause-names
 invariant_of-result-clause-names c =

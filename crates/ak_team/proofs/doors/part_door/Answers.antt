@@ -3,7 +3,7 @@ use Rattle.std.proofs.Common.{sym, subst}
 use Rattle.ak_turn.specs.Seats.{KnowsWhole}
 use Rattle.ak_port.specs.PortCalls as ports
 use Rattle.ak_desk.specs.Shared as desks
-use Rattle.ak_doors.proofs.doors.part_door.Goals as goal
+use Rattle.ak_team.proofs.doors.part_door.Goals as goal
 
 pub returns-clause-known : goal.returns-clause-known
 returns-clause-known c = λ known. record {

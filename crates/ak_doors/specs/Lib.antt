@@ -1,4 +1,0 @@
-pub mod Counting
-pub mod Doors
-pub mod Shared
-pub mod Starts
