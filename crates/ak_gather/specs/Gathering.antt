@@ -36,7 +36,6 @@ use Rattle.ak_gather.specs.declared.gathering.AllJoined.{AllJoined}
 use Rattle.ak_gather.specs.declared.gathering.Joined.{Joined}
 use Rattle.ak_looper.specs.NoHead.{HasNoNames}
 use Rattle.ak_looper.specs.Starts.{StartsAt}
-use Rattle.ak_port.specs.PortCalls as at_ports
 
 -- ---- behind main's seats
 module _ {L : Type 0} (by : L → ℕ) where
@@ -49,7 +48,7 @@ module _ {L : Type 0} (by : L → ℕ) where
 -- at each port
 abbrev pub PortsEndByOthers : List (List PortEntry) → List PortData → Type 0
 PortsEndByOthers [] [] = Unit {0}
-PortsEndByOthers (front ∷ fronts) (port ∷ ports) = EndsByOthers at_ports.by_number front port.entries × PortsEndByOthers fronts ports
+PortsEndByOthers (front ∷ fronts) (port ∷ more) = EndsByOthers ports.by_number front port.entries × PortsEndByOthers fronts more
 PortsEndByOthers _ _ = ⊥
 
 module _ {O L : Type 0} where

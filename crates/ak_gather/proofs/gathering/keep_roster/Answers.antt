@@ -1,8 +1,8 @@
 -- What the lock tells of threads that were joined, and the doors that are kept at rest.
 use Rattle.std.proofs.Common.{◌∙◌, Some, ap, subst, sym}
-use Rattle.ak_roster.specs.Roster.{IsAtRest}
-use Rattle.ak_looper.specs.Rosters.{RosterSeat, by_number}
-use Rattle.ak_team.specs.Launching.{Book}
+use Rattle.ak_roster.specs.Roster.{IsAtRest, RosterData}
+use Rattle.ak_looper.specs.declared.kept_door.KeptDoor.{KeptDoor}
+use Rattle.ak_looper.specs.Rosters.{Object, RosterSeat, by_number}
 use Rattle.ak_gather.proofs.Knowing.{knows_all, named_all}
 use Rattle.ak_gather.proofs.gathering.keep_roster.Goals as goal
 
@@ -10,10 +10,10 @@ pub returns : goal.returns
 returns g c =
     let turn = c.lock-turn.ensures in
     let kept = c.keep-kept in
-    let at_rest = subst (λ (b : Book). IsAtRest b) (sym kept.ensures) turn.rest in
-    let list = ap (λ (b : Book). b.entries) kept.ensures ∙ turn.list in
+    let at_rest = subst (λ (b : RosterData KeptDoor Object). IsAtRest b) (sym kept.ensures) turn.rest in
+    let list = ap (λ (b : RosterData KeptDoor Object). b.entries) kept.ensures ∙ turn.list in
     record {
-      opening = turn.opening ∙ ap (λ (b : Book). Some b.heads) (sym kept.ensures);
+      opening = turn.opening ∙ ap (λ (b : RosterData KeptDoor Object). Some b.heads) (sym kept.ensures);
       legal = c.heads.ensures.is_roster.history;
       known = knows_all by_number c.args.seat c.lock-turn.new.seat kept.result.entries turn.seen turn.known list;
       between = turn.seen.between;
