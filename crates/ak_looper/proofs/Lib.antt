@@ -33,3 +33,4 @@ pub mod TeamWays
 pub mod ThroughDoors
 pub mod Turning
 pub mod Working
+pub mod Counting

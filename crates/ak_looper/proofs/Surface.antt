@@ -1,4 +1,5 @@
 -- What the layers above may cite of these proofs: they name this file alone.
+pub use Rattle.ak_looper.proofs.Counting.{all_by_main, object, threads}
 pub use Rattle.ak_looper.proofs.Crossing.{Door-send, Hands-send, KeptDoor-send, LooperEnd-send, LooperJob-send, RosterBook-send}
 pub use Rattle.ak_looper.proofs.Doors.{new_door, nothing_noted, still_new}
 pub use Rattle.ak_looper.proofs.Kept.{no_number}

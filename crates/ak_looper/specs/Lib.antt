@@ -11,3 +11,7 @@ pub mod Living
 pub mod Stands
 pub mod Taking
 pub mod Ways
+pub mod Counting
+pub mod NoHead
+pub mod Shared
+pub mod Starts

@@ -17,6 +17,7 @@ mod reach;
 mod roster;
 mod sending;
 mod serving;
+mod shared;
 mod taking;
 
 pub use door::Door;
@@ -24,3 +25,4 @@ pub use job::{EndKind, LooperEnd, LooperJob};
 pub use kept_door::KeptDoor;
 pub use life::run_looper;
 pub use roster::{Roster, get_door};
+pub use shared::Shared;

@@ -16,10 +16,13 @@ use Rattle.ak_port.specs.declared.reply_entry.ReplyEntry.{ReplyEntry}
 use Rattle.ak_port.specs.PortCalls as at_ports
 use Rattle.ak_port.specs.ReplySeats as at_books
 use Rattle.ak_diary.specs.Step.{AreStamped, Step, at_port, book_entries, book_entry, book_sight, book_sights, desk_entries, desk_entry, port_entries, port_entry, port_sight, port_sights, roster_entries, roster_entry, roster_sight, roster_sights, saw_roster, time_of}
-use Rattle.ak_headline.specs.Main.{IsAct, IsMainDiary, MayEnterPort, begun, enters_port, finds_gone, went_on}
+use Rattle.ak_headline.specs.Main.{IsAct, IsMainDiary, begun, enters_port, finds_gone, went_on}
 use Rattle.ak_looper.specs.Rosters.{maker_of}
 use Rattle.ak_looper.proofs.Surface.{stamped_on, time_on}
-use Rattle.ak_run.specs.Recording.{AreInTime, AreNotesInTime, Fronts, GoesBy, IsRecorded, Records, RecordsSo, fronts, list_at}
+use Rattle.ak_team.specs.InTime.{AreInTime, AreNotesInTime}
+use Rattle.ak_run.specs.Recording.{Fronts, GoesBy, IsRecorded, Records, RecordsSo, fronts, list_at}
+use Rattle.ak_team.proofs.Surface.{May}
+use Rattle.ak_gather.proofs.Surface.{nothing_after}
 
 -- ---- steps
 pub diary-append : (xs ys : List Step) → IsMainDiary xs → IsMainDiary ys → IsMainDiary (xs ++ ys)
@@ -33,18 +36,12 @@ one_act act is = went_on [] act begun is
 pub then_those : {X : Type 0} (f : Step → List X) (xs ys : List Step) (a b c : List X) → b ≡ a ++ flat_map f xs → c ≡ b ++ flat_map f ys → c ≡ a ++ flat_map f (xs ++ ys)
 then_those f xs ys a b c one two = two ∙ ap (λ l. l ++ flat_map f ys) one ∙ append_assoc a (flat_map f xs) (flat_map f ys) ∙ ap (λ l. a ++ l) (sym (flat_map-append f xs ys))
 
-pub nothing_after : {X : Type 0} (f : Step → List X) (xs ys : List Step) → flat_map f xs ≡ [] → flat_map f ys ≡ [] → flat_map f (xs ++ ys) ≡ []
-nothing_after f xs ys one two = flat_map-append f xs ys ∙ ap (λ l. l ++ flat_map f ys) one ∙ two
-
 -- in time by these steps, and then by those
 pub in_time_then : (a b c : ℕ) (xs ys : List Step) → AreInTime a xs b → AreInTime b ys c → AreInTime a (xs ++ ys) c
 in_time_then a b c xs ys one two = record {
   stamped = stamped_on a xs ys one.stamped (subst (λ (t : ℕ). AreStamped t ys) (sym one.time_is) two.stamped);
   time_is = time_on a xs ys ∙ ap (λ (t : ℕ). time_of t ys) one.time_is ∙ two.time_is;
 }
-
-pub no_time : (a : ℕ) → AreInTime a [] a
-no_time a = record { stamped = tt; time_is = refl }
 
 -- what was seen by these steps, and then by those
 pub seen_then : {X : Type 0} (f : Step → List (List X)) (xs ys : List Step) (b c : List X) → StartsWith c b → All (StartsWith b) (flat_map f xs) → All (StartsWith c) (flat_map f ys) → All (StartsWith c) (flat_map f (xs ++ ys))
@@ -164,10 +161,6 @@ pub record GoesAtBoth (looper time later : ℕ) (steps : List Step) (book book' 
   pub elsewhere : (other : ℕ) → other ≢ looper → port_entries other steps ≡ []
   pub unseen_elsewhere : (other : ℕ) → other ≢ looper → port_sights other steps ≡ []
   pub no_edits : (other : ℕ) → desk_entries other steps ≡ []
-
--- an entry that main may make there by itself
-abbrev pub May : Noted PortEntry → Type 0
-May n = MayEnterPort n.entry.event
 
 module _ (looper : ℕ) where
   pub both_then : (xs ys : List Step) (t t1 t2 : ℕ) (b b1 b2 : List ReplyEntry) (p p1 p2 : List PortEntry) → GoesAtBoth looper t t1 xs b b1 p p1 → GoesAtBoth looper t1 t2 ys b1 b2 p1 p2 → GoesAtBoth looper t t2 (xs ++ ys) b b2 p p2

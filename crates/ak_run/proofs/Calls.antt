@@ -25,14 +25,16 @@ use Rattle.ak_desk.specs.Shared.{DeskSeat}
 use Rattle.ak_diary.specs.Step.{Step}
 use Rattle.ak_headline.specs.Main.{MayEnterPort}
 use Rattle.ak_looper.specs.declared.door.Door.{Door}
-use Rattle.ak_run.specs.declared.member.Member.{Member}
+use Rattle.ak_gather.specs.declared.member.Member.{Member}
 use Rattle.ak_run.specs.declared.run.Run.{Run}
-use Rattle.ak_run.specs.Counting.{started_by_main}
+use Rattle.ak_looper.specs.Counting.{started_by_main}
 use Rattle.ak_run.specs.Doing.{AskedSo, DoesSo, EnteredSo, desk_front}
-use Rattle.ak_run.specs.Doors.{KeepsDoor, KeepsSeats}
+use Rattle.ak_team.specs.Doors.{KeepsDoor, KeepsSeats}
 use Rattle.ak_run.specs.Entering.{AreAtPorts}
-use Rattle.ak_run.specs.Recording.{AddsAtPort, fronts_of}
-use Rattle.ak_run.specs.Running.{IsMember, IsRunning, IsStanding, KeepsRest, Stands}
+use Rattle.ak_team.specs.InTime.{AddsAtPort}
+use Rattle.ak_run.specs.Recording.{fronts_of}
+use Rattle.ak_gather.specs.Members.{IsMember}
+use Rattle.ak_run.specs.Running.{IsRunning, IsStanding, KeepsRest, Stands}
 use Rattle.ak_run.specs.Sending.{desk_seat_of, port_seat_of}
 use Rattle.ak_run.specs.Starting.{GoesOn, GoesOnAtNew}
 use Rattle.ak_run.proofs.Acting.{ActsAtBoth, answers_so, ask_acts, port_acts}

@@ -15,7 +15,8 @@ use Rattle.ak_run.specs.declared.run.Run.{Run}
 use Rattle.ak_run.specs.Doing.{Does, DoesSo, HasDoneSoFar, IsQuietAtDesks, desk_front}
 use Rattle.ak_run.specs.Entering.{DoesWith}
 use Rattle.ak_run.specs.Recording.{GoesBy, RecordsSo, fronts_of, fronts_with}
-use Rattle.ak_run.proofs.Acts.{goes_then, nothing_after, recorded_on, then_those}
+use Rattle.ak_run.proofs.Acts.{goes_then, recorded_on, then_those}
+use Rattle.ak_gather.proofs.Surface.{nothing_after}
 use Rattle.ak_run.proofs.GoingOn.{desks_then, plain_on}
 
 -- what stood at a desk stands there still

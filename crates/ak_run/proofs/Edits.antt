@@ -26,19 +26,21 @@ use Rattle.ak_looper.specs.declared.door.Door.{Door}
 use Rattle.ak_looper.specs.Rosters.{RosterSeat, plain_of}
 use Rattle.ak_session.specs.declared.answers.Edited.{Edited}
 use Rattle.ak_session.specs.declared.answers.Edited.TheVariants as edited
-use Rattle.ak_run.specs.declared.member.Member.{Member}
+use Rattle.ak_gather.specs.declared.member.Member.{Member}
 use Rattle.ak_run.specs.declared.run.Run.{Run}
 use Rattle.ak_run.specs.Doing.{DoesSo, desk_front}
 use Rattle.ak_session.specs.Doing.{EditedSo}
-use Rattle.ak_run.specs.Recording.{AreInTime, Fronts, GoesBy, fronts, fronts_of, list_at, member_desk_front, member_front}
+use Rattle.ak_team.specs.InTime.{AreInTime}
+use Rattle.ak_run.specs.Recording.{Fronts, GoesBy, fronts, fronts_of, list_at}
+use Rattle.ak_gather.specs.Members.{member_desk_front, member_front}
 use Rattle.ak_session.specs.Calls.{IsAtPlace, edited_event}
-use Rattle.ak_run.proofs.Acting.{called_one, seen_none}
+use Rattle.ak_team.proofs.Surface.{called_one, seen_none}
 use Rattle.ak_run.proofs.Acts.{GoesAtBoth, adds_there, both_goes, one_act}
 use Rattle.ak_run.proofs.Calls.{desk_keeps, roster_front, there_after, there_before}
 use Rattle.ak_run.proofs.Doing.{does_so}
 use Rattle.ak_run.proofs.GoingOn.{desk_in, last_of, plain_on, same_list}
 use Rattle.ak_run.proofs.Recorded.{others_still, saw_front, sees_front}
-use Rattle.ak_run.proofs.Taking.{beside_set}
+use Rattle.ak_gather.proofs.Surface.{beside_set}
 
 -- what is not for want of memory is an entry
 pub entry_is : (e : Edit) (a : EditAnswer) → (a ≡ answer.NoMemory → ⊥) → edit_entry e a ≡ edited_event e (edited.Entered a 0)

@@ -18,24 +18,23 @@ use Rattle.ak_looper.specs.declared.kept_door.KeptDoor.{KeptDoor}
 use Rattle.ak_looper.specs.Rosters as rosters
 use Rattle.ak_looper.specs.Rosters.{Object, RosterSeat}
 use Rattle.ak_port.specs.ReplySeats.{ReplySeat}
-use Rattle.ak_run.specs.declared.gathering.Joined.{Joined}
-use Rattle.ak_run.specs.declared.member.Member.{Member}
+use Rattle.ak_gather.specs.declared.gathering.Joined.{Joined}
+use Rattle.ak_gather.specs.declared.member.Member.{Member}
 use Rattle.ak_run.specs.declared.run.Run.{Run}
 use Rattle.ak_run.specs.declared.slots.Slots.{Slots}
 use Rattle.ak_session.specs.declared.session.Session.{Session}
 use Rattle.ak_session.specs.Stands.{Stands}
-use Rattle.ak_run.specs.Counting.{started_in}
-use Rattle.ak_run.specs.Ending.{IsRunOfLoopers}
-use Rattle.ak_run.specs.Gathering.{GoesOnKnowing, IsJoined, IsRosterOf}
+use Rattle.ak_looper.specs.Counting.{started_in}
+use Rattle.ak_gather.specs.Ending.{IsRunOfLoopers}
+use Rattle.ak_gather.specs.Gathering.{GoesOnKnowing, IsJoined, IsRosterOf}
 use Rattle.ak_run.specs.AtEnd.{SessionDone, SessionsDone}
-use Rattle.ak_run.specs.Running.{AreBelow, IsRunning}
+use Rattle.ak_gather.specs.Below.{AreBelow}
+use Rattle.ak_run.specs.Running.{IsRunning}
 use Rattle.ak_run.specs.Sessions.{Told, all_closed, session_count, session_limit, sessions_of, told_in}
 use Rattle.ak_run.specs.Starting.{GoesOn}
 use Rattle.ak_run.proofs.GoingOn.{still_running}
-use Rattle.ak_run.proofs.Joining.{all_joined_still, knows_further}
-use Rattle.ak_run.proofs.Paired.{AllAreJoined}
+use Rattle.ak_gather.proofs.Surface.{all_joined_still, knows_further, AllAreJoined, at_place}
 use Rattle.ak_run.proofs.SlotsStand.{came_of, closed_at, closed_one}
-use Rattle.ak_run.proofs.Taking.{at_place}
 
 -- the head stays the head, of the same names
 still_below : {O L : Type 0} (sessions next : ℕ) (seat seat' : SeatData O L) → GoesOnKnowing seat seat' → AreBelow sessions next seat.names → AreBelow sessions next seat'.names

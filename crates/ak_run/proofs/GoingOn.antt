@@ -12,20 +12,19 @@ use Rattle.ak_port.specs.declared.port_entry.PortEntry.{PortEntry}
 use Rattle.ak_desk.specs.Entry.{EntryData}
 use Rattle.ak_desk.specs.Shared as at_desks
 use Rattle.ak_looper.specs.Rosters.{Object, RosterSeat, plain_of}
-use Rattle.ak_run.specs.declared.member.Member.{Member}
+use Rattle.ak_gather.specs.declared.member.Member.{Member}
 use Rattle.ak_run.specs.declared.run.Run.{Run}
-use Rattle.ak_run.specs.Counting.{started_by_main}
+use Rattle.ak_looper.specs.Counting.{started_by_main}
 use Rattle.ak_run.specs.Doing.{IsQuietAtDesks, desk_front}
-use Rattle.ak_run.specs.Recording.{HasRecord, Records, RecordsBeside, fronts_of, fronts_with, member_desk_front}
+use Rattle.ak_run.specs.Recording.{HasRecord, Records, RecordsBeside, fronts_of, fronts_with}
+use Rattle.ak_gather.specs.Members.{member_desk_front}
 use Rattle.ak_run.specs.Running.{IsRunning, KeepsRest, Stands}
 use Rattle.ak_run.specs.Starting.{GoesOn, GoesOnWith}
 use Rattle.ak_run.proofs.Recorded.{beside_then, record_on}
-use Rattle.ak_run.proofs.RosterTurn.{RosterOn, plain-append}
+use Rattle.ak_run.proofs.RosterTurn.{RosterOn}
+use Rattle.ak_team.proofs.Surface.{plain-append}
 use Rattle.ak_run.proofs.Standing.{BookOn, SameLoopers, stands_on}
-
--- what Some holds
-pub some_same : {X : Type 0} (x y : X) → Some x ≡ Some y → x ≡ y
-some_same x y is = cc
+use Rattle.ak_gather.proofs.Surface.{some_same}
 
 -- the place of the last of a list
 pub last_of : {L : Type 0} (front before : List L) (x : L) (place : ℕ) → front ≡ before ++ x ∷ [] → length front ≡ place + 1 → place ≡ length before

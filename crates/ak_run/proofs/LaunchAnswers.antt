@@ -13,14 +13,14 @@ use Rattle.ak_port.specs.declared.reply_entry.ReplyEntry.{ReplyEntry}
 use Rattle.ak_roster.specs.declared.entry.LaunchOutcome.TheVariants as outcome
 use Rattle.ak_run.specs.declared.answers.LaunchAnswer.{LaunchAnswer}
 use Rattle.ak_run.specs.declared.answers.LaunchAnswer.TheVariants as answer
-use Rattle.ak_run.specs.declared.launching.Launch.TheVariants as launch
+use Rattle.ak_team.specs.declared.launching.Launch.TheVariants as launch
 use Rattle.ak_headline.specs.Main.{MayEnterPort}
 use Rattle.ak_looper.specs.declared.door.Door.{Door}
-use Rattle.ak_run.specs.declared.member.Member.{Member}
+use Rattle.ak_gather.specs.declared.member.Member.{Member}
 use Rattle.ak_run.specs.declared.run.Run.{Run}
 use Rattle.ak_run.specs.Doing.{DoesSo, EnteredSo, FindsRunning, LaunchedSo, LaunchesInVain}
 use Rattle.ak_run.specs.Entering.{DoesWith, EntersLaunch, EntersRunning, GreetsAgain, GreetsSo}
-use Rattle.ak_run.specs.Greeting.{SendsEach, arguments_told}
+use Rattle.ak_team.specs.Greeting.{SendsEach, arguments_told}
 use Rattle.ak_run.proofs.Acting.{ActsAtBoth}
 use Rattle.ak_run.proofs.Calls.{one_does, post_acts}
 use Rattle.ak_run.proofs.Doing.{does_so_then, does_with}

@@ -28,35 +28,40 @@ use Rattle.ak_describe.specs.declared.described.AppText.{AppText}
 use Rattle.ak_port.specs.declared.port_entry.PortEntry.{PortEntry}
 use Rattle.ak_looper.specs.Rosters.{Object, RosterSeat, by_number, plain_of}
 use Rattle.ak_session.specs.declared.answers.Found.{Found}
-use Rattle.ak_run.specs.declared.launching.Launch.{Launch}
-use Rattle.ak_run.specs.declared.launching.Launch.TheVariants as launch
-use Rattle.ak_run.specs.declared.launching.StartedTeam.{StartedTeam}
-use Rattle.ak_run.specs.declared.new_looper.Shared.{Shared}
+use Rattle.ak_team.specs.declared.launching.Launch.{Launch}
+use Rattle.ak_team.specs.declared.launching.Launch.TheVariants as launch
+use Rattle.ak_team.specs.declared.launching.StartedTeam.{StartedTeam}
+use Rattle.ak_looper.specs.declared.shared.Shared.{Shared}
 use Rattle.ak_run.specs.declared.run.Run.{Run}
 use Rattle.ak_run.specs.Closing.{ClosesSo, EntersGone, FindsGone, IsRecordedAtRoster, LeavesBook, LeavesSo}
-use Rattle.ak_run.specs.Counting.{started_by_main}
+use Rattle.ak_looper.specs.Counting.{started_by_main}
+use Rattle.ak_team.specs.Launching.{Book, ByMain, ComesTo, HasEntered, HasStarted, IsTurnInTime, LaunchInTime, TellsTeam, turn_step}
 use Rattle.ak_run.specs.Doing.{DoesSo, LaunchesAt, desk_front}
 use Rattle.ak_session.specs.Doing.{FindsAt, FoundSo}
 use Rattle.ak_run.specs.Entering.{DoesWith, EntersLaunch, EntersRunning, LaunchesLast}
 use Rattle.ak_run.specs.Finding.{LooksUp}
 use Rattle.ak_session.specs.Calls.{IsFoundAt}
-use Rattle.ak_run.specs.Greeting.{at_looper, capacities_in, made_from, start_entries, told_first, written_from}
-use Rattle.ak_run.specs.Jobs.{StartsAt, facts_in}
-use Rattle.ak_run.specs.Launching.{Book, ByMain, ComesTo, HasEntered, HasStarted, IsTurnInTime, LaunchInTime, TellsTeam, turn_step}
-use Rattle.ak_run.specs.NewTeam.{IsNewTeam, IsOneOf}
-use Rattle.ak_run.specs.Recording.{GoesBy, fronts, fronts_of, fronts_with, member_front, new_front, team_fronts}
+use Rattle.ak_team.specs.Greeting.{at_looper, capacities_in, made_from, start_entries, told_first, written_from}
+use Rattle.ak_looper.specs.Starts.{StartsAt}
+use Rattle.ak_team.specs.Jobs.{facts_in}
+use Rattle.ak_team.specs.NewTeam.{IsNewTeam, IsOneOf}
+use Rattle.ak_run.specs.Recording.{GoesBy, fronts, fronts_of, fronts_with}
+use Rattle.ak_gather.specs.Members.{member_front}
+use Rattle.ak_team.specs.InTime.{new_front, team_fronts}
 use Rattle.ak_run.specs.Running.{IsRunning, KeepsRest, Stands}
 use Rattle.ak_run.specs.Starting.{HasEnteredLaunch, launched_fronts}
 use Rattle.ak_run.proofs.Acting.{turn_no_edits}
-use Rattle.ak_run.proofs.Acts.{goes_then, nothing_after, sees_roster}
+use Rattle.ak_run.proofs.Acts.{goes_then, sees_roster}
+use Rattle.ak_gather.proofs.Surface.{nothing_after, some_same}
 use Rattle.ak_run.proofs.Doing.{does_with}
-use Rattle.ak_run.proofs.GoingOn.{last_of, plain_on, same_desks, some_same}
+use Rattle.ak_run.proofs.GoingOn.{last_of, plain_on, same_desks}
 use Rattle.ak_run.proofs.Opened.{launch_seen}
-use Rattle.ak_run.proofs.PortsAtStart.{MakesPorts, one_at_least, team_begins}
+use Rattle.ak_run.proofs.PortsAtStart.{MakesPorts, team_begins}
+use Rattle.ak_team.proofs.Surface.{one_at_least, plain-append, all_paired, own_ways}
 use Rattle.ak_run.proofs.Recorded.{no_event, one_event, record_on, turn_goes}
-use Rattle.ak_run.proofs.RosterTurn.{RosterOn, goes_on, plain-append, sees_all, started_at_turn}
+use Rattle.ak_run.proofs.RosterTurn.{RosterOn, goes_on, sees_all, started_at_turn}
 use Rattle.ak_run.proofs.Standing.{BookOn, same_loopers, stands_on}
-use Rattle.ak_run.proofs.Ways.{all_paired, object, own_ways}
+use Rattle.ak_looper.proofs.Surface.{object}
 
 -- whatever it comes to, main entered one entry or none
 pub comes_entered : (apps : List AppText) (shared : Shared) (word : AppWord) (book book' : Book) (l : Launch) → ComesTo apps shared word book book' l → (what : Option RosterEvent) × (n : ℕ) × HasEntered what n book book'

@@ -18,8 +18,8 @@ use Rattle.ak_session.specs.declared.answers.Found.{Found}
 use Rattle.ak_run.specs.Doing.{IsStartedTeam}
 use Rattle.ak_run.specs.Finding.{LooksUp}
 use Rattle.ak_session.specs.Calls.{IsEntered, IsFoundAt}
-use Rattle.ak_run.specs.Launching.{Book, HasEntered, IsTurnInTime}
-use Rattle.ak_run.proofs.Entering.{all_started, none_entered, none_in_time, one_entered, one_in_time, some_started}
+use Rattle.ak_team.specs.Launching.{Book, HasEntered, IsTurnInTime}
+use Rattle.ak_team.proofs.Surface.{all_started, none_entered, none_in_time, one_entered, one_in_time, some_started}
 use Rattle.ak_run.proofs.Recorded.{one_event}
 
 -- whatever is found, main entered one entry or none

@@ -1,14 +1,13 @@
 -- At the end main's diary has all that main did, and the lists go on from what main had seen.
-use Rattle.std.proofs.Common.{◌≡◌, ◌≢◌, ℕ, zero, suc, List, [], ◌∷◌, ◌++◌, length, map, All, sym, refl, ap, ◌∙◌, subst, append-nil, arith}
-use Rattle.std.proofs.lemmas.List.{length-map, map-append}
+use Rattle.std.proofs.Common.{◌≡◌, ℕ, zero, suc, List, [], ◌∷◌, ◌++◌, length, map, All, sym, refl, ap, ◌∙◌, subst, append-nil}
+use Rattle.std.proofs.lemmas.List.{length-map}
 use Rattle.std.proofs.lemmas.List.Concat.{flat_map-append}
-use Rattle.std.proofs.lemmas.List.Elements.{All-cons, All-head, All-map, All-tail, All-weaker}
+use Rattle.std.proofs.lemmas.List.Elements.{All-weaker}
 use Rattle.std.specs.Prelude.{option_map, slice_get, unwrap_or}
 use Rattle.ak_base.specs.Thread.{main_thread}
-use Rattle.ak_turn.specs.Entries.{AreByOthers, StartsWith}
+use Rattle.ak_turn.specs.Entries.{StartsWith}
 use Rattle.ak_turn.specs.Noted.{Noted, noted}
-use Rattle.ak_turn.specs.Seats.{IsGiven, SeatData}
-use Rattle.ak_turn.proofs.Surface.{noted-others, seen_still, starts_then_starts}
+use Rattle.ak_turn.proofs.Surface.{seen_still, starts_then_starts}
 use Rattle.ak_roster.specs.declared.entry.EntryWithObjects.{EntryWithObjects}
 use Rattle.ak_roster.specs.declared.entry.RosterEntry.{RosterEntry}
 use Rattle.ak_roster.specs.declared.head.AppHead.{AppHead}
@@ -27,32 +26,21 @@ use Rattle.ak_diary.specs.Step.{Step, book_sights, desk_entries, desk_entry, por
 use Rattle.ak_headline.specs.Run.{HasDone, desk_list, port_list}
 use Rattle.ak_looper.specs.declared.kept_door.KeptDoor.{KeptDoor}
 use Rattle.ak_looper.specs.Rosters.{Object, RosterSeat, by_number, maker_of, plain_of}
-use Rattle.ak_run.specs.declared.gathering.Joined.{Joined}
-use Rattle.ak_run.specs.declared.member.Member.{Member}
+use Rattle.ak_gather.specs.declared.gathering.Joined.{Joined}
+use Rattle.ak_gather.specs.declared.member.Member.{Member}
 use Rattle.ak_run.specs.declared.run.Run.{Run}
 use Rattle.ak_run.specs.AtEnd.{DoneAtEnd}
 use Rattle.ak_run.specs.Closing.{ClosesSo, EndsAllTeams}
 use Rattle.ak_run.specs.Doing.{HasDoneSoFar, IsQuietAtDesks, IsRecordedAtDesks, desk_front}
 use Rattle.ak_run.specs.Ending.{EndsAs}
-use Rattle.ak_run.specs.Gathering.{AreBooksOf, AreGaining, GoesOnKnowing, IsGaining, IsJoined, IsRosterOf, joined_desk_front, joined_front}
-use Rattle.ak_run.specs.Recording.{EndsByOthers, Fronts, IsRecorded, PortsEndByOthers, fronts_of, list_at, member_desk_front, member_front}
+use Rattle.ak_gather.specs.Gathering.{AreBooksOf, AreGaining, GoesOnKnowing, IsJoined, IsRosterOf, joined_desk_front, joined_front, EndsByOthers, PortsEndByOthers}
+use Rattle.ak_run.specs.Recording.{Fronts, IsRecorded, fronts_of, list_at}
+use Rattle.ak_gather.specs.Members.{member_desk_front, member_front}
 use Rattle.ak_run.specs.Starting.{GoesOn}
 use Rattle.ak_run.proofs.Acts.{recorded_on}
 use Rattle.ak_run.proofs.Doing.{edits_still}
 use Rattle.ak_run.proofs.GoingOn.{desk_in, plain_on}
-
--- what main did is in what its seat has seen
-module _ {L : Type 0} (by : L → ℕ) where
-  pub noted_at_end : (front entries : List L) → EndsByOthers by front entries → noted by main_thread entries ≡ noted by main_thread front
-  noted_at_end front entries ends = ap (noted by main_thread) ends.goes_on ∙ noted-others by main_thread front ends.between ends.others
-
-  -- so it is of the list that main keeps
-  pub ends_at_turn : {O : Type 0} (seat given : SeatData O L) (entries : List L) → seat.thread ≡ main_thread → IsGiven by seat given → entries ≡ given.front → EndsByOthers by seat.front entries
-  ends_at_turn seat given entries main seen list = record {
-    between = seen.between;
-    goes_on = list ∙ ap (λ s. s.front) seen.after;
-    others = subst (λ (t : ℕ). All (λ entry. by entry ≢ t) seen.between) main seen.others;
-  }
+use Rattle.ak_gather.proofs.Surface.{DesksEndByOthers, IsMains, desk_fronts_still, desks_end, fronts_still, noted_at_end, ports_end, roster_ends}
 
 ports_at_end : (fronts : List (List PortEntry)) (ports : List PortData) → PortsEndByOthers fronts ports → (looper : ℕ)
     → noted at_ports.by_number main_thread (unwrap_or (option_map (λ (port : PortData). port.entries) (slice_get ports looper)) []) ≡ noted at_ports.by_number main_thread (list_at fronts looper)
@@ -85,53 +73,6 @@ main_done steps f h is roster book ports desks = record {
   ports_seen = λ looper. seen_still (list_at f.ports looper) (port_list h looper) (port_sights looper steps) (ports_go_on f.ports h.ports.items ports looper) (is.ports_seen looper);
 }
 
--- ---- of what was gathered
-abbrev IsMains : Joined → Type 0
-IsMains j = j.door.port_seat.thread ≡ main_thread
-
--- while its doors take in what other seats know they are at what they were
-gaining_tail : (j j' : Joined) (js js' : List Joined) → AreGaining (j ∷ js) (j' ∷ js') → AreGaining js js'
-gaining_tail j j' js js' gains = record { count = omega (arith, gains.count); each = λ place x there. gains.each (suc place) x there }
-
-fronts_still : (js js' : List Joined) → AreGaining js js' → (map joined_front js' ≡ map joined_front js) × (All IsMains js → All IsMains js')
-fronts_still [] [] gains = (refl, λ all. all)
-fronts_still [] (j' ∷ js') gains = absurd (omega (arith, gains.count))
-fronts_still (j ∷ js) [] gains = absurd (omega (arith, gains.count))
-fronts_still (j ∷ js) (j' ∷ js') gains =
-    let first : IsGaining j j' = gains.each 0 j refl in
-    let rest = fronts_still js js' (gaining_tail j j' js js' gains) in
-    (ap (λ front. front ∷ map joined_front js') first.port.front ∙ ap (λ l. joined_front j ∷ l) rest.0, λ all. All-cons IsMains j' js' (first.port.thread ∙ All-head IsMains j js all) (rest.1 (All-tail IsMains j js all)))
-
-ports_end : (js : List Joined) (ports : List PortData) (desks : List DeskData) → All IsMains js → AreBooksOf js ports desks → PortsEndByOthers (map joined_front js) ports
-ports_end [] [] [] all kept = tt
-ports_end (j ∷ js) (port ∷ ports) (desk ∷ desks) all kept = (kept.0.0.ends (All-head IsMains j js all), ports_end js ports desks (All-tail IsMains j js all) kept.1)
-ports_end [] [] (desk ∷ desks) all kept = absurd kept
-ports_end [] (port ∷ ports) desks all kept = absurd kept
-ports_end (j ∷ js) [] desks all kept = absurd kept
-ports_end (j ∷ js) (port ∷ ports) [] all kept = absurd kept
-
--- so it is at each desk
-abbrev pub DesksEndByOthers : List (List EntryData) → List DeskData → Type 0
-DesksEndByOthers [] [] = Unit {0}
-DesksEndByOthers (front ∷ fronts) (desk ∷ desks) = EndsByOthers at_desks.by_number front desk.entries × DesksEndByOthers fronts desks
-DesksEndByOthers _ _ = ⊥
-
-desk_fronts_still : (js js' : List Joined) → AreGaining js js' → map joined_desk_front js' ≡ map joined_desk_front js
-desk_fronts_still [] [] gains = refl
-desk_fronts_still [] (j' ∷ js') gains = absurd (omega (arith, gains.count))
-desk_fronts_still (j ∷ js) [] gains = absurd (omega (arith, gains.count))
-desk_fronts_still (j ∷ js) (j' ∷ js') gains =
-    let first : IsGaining j j' = gains.each 0 j refl in
-    ap (λ front. front ∷ map joined_desk_front js') first.desk.front ∙ ap (λ l. joined_desk_front j ∷ l) (desk_fronts_still js js' (gaining_tail j j' js js' gains))
-
-desks_end : (js : List Joined) (ports : List PortData) (desks : List DeskData) → All IsMains js → AreBooksOf js ports desks → DesksEndByOthers (map joined_desk_front js) desks
-desks_end [] [] [] all kept = tt
-desks_end (j ∷ js) (port ∷ ports) (desk ∷ desks) all kept = (kept.0.1.ends (j.door.thread ∙ All-head IsMains j js all), desks_end js ports desks (All-tail IsMains j js all) kept.1)
-desks_end [] [] (desk ∷ desks) all kept = absurd kept
-desks_end [] (port ∷ ports) desks all kept = absurd kept
-desks_end (j ∷ js) [] desks all kept = absurd kept
-desks_end (j ∷ js) (port ∷ ports) [] all kept = absurd kept
-
 -- the list of a desk, with what main had seen of it
 module _ (P : List EntryData → List EntryData → Type 0) (none : P [] []) (one : (front entries : List EntryData) → EndsByOthers at_desks.by_number front entries → P front entries) where
   desk_at_end : (ms : List Member) (desks : List DeskData) → DesksEndByOthers (map member_desk_front ms) desks → (looper : ℕ) → P (desk_in ms looper) (unwrap_or (option_map (λ (desk : DeskData). desk.entries) (slice_get desks looper)) [])
@@ -141,13 +82,6 @@ module _ (P : List EntryData → List EntryData → Type 0) (none : P [] []) (on
   desk_at_end (m ∷ ms) (desk ∷ desks) ends (suc looper) = desk_at_end ms desks ends.1 looper
   desk_at_end [] (desk ∷ desks) ends looper = absurd ends
   desk_at_end (m ∷ ms) [] ends looper = absurd ends
-
-roster_ends : (seat : RosterSeat) (roster : RosterData KeptDoor Object) → seat.thread ≡ main_thread → IsRosterOf seat roster → EndsByOthers maker_of (plain_of seat) (plain_entries roster.entries)
-roster_ends seat roster main of = record {
-  between = plain_entries of.between;
-  goes_on = ap (λ (l : List (EntryWithObjects Object)). plain_entries l) of.goes_on ∙ map-append (λ (entry : EntryWithObjects Object). entry.plain) seat.front of.between;
-  others = All-map (λ (entry : RosterEntry). maker_of entry ≢ main_thread) (λ (entry : EntryWithObjects Object). entry.plain) of.between (subst (λ (t : ℕ). AreByOthers by_number t of.between) main of.others);
-}
 
 -- behind what main's seats had seen others alone made entries
 pub record EndsByAllOthers (r : Run) (h : Histories) : Type 0 where

@@ -19,13 +19,15 @@ use Rattle.ak_describe.specs.Whole.{IsWholeApp, head_of, heads_of}
 use Rattle.ak_looper.specs.Rosters as rosters
 use Rattle.ak_looper.specs.Rosters.{Object, RosterSeat}
 use Rattle.ak_desk.specs.Shared as at_desks
-use Rattle.ak_run.specs.declared.member.Member.{Member}
+use Rattle.ak_gather.specs.declared.member.Member.{Member}
 use Rattle.ak_run.specs.declared.run.Run.{Run}
-use Rattle.ak_run.specs.Counting.{started_by_main}
+use Rattle.ak_looper.specs.Counting.{started_by_main}
 use Rattle.ak_run.specs.Doing.{HasDoneSoFar, IsRecordedAtDesks, desk_front}
 use Rattle.ak_run.proofs.GoingOn.{desk_in}
 use Rattle.ak_run.proofs.Recorded.{nothing_yet}
-use Rattle.ak_run.specs.Running.{AreBelow, HasRoomToEnd, IsBelow, IsMember, IsOpenedAs, IsRunning}
+use Rattle.ak_gather.specs.Below.{AreBelow, IsBelow}
+use Rattle.ak_run.specs.Running.{HasRoomToEnd, IsOpenedAs, IsRunning}
+use Rattle.ak_gather.specs.Members.{IsMember}
 use Rattle.ak_run.specs.Sessions.{session_count}
 use Rattle.ak_run.proofs.SlotsStand.{no_slots}
 

@@ -20,18 +20,19 @@ use Rattle.ak_describe.specs.Whole.{looper_names}
 use Rattle.ak_diary.specs.declared.histories.Histories.{Histories}
 use Rattle.ak_looper.specs.declared.job.LooperJob.{LooperJob}
 use Rattle.ak_looper.specs.Rosters.{Object, RosterSeat, plain_of}
-use Rattle.ak_run.specs.declared.gathering.Joined.{Joined}
-use Rattle.ak_run.specs.declared.member.Member.{Member}
+use Rattle.ak_gather.specs.declared.gathering.Joined.{Joined}
+use Rattle.ak_gather.specs.declared.member.Member.{Member}
 use Rattle.ak_run.specs.declared.run.Run.{Run}
 use Rattle.ak_run.specs.Ending.{EndsAs}
-use Rattle.ak_run.specs.Gathering.{AreBooksOf, AreGaining, IsGaining, IsJoined}
-use Rattle.ak_run.specs.Launching.{Book, HasEntered}
-use Rattle.ak_run.specs.Opened.{IsLaunchOf, WasOpened, WereOpened}
-use Rattle.ak_run.specs.Running.{IsMember, IsOpenedAs, Stands}
-use Rattle.ak_run.proofs.GoingOn.{plain_on, some_same}
-use Rattle.ak_run.proofs.Placed.{books_at, number_at}
+use Rattle.ak_gather.specs.Gathering.{AreBooksOf, AreGaining, IsGaining, IsJoined}
+use Rattle.ak_team.specs.Launching.{Book, HasEntered}
+use Rattle.ak_team.specs.Jobs.{IsLaunchOf}
+use Rattle.ak_run.specs.Opened.{WasOpened, WereOpened}
+use Rattle.ak_gather.specs.Members.{IsMember}
+use Rattle.ak_run.specs.Running.{IsOpenedAs, Stands}
+use Rattle.ak_run.proofs.GoingOn.{plain_on}
+use Rattle.ak_gather.proofs.Surface.{some_same, books_at, number_at, all_at, at_place, some_and}
 use Rattle.ak_run.proofs.Recorded.{one_event}
-use Rattle.ak_run.proofs.Taking.{all_at, at_place, some_and}
 use Rattle.ak_run.proofs.TeamStarts.{any_on}
 
 -- a launch that main entered is one that its seat has seen

@@ -19,20 +19,22 @@ use Rattle.ak_looper.specs.Rosters as rosters
 use Rattle.ak_looper.specs.Rosters.{RosterSeat, plain_of}
 use Rattle.ak_session.specs.declared.session.Session.{Session}
 use Rattle.ak_session.specs.Ready.{IsReady}
-use Rattle.ak_run.specs.declared.member.Member.{Member}
-use Rattle.ak_run.specs.declared.new_looper.Shared.{Shared}
+use Rattle.ak_gather.specs.declared.member.Member.{Member}
+use Rattle.ak_looper.specs.declared.shared.Shared.{Shared}
 use Rattle.ak_run.specs.declared.run.Run.{Run}
 use Rattle.ak_run.specs.declared.slots.Slot.{Slot}
-use Rattle.ak_run.specs.Counting.{started_by_main}
+use Rattle.ak_looper.specs.Counting.{started_by_main}
 use Rattle.ak_run.specs.Doing.{Does, desk_front}
-use Rattle.ak_run.specs.Gathering.{HasRoomFor, HoldsNothing}
+use Rattle.ak_gather.specs.Gathering.{HasRoomFor, HoldsNothing}
 use Rattle.ak_run.specs.Recording.{HasRecord, IsRecorded, fronts_of}
-use Rattle.ak_run.specs.Running.{AreBelow, IsMember, IsOpenedAs, IsRunning}
+use Rattle.ak_gather.specs.Below.{AreBelow}
+use Rattle.ak_gather.specs.Members.{IsMember}
+use Rattle.ak_run.specs.Running.{IsOpenedAs, IsRunning}
 use Rattle.ak_run.specs.Sessions.{HasLocksOf, HasSlots, IsSessionAt, KeepsButSlots, MayClose, Told, session_count, session_limit, sessions_of, told_in, told_of}
 use Rattle.ak_run.specs.Starting.{HasSplit}
 use Rattle.ak_run.proofs.Acts.{same_goes}
 use Rattle.ak_run.proofs.GoingOn.{plain_on, same_desks}
-use Rattle.ak_run.proofs.Heads.{nothing_by_new}
+use Rattle.ak_team.proofs.Surface.{nothing_by_new}
 use Rattle.ak_run.proofs.Recorded.{fronts_same}
 use Rattle.ak_run.proofs.SlotsStand.{slots_as_before, slots_closed, slots_more, told_set}
 use Rattle.ak_run.proofs.Splits.{new_session, roster_nothing, session_on}

@@ -21,12 +21,14 @@ use Rattle.ak_diary.specs.Step.{Step, desk_entries, desk_entry}
 use Rattle.ak_headline.specs.Main.{IsMainDiary, begun}
 use Rattle.ak_looper.specs.declared.door.Door.{Door}
 use Rattle.ak_looper.specs.Rosters.{Object, RosterSeat, by_number, plain_of}
-use Rattle.ak_run.specs.declared.member.Member.{Member}
+use Rattle.ak_gather.specs.declared.member.Member.{Member}
 use Rattle.ak_run.specs.declared.run.Run.{Run}
-use Rattle.ak_run.specs.Launching.{Book, HasEntered, IsTurnInTime, turn_step}
-use Rattle.ak_run.specs.Recording.{Fronts, GoesBy, HasRecord, IsRecorded, Records, RecordsAtNew, RecordsBeside, RecordsSo, RecordsStart, StartsQuietly, fronts, fronts_of, fronts_with, list_at, member_front}
+use Rattle.ak_team.specs.Launching.{Book, HasEntered, IsTurnInTime, turn_step}
+use Rattle.ak_run.specs.Recording.{Fronts, GoesBy, HasRecord, IsRecorded, Records, RecordsAtNew, RecordsBeside, RecordsSo, RecordsStart, StartsQuietly, fronts, fronts_of, fronts_with, list_at}
+use Rattle.ak_gather.specs.Members.{member_front}
 use Rattle.ak_run.proofs.Acting.{ActsAtBoth, roster_goes, turn_no_edits}
-use Rattle.ak_run.proofs.Acts.{GoesAtBoth, both_goes, no_time, recorded_on, records_then, same_fronts, seam_other, set_before, then_those}
+use Rattle.ak_run.proofs.Acts.{GoesAtBoth, both_goes, recorded_on, records_then, same_fronts, seam_other, set_before, then_those}
+use Rattle.ak_team.proofs.Surface.{no_time}
 use Rattle.ak_run.proofs.RosterTurn.{sees_all}
 
 -- ---- main's diary

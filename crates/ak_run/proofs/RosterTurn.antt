@@ -1,6 +1,5 @@
 -- Main's turn at the roster: how many loopers its own entries start, and how its seat goes on.
 use Rattle.std.proofs.Common.{◌≡◌, ◌≢◌, ℕ, ◌+◌, ◌≤◌, false, List, [], ◌∷◌, ◌++◌, length, cond, refl, sym, ap, ◌∙◌, subst, append_assoc, append-nil, eq-eqb, arith, All, Option}
-use Rattle.std.proofs.lemmas.List.{map-append}
 use Rattle.std.proofs.lemmas.List.Elements.{All-head, All-tail, All-map, filter-append}
 use Rattle.ak_base.specs.Thread.{main_thread}
 use Rattle.ak_turn.specs.Called.{KeepsSeat}
@@ -15,8 +14,9 @@ use Rattle.ak_roster.specs.Kept.{count_of}
 use Rattle.ak_roster.specs.Roster.{plain_entries}
 use Rattle.ak_looper.specs.Rosters.{Object, RosterSeat, by_number, maker_of}
 use Rattle.ak_looper.proofs.Surface.{made_on}
-use Rattle.ak_run.specs.Counting.{started_by_main, started_in}
-use Rattle.ak_run.specs.Launching.{Book, HasEntered}
+use Rattle.ak_looper.specs.Counting.{started_by_main, started_in}
+use Rattle.ak_team.specs.Launching.{Book, HasEntered}
+use Rattle.ak_team.proofs.Surface.{plain-append}
 
 abbrev Entries : Type 0
 Entries = List (EntryWithObjects Object)
@@ -39,9 +39,6 @@ made_own thread [] all = refl
 made_own thread (x ∷ xs) all =
     ap (λ b. cond b (x ∷ made_by maker_of thread xs) (made_by maker_of thread xs)) (eq-eqb x.by.0 thread (All-head (λ (entry : RosterEntry). entry.by.0 ≡ thread) x xs all))
     ∙ ap (λ l. x ∷ l) (made_own thread xs (All-tail (λ (entry : RosterEntry). entry.by.0 ≡ thread) x xs all))
-
-pub plain-append : (xs ys : Entries) → plain_entries (xs ++ ys) ≡ plain_entries xs ++ plain_entries ys
-plain-append xs ys = map-append (λ (entry : EntryWithObjects Object). entry.plain) xs ys
 
 made_in_all : (thread : ℕ) (front between added : Entries) → AreByOthers by_number thread between → All (λ (entry : EntryWithObjects Object). entry.plain.by.0 ≡ thread) added
     → made_by maker_of thread (plain_entries ((front ++ between) ++ added)) ≡ made_by maker_of thread (plain_entries front) ++ plain_entries added

@@ -13,13 +13,12 @@ use Rattle.ak_looper.specs.declared.door.Door.{Door}
 use Rattle.ak_looper.specs.Rosters.{RosterSeat}
 use Rattle.ak_session.specs.declared.session.Session.{Session}
 use Rattle.ak_session.specs.Stands.{IsStanding}
-use Rattle.ak_run.specs.declared.new_looper.Shared.{Shared}
+use Rattle.ak_looper.specs.declared.shared.Shared.{Shared}
 use Rattle.ak_run.specs.declared.slots.Slot.{Slot}
 use Rattle.ak_run.specs.declared.slots.Slots.{Slots}
-use Rattle.ak_run.specs.Gathering.{GoesOnKnowing}
+use Rattle.ak_gather.specs.Gathering.{GoesOnKnowing}
 use Rattle.ak_run.specs.Sessions.{CameOf, HasSlots, IsClosedAt, IsSessionAt, IsSessionJoined, Told, session_limit, told_in, told_of}
-use Rattle.ak_run.proofs.GoingOn.{some_same}
-use Rattle.ak_run.proofs.Taking.{at_place, place_or_beside, at_set}
+use Rattle.ak_gather.proofs.Surface.{some_same, at_place, place_or_beside, at_set}
 
 -- ---- what stands at a place
 -- one more behind the others: it is that one, or one of the others

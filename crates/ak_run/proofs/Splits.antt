@@ -29,25 +29,27 @@ use Rattle.ak_looper.specs.declared.job.LooperJob.{LooperJob}
 use Rattle.ak_looper.specs.Job.{IsReady, facts_of}
 use Rattle.ak_looper.specs.Rosters as rosters
 use Rattle.ak_looper.specs.Rosters.{LeadsTo, Object, RosterSeat, maker_of, plain_of}
-use Rattle.ak_run.specs.declared.launching.Team.{Team}
-use Rattle.ak_run.specs.declared.member.Member.{Member}
-use Rattle.ak_run.specs.declared.new_looper.NewLooper.{NewLooper}
-use Rattle.ak_run.specs.declared.new_looper.Shared.{Shared}
+use Rattle.ak_team.specs.declared.launching.Team.{Team}
+use Rattle.ak_gather.specs.declared.member.Member.{Member}
+use Rattle.ak_team.specs.declared.new_looper.NewLooper.{NewLooper}
+use Rattle.ak_looper.specs.declared.shared.Shared.{Shared}
 use Rattle.ak_run.specs.declared.run.Run.{Run}
 use Rattle.ak_run.specs.declared.slots.Slots.{Slots}
-use Rattle.ak_run.specs.Counting.{started_by_main}
-use Rattle.ak_run.specs.Doors.{HasNoNames}
-use Rattle.ak_run.specs.Gathering.{HasRoomFor, HoldsNothing}
-use Rattle.ak_run.specs.Jobs.{CanStart, IsJobOf, StartsAt, facts_in}
-use Rattle.ak_run.specs.Members.{IsLifeOf, StillLeads}
-use Rattle.ak_run.specs.NewLooper.{IsNewLooper}
-use Rattle.ak_run.specs.Opened.{IsLaunchOf}
-use Rattle.ak_run.specs.Recording.{member_desk_front}
-use Rattle.ak_run.specs.Running.{AreBelow, IsBelow, IsMember, IsOpenedAs, KeepsRest, Stands}
+use Rattle.ak_looper.specs.Counting.{started_by_main}
+use Rattle.ak_looper.specs.NoHead.{HasNoNames}
+use Rattle.ak_gather.specs.Gathering.{HasRoomFor, HoldsNothing}
+use Rattle.ak_team.specs.Jobs.{CanStart, IsJobOf, facts_in, IsLaunchOf}
+use Rattle.ak_looper.specs.Starts.{StartsAt}
+use Rattle.ak_gather.specs.Members.{IsLifeOf, member_desk_front, IsMember}
+use Rattle.ak_run.specs.Members.{StillLeads}
+use Rattle.ak_team.specs.NewLooper.{IsNewLooper}
+use Rattle.ak_gather.specs.Below.{AreBelow, IsBelow}
+use Rattle.ak_run.specs.Running.{IsOpenedAs, KeepsRest, Stands}
 use Rattle.ak_run.specs.Sessions.{session_count, session_limit, told_in}
 use Rattle.ak_run.specs.Starting.{GoesOnAtNew, GoesOnWith, HasSplit, MayStart}
-use Rattle.ak_run.proofs.GoingOn.{desks_then, push_desks, same_desks, some_same}
-use Rattle.ak_run.proofs.Heads.{by_others, nothing_by_new}
+use Rattle.ak_run.proofs.GoingOn.{desks_then, push_desks, same_desks}
+use Rattle.ak_gather.proofs.Surface.{some_same}
+use Rattle.ak_team.proofs.Surface.{by_others, nothing_by_new}
 use Rattle.ak_run.proofs.Standing.{leads_still, member_sees, slots_still}
 
 -- ---- names

@@ -20,13 +20,15 @@ use Rattle.ak_looper.specs.Rosters as rosters
 use Rattle.ak_looper.specs.Rosters.{LeadsTo, Object, RosterSeat}
 use Rattle.ak_looper.specs.Doors.{door_object}
 use Rattle.ak_looper.proofs.Surface.{leads_on}
-use Rattle.ak_run.specs.declared.member.Member.{Member}
-use Rattle.ak_run.specs.declared.new_looper.Shared.{Shared}
+use Rattle.ak_gather.specs.declared.member.Member.{Member}
+use Rattle.ak_looper.specs.declared.shared.Shared.{Shared}
 use Rattle.ak_run.specs.declared.run.Run.{Run}
 use Rattle.ak_run.specs.declared.slots.Slots.{Slots}
-use Rattle.ak_run.specs.Counting.{started_by_main}
-use Rattle.ak_run.specs.Gathering.{HasRoomFor, HoldsNothing}
-use Rattle.ak_run.specs.Running.{AreBelow, HasRoomToEnd, IsMember, IsOpenedAs, KeepsRest, Stands}
+use Rattle.ak_looper.specs.Counting.{started_by_main}
+use Rattle.ak_gather.specs.Gathering.{HasRoomFor, HoldsNothing}
+use Rattle.ak_gather.specs.Below.{AreBelow}
+use Rattle.ak_run.specs.Running.{HasRoomToEnd, IsOpenedAs, KeepsRest, Stands}
+use Rattle.ak_gather.specs.Members.{IsMember}
 use Rattle.ak_run.specs.Sessions.{HasSlots, session_count, told_in}
 use Rattle.ak_run.proofs.RosterTurn.{RosterOn}
 

@@ -22,20 +22,23 @@ use Rattle.ak_diary.specs.Step.{Step, at_roster, saw_roster}
 use Rattle.ak_diary.specs.Turns.{Shuts, ShutsAll}
 use Rattle.ak_looper.specs.Rosters.{Object, RosterSeat, by_number, plain_of}
 use Rattle.ak_looper.specs.declared.door.Door.{Door}
-use Rattle.ak_run.specs.declared.launching.Team.{Team}
-use Rattle.ak_run.specs.declared.member.Member.{Member}
-use Rattle.ak_run.specs.declared.new_looper.NewLooper.{NewLooper}
-use Rattle.ak_run.specs.declared.new_team.NewTeam.{NewTeam}
+use Rattle.ak_team.specs.declared.launching.Team.{Team}
+use Rattle.ak_gather.specs.declared.member.Member.{Member}
+use Rattle.ak_team.specs.declared.new_looper.NewLooper.{NewLooper}
+use Rattle.ak_team.specs.declared.new_team.NewTeam.{NewTeam}
 use Rattle.ak_run.specs.declared.run.Run.{Run}
-use Rattle.ak_run.specs.Launching.{Book, HasEntered, IsTurnInTime, turn_step}
-use Rattle.ak_run.specs.Recording.{Fronts, GoesBy, RecordsAtNew, RecordsBesideSo, RecordsSo, RecordsStart, fronts, fronts_with, member_front, new_front, team_fronts}
+use Rattle.ak_team.specs.Launching.{Book, HasEntered, IsTurnInTime, turn_step}
+use Rattle.ak_run.specs.Recording.{Fronts, GoesBy, RecordsAtNew, RecordsBesideSo, RecordsSo, RecordsStart, fronts, fronts_with}
+use Rattle.ak_gather.specs.Members.{member_front}
+use Rattle.ak_team.specs.InTime.{new_front, team_fronts}
 use Rattle.ak_run.specs.Running.{IsStanding}
 use Rattle.ak_run.specs.Starting.{GoesOnWith, IsStarting}
 use Rattle.ak_run.specs.Stopping.{HasOf, LeavesOrSees, Stops, StopsAtNew, StopsSince, StopsStart, StopsTeam}
 use Rattle.ak_run.proofs.Acting.{ActsAtBoth}
 use Rattle.ak_run.proofs.Acts.{records_so_as, records_so_then, sees_roster}
-use Rattle.ak_run.proofs.Entering.{gone_event}
-use Rattle.ak_run.proofs.GoingOn.{plain_on, some_same}
+use Rattle.ak_team.proofs.Surface.{gone_event}
+use Rattle.ak_run.proofs.GoingOn.{plain_on}
+use Rattle.ak_gather.proofs.Surface.{some_same}
 use Rattle.ak_run.proofs.Recorded.{call_goes, no_event, one_event, start_acts, turn_goes}
 use Rattle.ak_run.proofs.RosterTurn.{sees_all}
 use Rattle.ak_run.proofs.TeamEnds.{any_found, range_push, shuts_push}

@@ -18,10 +18,11 @@ use Rattle.ak_headline.specs.Run.{roster_maker}
 use Rattle.ak_looper.specs.Rosters.{plain_of}
 use Rattle.ak_run.specs.declared.run.Run.{Run}
 use Rattle.ak_run.specs.Closing.{ClosesSo, EndsTeam, EndsTeams, IsRecordedAtRoster, LeavesBook, LeavesSo, ports_of}
-use Rattle.ak_run.specs.Launching.{Book, HasEntered}
+use Rattle.ak_team.specs.Launching.{Book, HasEntered}
 use Rattle.ak_run.specs.Recording.{GoesBy, RecordsSo, fronts_of}
-use Rattle.ak_run.proofs.Acts.{goes_then, nothing_after, same_goes, then_those}
-use Rattle.ak_run.proofs.Entering.{all_started, none_entered, one_entered}
+use Rattle.ak_run.proofs.Acts.{goes_then, same_goes, then_those}
+use Rattle.ak_gather.proofs.Surface.{nothing_after}
+use Rattle.ak_team.proofs.Surface.{all_started, none_entered, one_entered}
 use Rattle.ak_run.proofs.Recorded.{fronts_same}
 
 -- ---- steps

@@ -1,9 +1,8 @@
 -- The loopers of a team start, one after another.
-use Rattle.std.proofs.Common.{◌≡◌, ℕ, suc, ◌+◌, ◌-◌, ◌≤◌, List, [], ◌∷◌, ◌++◌, length, length-append, sym, ap, ◌∙◌, subst, ne_eqb, arith, All}
+use Rattle.std.proofs.Common.{◌≡◌, ℕ, suc, ◌+◌, ◌-◌, ◌≤◌, List, [], ◌∷◌, length, sym, ap, subst, ne_eqb, arith, All}
 use Rattle.std.specs.Prelude.{if◌then◌else◌}
 use Rattle.std.specs.Arc.{arc_value}
 use Rattle.std.specs.List.{Any, range_with_len}
-use Rattle.std.proofs.lemmas.List.{get_or_append_left}
 use Rattle.std.proofs.lemmas.List.Elements.{All-head, All-nil, All-tail, All-weaker}
 use Rattle.ak_base.specs.Thread.{looper_thread}
 use Rattle.ak_turn.specs.Entries.{StartsWith}
@@ -14,16 +13,17 @@ use Rattle.ak_looper.specs.declared.door.Door.{Door}
 use Rattle.ak_looper.specs.declared.kept_door.KeptDoor.{KeptDoor}
 use Rattle.ak_looper.specs.Doors.{IsNewDoor}
 use Rattle.ak_looper.specs.Rosters.{LeadsTo, RosterSeat, plain_of}
-use Rattle.ak_run.specs.declared.launching.Team.{Team}
-use Rattle.ak_run.specs.declared.new_looper.NewLooper.{NewLooper}
-use Rattle.ak_run.specs.declared.new_team.NewTeam.{NewTeam}
+use Rattle.ak_team.specs.declared.launching.Team.{Team}
+use Rattle.ak_team.specs.declared.new_looper.NewLooper.{NewLooper}
+use Rattle.ak_team.specs.declared.new_team.NewTeam.{NewTeam}
 use Rattle.ak_run.specs.declared.run.Run.{Run}
-use Rattle.ak_run.specs.Jobs.{HasWays, IsStartedFrom, IsStartedIn, StartsAt, facts_in}
-use Rattle.ak_run.specs.NewTeam.{AreOthers, IsOneOf}
-use Rattle.ak_run.specs.Opened.{IsLaunchOf}
-use Rattle.ak_run.specs.Starting.{GoesOnWith, IsPaired, IsStarting, MayStart, MayStartTeam}
+use Rattle.ak_team.specs.Jobs.{HasWays, IsStartedFrom, IsStartedIn, facts_in, IsLaunchOf, IsPaired}
+use Rattle.ak_looper.specs.Starts.{StartsAt}
+use Rattle.ak_team.specs.NewTeam.{AreOthers, IsOneOf}
+use Rattle.ak_run.specs.Starting.{GoesOnWith, IsStarting, MayStart, MayStartTeam}
 use Rattle.ak_run.proofs.GoingOn.{plain_on, with_then_with}
 use Rattle.ak_run.proofs.Standing.{leads_still}
+use Rattle.ak_gather.proofs.Surface.{any_more}
 
 -- the own looper is the first
 pub own_may_start : (heads : List AppHead) (plans : List PlanParts) (kept : List KeptDoor) (t : Team) (new : NewTeam) (r : Run) → MayStartTeam heads plans kept t new r → MayStart heads plans 0 t new.own new.ways.items r
@@ -46,10 +46,6 @@ own_may_start heads plans kept t new r may =
 
     next_is : (first count : ℕ) → first ≡ count → first + 0 ≡ count
     next_is first count is = omega (arith, is)
-
--- what was launched before is among more
-pub any_more : {X : Type 0} (P : X → Type 0) (xs ys : List X) → Any P xs → Any P (xs ++ ys)
-any_more P xs ys any = (any.0, any.1, omega (arith, any.2, length-append xs ys), get_or_append_left xs ys any.1 any.0 any.2 ∙ any.3, any.4)
 
 -- so is it among what a list went on to
 pub any_on : {X : Type 0} (P : X → Type 0) (xs ys : List X) → StartsWith ys xs → Any P xs → Any P ys

@@ -36,19 +36,14 @@ use Rattle.ak_looper.specs.Doors.{door_object}
 use Rattle.ak_looper.proofs.Surface.{leads_on, none_of_door, own_entries, plain_starts}
 use Rattle.ak_session.specs.declared.session.Session.{Session}
 use Rattle.ak_session.specs.Stands.{DoorStands, IsAtOneOf, IsStanding, Stands, numbers_of}
-use Rattle.ak_run.specs.declared.gathering.Joined.{Joined}
-use Rattle.ak_run.specs.declared.new_looper.Shared.{Shared}
+use Rattle.ak_gather.specs.declared.gathering.Joined.{Joined}
+use Rattle.ak_looper.specs.declared.shared.Shared.{Shared}
 use Rattle.ak_run.specs.declared.slots.Slots.{Slots}
 use Rattle.ak_run.specs.AtEnd.{SessionDone}
-use Rattle.ak_run.specs.Gathering.{AreTakenIn, AreWaysIn, TookBothIn, IsTakenIn, IsWayIn, TookIn}
+use Rattle.ak_gather.specs.Gathering.{AreTakenIn, AreWaysIn, TookBothIn, IsTakenIn, IsWayIn, TookIn}
 use Rattle.ak_run.specs.Sessions.{AreSessionsJoined, HasSlots, IsSessionJoined, Told, told_in}
-use Rattle.ak_run.proofs.GoingOn.{some_same}
-use Rattle.ak_run.proofs.Knowing.{known_told, part_known, plain_told}
-use Rattle.ak_run.proofs.Makers.{IsGathered, as_many, edited_by_holders, history, made_by_holders, port_of}
-use Rattle.ak_run.proofs.Paired.{AllAreJoined, at_from}
-use Rattle.ak_run.proofs.Placed.{books_at, way_to}
+use Rattle.ak_gather.proofs.Surface.{some_same, known_told, part_known, plain_told, IsGathered, as_many, edited_by_holders, history, made_by_holders, port_of, AllAreJoined, at_from, books_at, way_to, all_at, some_and}
 use Rattle.ak_run.proofs.SlotsStand.{all_stood, came_of}
-use Rattle.ak_run.proofs.Taking.{all_at, some_and}
 
 -- ---- at a port and a desk to which it has no way it did nothing
 other_number : {A : Type 0} (ways : List ℕ) (number looper : ℕ) (x : A) → Contains ways number → (Contains ways looper → ⊥) → (if number == looper then x ∷ [] else []) ≡ []

@@ -15,7 +15,7 @@ use Rattle.ak_diary.specs.Turns.{ShutsAll}
 use Rattle.ak_headline.specs.Run.{roster_maker}
 use Rattle.ak_looper.specs.Rosters.{plain_of}
 use Rattle.ak_run.specs.declared.run.Run.{Run}
-use Rattle.ak_run.specs.Launching.{Book, HasEntered}
+use Rattle.ak_team.specs.Launching.{Book, HasEntered}
 use Rattle.ak_run.specs.Recording.{GoesBy, fronts_of}
 
 -- ---- one team

@@ -28,8 +28,9 @@ use Rattle.ak_diary.specs.Step.{Step, at_roster, desk_entries}
 use Rattle.ak_diary.specs.Wants.{AsksInVain, EntersPort, Withdraws}
 use Rattle.ak_looper.specs.Rosters.{plain_of}
 use Rattle.ak_run.specs.declared.run.Run.{Run}
-use Rattle.ak_run.specs.Greeting.{EntersEach, SendsEach, arguments_told, capacities_in, start_entries}
-use Rattle.ak_run.specs.Recording.{GoesBy, IsRecorded, fronts_of, list_at, member_desk_front}
+use Rattle.ak_team.specs.Greeting.{EntersEach, SendsEach, arguments_told, capacities_in, start_entries}
+use Rattle.ak_run.specs.Recording.{GoesBy, IsRecorded, fronts_of, list_at}
+use Rattle.ak_gather.specs.Members.{member_desk_front}
 use Rattle.ak_run.specs.Stopping.{StopsTeam}
 use Rattle.ak_session.specs.Doing.{Answered, address_of}
 use Rattle.ak_session.specs.declared.answers.Found.{Found}

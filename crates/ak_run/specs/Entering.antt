@@ -18,11 +18,11 @@ use Rattle.ak_diary.specs.Step.{Step, at_roster, book_entries, desk_entries, ros
 use Rattle.ak_looper.specs.Rosters.{plain_of}
 use Rattle.ak_run.specs.declared.answers.LaunchAnswer.{LaunchAnswer}
 use Rattle.ak_run.specs.declared.answers.LaunchAnswer.TheVariants as answer
-use Rattle.ak_run.specs.declared.launching.Launch.{Launch}
-use Rattle.ak_run.specs.declared.launching.Launch.TheVariants as launch
+use Rattle.ak_team.specs.declared.launching.Launch.{Launch}
+use Rattle.ak_team.specs.declared.launching.Launch.TheVariants as launch
 use Rattle.ak_run.specs.declared.run.Run.{Run}
 use Rattle.ak_run.specs.Doing.{IsQuietAtDesks}
-use Rattle.ak_run.specs.Greeting.{EntersEach, SendsEach, arguments_told, capacities_in, start_entries}
+use Rattle.ak_team.specs.Greeting.{EntersEach, SendsEach, arguments_told, capacities_in, start_entries}
 use Rattle.ak_run.specs.Recording.{GoesBy, fronts_of, fronts_with}
 
 -- By some steps of which that holds, of which none is at a desk, main's own entries went on, with the new ports of a team that is about to

@@ -7,7 +7,7 @@ use Rattle.ak_roster.specs.declared.entry.RosterEvent.TheVariants as event
 use Rattle.ak_roster.specs.Heads.{team_for}
 use Rattle.ak_roster.specs.Machine.{outcome_found}
 use Rattle.ak_roster.specs.Roster.{state}
-use Rattle.ak_run.specs.Launching.{Book, HasEntered}
+use Rattle.ak_team.specs.Launching.{Book, HasEntered}
 
 -- by one entry that team was found, whose loopers were started, or none
 abbrev pub LooksUp : AppWord → FindAnswer → Book → Book → Type 0

@@ -8,16 +8,7 @@ use Rattle.ak_action.specs.Opening.{Opens}
 use Rattle.ak_describe.specs.declared.described.AppText.{AppText}
 use Rattle.ak_describe.specs.Whole.{looper_names}
 use Rattle.ak_looper.specs.declared.door.Door.{Door}
-use Rattle.ak_looper.specs.declared.job.LooperJob.{LooperJob}
-use Rattle.ak_looper.specs.Job.{HasLived}
-use Rattle.ak_run.specs.declared.member.Life.{Life}
-use Rattle.ak_run.specs.declared.member.Life.TheVariants as life
-use Rattle.ak_run.specs.Opened.{IsLaunchOf}
-
--- its thread is to give back what comes of that job, or it has come of it
-abbrev pub IsLifeOf : LooperJob → Life → Type 0
-IsLifeOf job (life.Running handle) = handle.promise.0.value ≡ job
-IsLifeOf job (life.Over end) = HasLived job end
+use Rattle.ak_team.specs.Jobs.{IsLaunchOf}
 
 -- the looper of that number is one of the loopers of the application whose launch, which is one of these entries, started the team, and its
 -- desk was opened as that one's plan says

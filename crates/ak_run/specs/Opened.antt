@@ -1,10 +1,6 @@
 -- What each looper of a run was opened as: one of the application that was launched.
 use Rattle.std.specs.Prelude.{◌≡◌, ◌<◌, ℕ, ◌+◌, List, length, Any, Some, slice_get}
 use Rattle.ak_base.specs.Thread.{looper_thread}
-use Rattle.ak_base.specs.declared.app_word.AppWord.{AppWord}
-use Rattle.ak_roster.specs.declared.entry.RosterEntry.{RosterEntry}
-use Rattle.ak_roster.specs.declared.entry.RosterEvent.TheVariants as event
-use Rattle.ak_roster.specs.declared.entry.LaunchOutcome.TheVariants as outcome
 use Rattle.ak_port.specs.PortCalls.{PortData}
 use Rattle.ak_action.specs.declared.plan.PlanParts.{PlanParts}
 use Rattle.ak_action.specs.Opening.{Opens}
@@ -12,10 +8,7 @@ use Rattle.ak_describe.specs.declared.described.AppText.{AppText}
 use Rattle.ak_describe.specs.Whole.{looper_names}
 use Rattle.ak_desk.specs.Desk.{DeskData}
 use Rattle.ak_diary.specs.declared.histories.Histories.{Histories}
-
--- by a launch of the application at that place among the descriptions this team was started, whose first looper has that number
-abbrev pub IsLaunchOf : ℕ → ℕ → ℕ → RosterEntry → Type 0
-IsLaunchOf description team first entry = (word : AppWord) × (entry.event ≡ event.Launch word (outcome.Started description team first))
+use Rattle.ak_team.specs.Jobs.{IsLaunchOf}
 
 -- The looper of that number is one of a team that was started by a launch, and stands in that team at the place of one of the plans of the
 -- application that was launched. Its desk was opened as that plan says, and from its port its own thread takes

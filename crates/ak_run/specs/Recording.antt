@@ -1,23 +1,21 @@
 -- What main did at the objects that threads share: its diary so far, and how that goes on.
 use Rattle.std.specs.Prelude.{◌≡◌, ℕ, List, [], ◌∷◌, ◌++◌, map, All, get_or}
 use Rattle.ak_base.specs.Thread.{main_thread}
-use Rattle.ak_turn.specs.Entries.{AreByOthers, StartsWith}
-use Rattle.ak_turn.specs.Noted.{Noted, noted}
+use Rattle.ak_turn.specs.Entries.{StartsWith}
+use Rattle.ak_turn.specs.Noted.{noted}
 use Rattle.ak_roster.specs.declared.entry.RosterEntry.{RosterEntry}
 use Rattle.ak_port.specs.declared.port_entry.PortEntry.{PortEntry}
 use Rattle.ak_port.specs.declared.reply_entry.ReplyEntry.{ReplyEntry}
 use Rattle.ak_port.specs.PortCalls as at_ports
-use Rattle.ak_port.specs.PortCalls.{PortData}
 use Rattle.ak_port.specs.ReplySeats as at_books
 use Rattle.ak_desk.specs.Entry.{EntryData}
 use Rattle.ak_desk.specs.Shared as at_desks
-use Rattle.ak_diary.specs.Step.{AreStamped, Step, book_entries, book_sights, desk_entries, due, port_entries, port_sights, roster_entries, roster_sights, time_of}
-use Rattle.ak_headline.specs.Main.{IsMainDiary, MayEnterPort}
+use Rattle.ak_diary.specs.Step.{Step, book_entries, book_sights, desk_entries, port_entries, port_sights, roster_entries, roster_sights}
+use Rattle.ak_headline.specs.Main.{IsMainDiary}
 use Rattle.ak_looper.specs.Rosters.{maker_of, plain_of}
-use Rattle.ak_run.specs.declared.member.Member.{Member}
-use Rattle.ak_run.specs.declared.new_looper.NewLooper.{NewLooper}
-use Rattle.ak_run.specs.declared.new_team.NewTeam.{NewTeam}
 use Rattle.ak_run.specs.declared.run.Run.{Run}
+use Rattle.ak_team.specs.InTime.{AreInTime}
+use Rattle.ak_gather.specs.Members.{member_front}
 
 -- ---- what main's seats have seen
 -- main's time, the roster's list, the reply book's, and each port's, by the loopers' numbers
@@ -34,51 +32,12 @@ fronts time roster book ports = record { time = time; roster = roster; book = bo
 abbrev pub list_at : List (List PortEntry) → ℕ → List PortEntry
 list_at lists looper = get_or lists looper []
 
-abbrev pub member_front : Member → List PortEntry
-member_front m = m.door.port_seat.front
-
-abbrev pub member_desk_front : Member → List EntryData
-member_desk_front m = m.door.desk_seat.front
-
-abbrev pub new_front : NewLooper → List PortEntry
-new_front n = n.door.port_seat.front
-
 -- Those of a run. While a team starts, its loopers' ports that are made follow those of the loopers that have started
 abbrev pub fronts_with : Run → List (List PortEntry) → Fronts
 fronts_with r new = fronts r.hands.clock.time (plain_of r.roster_seat) r.hands.book_seat.front (map member_front r.members.items ++ new)
 
 abbrev pub fronts_of : Run → Fronts
 fronts_of r = fronts_with r []
-
--- those of a team that is about to start
-abbrev pub team_fronts : NewTeam → List (List PortEntry)
-team_fronts t = new_front t.own ∷ map new_front t.others.items
-
--- ---- in time
--- from that time on each entry of these steps has the stamp that is due, and behind them the time is that
-pub record AreInTime (time : ℕ) (steps : List Step) (later : ℕ) : Type 0 where
-  pub stamped : AreStamped time steps
-  pub time_is : time_of time steps ≡ later
-
--- so have entries at one port, each with what stands before it
-abbrev pub AreNotesInTime : ℕ → List (Noted PortEntry) → ℕ → Type 0
-AreNotesInTime time [] later = time ≡ later
-AreNotesInTime time (n ∷ notes) later = (n.entry.stamp ≡ due at_ports.stamp_number time n.before) × AreNotesInTime n.entry.stamp notes later
-
--- and entries there that follow that list
-abbrev pub AreEntriesInTime : ℕ → List PortEntry → List PortEntry → ℕ → Type 0
-AreEntriesInTime time before [] later = time ≡ later
-AreEntriesInTime time before (entry ∷ entries) later = (entry.stamp ≡ due at_ports.stamp_number time before) × AreEntriesInTime entry.stamp (before ++ entry ∷ []) entries later
-
--- ports with these lists, one behind another
-abbrev pub AreMadeInTime : ℕ → List (List PortEntry) → ℕ → Type 0
-AreMadeInTime time [] later = time ≡ later
-AreMadeInTime time (entries ∷ ports) later = (between : ℕ) × AreEntriesInTime time [] entries between × AreMadeInTime between ports later
-
--- those of a team: all are made, and then the first one is written to
-abbrev pub ArePortsInTime : ℕ → List (List PortEntry) → ℕ → Type 0
-ArePortsInTime time ((made ∷ written) ∷ ports) later = (between : ℕ) × AreMadeInTime time ((made ∷ []) ∷ ports) between × AreEntriesInTime between (made ∷ []) written later
-ArePortsInTime time _ later = ⊥
 
 -- ---- main's diary
 -- the rules allow these steps, main's own entries at each object are those of them, and their stamps are due from 0 on; what it saw without an
@@ -144,26 +103,3 @@ pub record RecordsStart (P : List Step → Type 0) (port : List PortEntry) (r r'
 -- the same without an act: the fronts are as they were
 pub record StartsQuietly (port : List PortEntry) (r r' : Run) : Type 0 where
   pub same : (new : List (List PortEntry)) → fronts_with r' new ≡ fronts_with r (port ∷ new)
-
--- ---- at one port
--- from one time to the other main made entries there, each of which it may make by itself, and the list goes on
-pub record AddsAtPort (time later : ℕ) (a b : List PortEntry) : Type 0 where
-  pub added : List (Noted PortEntry)
-  pub in_time : AreNotesInTime time added later
-  pub on : StartsWith b a
-  pub may : All (λ (n : Noted PortEntry). MayEnterPort n.entry.event) added
-  pub noted_is : noted at_ports.by_number main_thread b ≡ noted at_ports.by_number main_thread a ++ added
-
--- ---- at the end
-module _ {L : Type 0} (by : L → ℕ) where
-  -- behind what main's seat has seen others alone made entries
-  pub record EndsByOthers (front entries : List L) : Type 0 where
-    pub between : List L
-    pub goes_on : entries ≡ front ++ between
-    pub others : AreByOthers by main_thread between
-
--- at each port
-abbrev pub PortsEndByOthers : List (List PortEntry) → List PortData → Type 0
-PortsEndByOthers [] [] = Unit {0}
-PortsEndByOthers (front ∷ fronts) (port ∷ ports) = EndsByOthers at_ports.by_number front port.entries × PortsEndByOthers fronts ports
-PortsEndByOthers _ _ = ⊥

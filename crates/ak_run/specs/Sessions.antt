@@ -12,11 +12,11 @@ use Rattle.ak_looper.specs.declared.door.Door.{Door}
 use Rattle.ak_looper.specs.Rosters.{RosterSeat}
 use Rattle.ak_session.specs.declared.session.Session.{Session}
 use Rattle.ak_session.specs.Stands.{KeepsSession, Stands}
-use Rattle.ak_run.specs.declared.new_looper.Shared.{Shared}
+use Rattle.ak_looper.specs.declared.shared.Shared.{Shared}
 use Rattle.ak_run.specs.declared.run.Run.{Run}
 use Rattle.ak_run.specs.declared.slots.Slot.{Slot}
 use Rattle.ak_run.specs.declared.slots.Slots.{Slots}
-use Rattle.ak_run.specs.Gathering.{TookIn}
+use Rattle.ak_gather.specs.Gathering.{TookIn}
 
 -- the most of them, whose threads come before those of the loopers
 abbrev pub session_limit : ℕ

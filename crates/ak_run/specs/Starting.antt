@@ -1,6 +1,5 @@
 -- Loopers that start, one after another.
 use Rattle.std.specs.Prelude.{◌≡◌, ℕ, ◌+◌, ◌≤◌, ◌<◌, List, [], ◌∷◌, length, All}
-use Rattle.std.specs.Arc.{arc_value}
 use Rattle.ak_base.specs.Limits.{app_looper_limit, looper_limit}
 use Rattle.ak_turn.specs.Entries.{StartsWith}
 use Rattle.ak_turn.specs.Seats.{KnowsWhole, titled_seat}
@@ -11,21 +10,21 @@ use Rattle.ak_action.specs.declared.state.DeskState.{DeskState}
 use Rattle.ak_port.specs.declared.port_entry.PortEntry.{PortEntry}
 use Rattle.ak_port.specs.ReplySeats as books
 use Rattle.ak_looper.specs.Rosters as rosters
-use Rattle.ak_looper.specs.Rosters.{LeadsTo}
 use Rattle.ak_looper.specs.declared.door.Door.{Door}
 use Rattle.ak_looper.specs.declared.kept_door.KeptDoor.{KeptDoor}
-use Rattle.ak_run.specs.declared.launching.Launch.{Launch}
-use Rattle.ak_run.specs.declared.launching.Launch.TheVariants as launch
-use Rattle.ak_run.specs.declared.launching.Team.{Team}
-use Rattle.ak_run.specs.declared.new_looper.NewLooper.{NewLooper}
-use Rattle.ak_run.specs.declared.new_team.NewTeam.{NewTeam}
+use Rattle.ak_team.specs.declared.launching.Launch.{Launch}
+use Rattle.ak_team.specs.declared.launching.Launch.TheVariants as launch
+use Rattle.ak_team.specs.declared.launching.Team.{Team}
+use Rattle.ak_team.specs.declared.new_looper.NewLooper.{NewLooper}
+use Rattle.ak_team.specs.declared.new_team.NewTeam.{NewTeam}
 use Rattle.ak_run.specs.declared.run.Run.{Run}
-use Rattle.ak_run.specs.Counting.{started_by_main}
+use Rattle.ak_looper.specs.Counting.{started_by_main}
 use Rattle.ak_run.specs.Doing.{IsQuietAtDesks, desk_front}
-use Rattle.ak_run.specs.Jobs.{HasWays, IsStartedFrom, IsStartedIn, facts_in}
-use Rattle.ak_run.specs.NewLooper.{IsNewLooper}
-use Rattle.ak_run.specs.NewTeam.{AreOthers, IsNewTeam}
-use Rattle.ak_run.specs.Recording.{HasRecord, RecordsBeside, fronts_with, team_fronts}
+use Rattle.ak_team.specs.Jobs.{HasWays, IsStartedFrom, IsStartedIn, facts_in, IsPaired}
+use Rattle.ak_team.specs.NewLooper.{IsNewLooper}
+use Rattle.ak_team.specs.NewTeam.{AreOthers, IsNewTeam}
+use Rattle.ak_run.specs.Recording.{HasRecord, RecordsBeside, fronts_with}
+use Rattle.ak_team.specs.InTime.{team_fronts}
 use Rattle.ak_run.specs.Running.{IsRunning, KeepsRest, Stands}
 
 -- the run goes on with the loopers that it has; main launched nothing, and edited nothing
@@ -61,10 +60,6 @@ pub record GoesOnWith (more : ℕ) (r r' : Run) : Type 0 where
   pub apps : r'.apps ≡ r.apps
   pub slots : r'.slots ≡ r.slots
   pub desks_on : IsQuietAtDesks r r'
-
--- the roster pairs the looper with what main's door to it leads to
-abbrev pub IsPaired : rosters.RosterSeat → NewLooper → Type 0
-IsPaired roster n = LeadsTo roster n.number (arc_value n.door.port) (arc_value n.door.desk)
 
 -- the looper is the next one of a team whose launch main's seat has seen
 pub record MayStart (heads : List AppHead) (plans : List PlanParts) (k : ℕ) (t : Team) (n : NewLooper) (ways : List (ℕ × Door)) (r : Run) : Type 0 where

@@ -11,7 +11,7 @@ use Rattle.ak_describe.specs.Whole.{heads_of}
 use Rattle.ak_diary.specs.Step.{Step, saw_roster}
 use Rattle.ak_diary.specs.Turns.{ShutsAll}
 use Rattle.ak_looper.specs.Rosters.{plain_of}
-use Rattle.ak_run.specs.declared.launching.Team.{Team}
+use Rattle.ak_team.specs.declared.launching.Team.{Team}
 use Rattle.ak_run.specs.declared.run.Run.{Run}
 use Rattle.ak_run.specs.Closing.{EntersGone}
 use Rattle.ak_run.specs.Recording.{RecordsAtNew, RecordsBesideSo, RecordsSo, RecordsStart, fronts_with}

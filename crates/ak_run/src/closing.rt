@@ -8,17 +8,17 @@ ghost use Rattle.ak_describe.specs.Whole.{heads_of};
 ghost use Rattle.ak_diary.specs.Turns.{Shuts, ShutsAll};
 ghost use Rattle.ak_looper.specs.Rosters.{plain_of};
 ghost use Rattle.ak_run.specs.Closing.{ClosesSo, EndsAllTeams, EndsTeam, LeavesBook, LeavesSo};
-ghost use Rattle.ak_run.specs.Launching.{ByMain, IsTurnInTime};
+ghost use Rattle.ak_team.specs.Launching.{ByMain, IsTurnInTime};
 ghost use Rattle.ak_run.specs.Recording.{RecordsBesideSo};
 ghost use Rattle.ak_run.specs.Running.{IsRunning, IsStanding};
 ghost use Rattle.ak_run.specs.Starting.{GoesOn};
 ghost use Rattle.ak_run.specs.Stopping.{LeavesOrSees, StopsBeside};
 
-use crate::launching::{Team, count_by_main};
 use crate::run::Run;
 use ak_looper::KeptDoor;
 use ak_port::close;
 use ak_roster::{RosterBook, Running, TEAM_LIMIT};
+use ak_team::{Team, count_by_main};
 use ak_turn::Clock;
 use std::sync::Wait;
 

@@ -1,16 +1,13 @@
 //! The end of a run.
 
 use crate::answers::Ended;
-use crate::gathering::{
-    AllJoined, join_all, keep_all, keep_book, keep_roster, take_all_ways, take_kept,
-};
-use crate::new_looper::Shared;
 use crate::run::Run;
 use crate::slots::join_slots;
 use ak_base::Items;
 use ak_diary::Histories;
+use ak_gather::{AllJoined, join_all, keep_all, keep_book, keep_roster, take_all_ways, take_kept};
 use ak_headline::{each_waiting_send_got_one_reply, runs_are_accounted, runs_go_by_rule};
-use ak_looper::KeptDoor;
+use ak_looper::{KeptDoor, Shared};
 use ak_messenger::Hands;
 use ak_roster::{holders_are_told, loopers_are_of_their_teams, seats_tell_strangers};
 use std::sync::Wait;
@@ -25,7 +22,8 @@ impl Run {
     ghost use Rattle.ak_headline.specs.Run.{HasDone, IsRunWith};
     ghost use Rattle.ak_run.specs.AtEnd.{DoneAtEnd, SessionsDone};
     ghost use Rattle.ak_run.specs.Doing.{HasDoneSoFar, IsRecordedAtDesks};
-    ghost use Rattle.ak_run.specs.Ending.{EndsAs, IsRunOfLoopers};
+    ghost use Rattle.ak_run.specs.Ending.{EndsAs};
+    ghost use Rattle.ak_gather.specs.Ending.{IsRunOfLoopers};
     ghost use Rattle.ak_run.specs.Opened.{WereOpened};
     ghost use Rattle.ak_run.specs.Recording.{IsRecorded, fronts_of};
     ghost use Rattle.ak_run.specs.Running.{IsRunning};

@@ -6,17 +6,17 @@ ghost use Rattle.ak_describe.specs.Whole.{heads_of};
 ghost use Rattle.ak_run.specs.Doing.{DoesSo, IsStartedTeam};
 ghost use Rattle.ak_session.specs.Doing.{FoundSo};
 ghost use Rattle.ak_run.specs.Finding.{LooksUp};
-ghost use Rattle.ak_run.specs.Launching.{ByMain, IsTurnInTime};
+ghost use Rattle.ak_team.specs.Launching.{ByMain, IsTurnInTime};
 ghost use Rattle.ak_run.specs.Running.{IsRunning};
 ghost use Rattle.ak_run.specs.Sending.{looper_count};
 ghost use Rattle.ak_run.specs.Sessions.{sessions_of};
 
-use crate::launching::count_by_main;
 use crate::run::Run;
 use ak_base::AppWord;
 use ak_looper::KeptDoor;
 use ak_roster::{FindAnswer, RosterBook};
 use ak_session::{Found, found_at};
+use ak_team::count_by_main;
 use ak_turn::Clock;
 use std::sync::Wait;
 

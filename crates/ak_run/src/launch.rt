@@ -10,14 +10,13 @@ ghost use Rattle.ak_run.specs.Sessions.{sessions_of};
 ghost use Rattle.ak_run.specs.Starting.{HasEnteredLaunch, launched_fronts};
 
 use crate::answers::LaunchAnswer;
-use crate::greeting::send;
-use crate::launching::{Launch, StartedTeam, launch_at_turn};
 use crate::run::Run;
 use crate::team::clones;
 use ak_base::AppWord;
 use ak_message::Message;
 use ak_outside::{Gate, Spawner};
 use ak_session::last_place;
+use ak_team::{Launch, StartedTeam, launch_at_turn, send};
 use std::sync::Wait;
 use std::thread::Threads;
 

@@ -5,17 +5,9 @@
 
 mod answers;
 mod closing;
-mod doors;
 mod ending;
 mod finding;
-mod gathering;
-mod greeting;
 mod launch;
-mod launching;
-mod member;
-mod new_looper;
-mod new_team;
-mod opening;
 mod run;
 mod sending;
 mod sessions;

@@ -5,14 +5,12 @@ ghost use Rattle.ak_base.specs.Thread.{main_thread};
 ghost use Rattle.ak_describe.specs.Whole.{IsWholeApp, head_of, heads_of};
 ghost use Rattle.ak_roster.specs.Heads.{IsHeads};
 
-use crate::gathering::AllJoined;
-use crate::member::Member;
-use crate::new_looper::Shared;
 use crate::slots::Slots;
 use ak_base::{LOOPER_LIMIT, NoMemory, ThreadId};
 use ak_describe::AppText;
 use ak_desk::Desk;
-use ak_looper::KeptDoor;
+use ak_gather::{AllJoined, Member};
+use ak_looper::{KeptDoor, Shared};
 use ak_messenger::Hands;
 use ak_port::{PortBook, ReplyBook};
 use ak_roster::{AppHead, RosterBook};

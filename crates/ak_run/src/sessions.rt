@@ -3,15 +3,14 @@ ghost use Rattle.std.specs.Prelude.{◌≡◌, ◌<◌, ◌+◌, ◌++◌, ◌�
 ghost use Rattle.ak_describe.specs.Whole.{heads_of};
 ghost use Rattle.ak_session.specs.Ready.{IsReady};
 ghost use Rattle.ak_run.specs.Doing.{Does};
-ghost use Rattle.ak_run.specs.NewLooper.{AreSame};
+ghost use Rattle.ak_looper.specs.Shared.{AreSame};
 ghost use Rattle.ak_run.specs.Running.{IsRunning};
 ghost use Rattle.ak_run.specs.Sending.{looper_count};
 ghost use Rattle.ak_run.specs.Sessions.{HasLocksOf, IsAsBefore, MayClose, session_count, session_limit, sessions_of};
 
-use crate::new_looper::Shared;
 use crate::run::Run;
 use ak_base::{NoMemory, ThreadId};
-use ak_looper::KeptDoor;
+use ak_looper::{KeptDoor, Shared};
 use ak_messenger::Hands;
 use ak_port::ReplyBook;
 use ak_roster::RosterBook;

@@ -1,6 +1,6 @@
 //! The sessions of a run, as main has them.
 ghost use Rattle.std.specs.Prelude.{◌≡◌, ◌<◌, ◌≤◌, ◌++◌, ◌∷◌, [], All, None, OnOk, Some, false, is_some, length, true, vec_capacity};
-ghost use Rattle.ak_run.specs.Gathering.{GoesOnKnowing};
+ghost use Rattle.ak_gather.specs.Gathering.{GoesOnKnowing};
 ghost use Rattle.ak_run.specs.Sessions.{AreSessionsJoined, IsClosedAt, IsSessionJoined, session_limit, told_in, told_of};
 
 use ak_base::NoMemory;

@@ -11,12 +11,12 @@ ghost use Rattle.ak_run.specs.Running.{IsStanding};
 ghost use Rattle.ak_run.specs.Starting.{GoesOnAtNew};
 ghost use Rattle.ak_run.specs.Stopping.{StopsAtNew};
 
-use crate::launching::Team;
-use crate::member::Lives;
 use crate::run::Run;
+use ak_gather::Lives;
 use ak_looper::{Door, LooperEnd, LooperJob, run_looper};
 use ak_outside::{Gate, Spawner, start_by};
 use ak_port::close;
+use ak_team::Team;
 use std::snapshot::Snapshot;
 use std::sync::Wait;
 use std::thread::{PromisedHandle, Threads};

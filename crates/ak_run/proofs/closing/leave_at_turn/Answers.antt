@@ -3,7 +3,7 @@ use Rattle.std.proofs.Common.{List, sym, ap, ◌∙◌}
 use Rattle.std.specs.List.{find}
 use Rattle.ak_roster.specs.Machine.{runs_team}
 use Rattle.ak_roster.specs.declared.team.Running.{Running}
-use Rattle.ak_run.proofs.Entering.{gone_in_time}
+use Rattle.ak_team.proofs.Surface.{gone_in_time}
 use Rattle.ak_run.proofs.TeamEnds.{leaves_book}
 use Rattle.ak_run.proofs.closing.leave_at_turn.Goals as goal
 

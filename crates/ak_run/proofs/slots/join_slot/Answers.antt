@@ -1,8 +1,7 @@
 -- Main's seats take in what its seats knew.
 use Rattle.std.proofs.Common.{Option, is_some, refl, sym, ap, ◌∙◌}
 use Rattle.ak_session.specs.declared.session.Session.{Session}
-use Rattle.ak_run.proofs.GoingOn.{some_same}
-use Rattle.ak_run.proofs.Joining.{goes_on_knowing, took}
+use Rattle.ak_gather.proofs.Surface.{some_same, goes_on_knowing, took}
 use Rattle.ak_run.proofs.slots.join_slot.Goals as goal
 
 pub closed_with-hands-requires : goal.closed_with-hands-requires

@@ -8,7 +8,7 @@ use Rattle.std.specs.declared.alloc.Global.{Global}
 use Rattle.ak_looper.specs.declared.door.Door.{Door}
 use Rattle.ak_run.specs.declared.slots.Slot.{Slot}
 use Rattle.ak_run.specs.Sessions.{AreSessionsJoined, IsClosedAt, IsSessionJoined, told_in, told_of}
-use Rattle.ak_run.proofs.Joining.{knows_as_before, knows_further}
+use Rattle.ak_gather.proofs.Surface.{knows_as_before, knows_further}
 use Rattle.ak_run.proofs.SlotsStand.{session_joined_still}
 use Rattle.ak_run.proofs.slots.join_slots.Goals as goal
 

@@ -5,7 +5,7 @@ use Rattle.std.specs.declared.alloc.Global.{Global}
 use Rattle.ak_port.specs.ReplySeats.{ReplySeat}
 use Rattle.ak_looper.specs.declared.door.Door.{Door}
 use Rattle.ak_looper.specs.Rosters.{RosterSeat}
-use Rattle.ak_run.specs.Gathering.{GoesOnKnowing}
+use Rattle.ak_gather.specs.Gathering.{GoesOnKnowing}
 use Rattle.ak_run.specs.Sessions.{AreSessionsJoined, IsClosedAt, told_in, told_of}
 use Rattle.ak_run.proofs.slots.join_slots.Given as goal
 

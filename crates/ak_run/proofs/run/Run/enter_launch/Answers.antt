@@ -5,7 +5,7 @@ use Rattle.ak_base.specs.declared.thread.ThreadId.{ThreadId}
 use Rattle.ak_message.specs.Message.{MessageData}
 use Rattle.ak_message.specs.declared.message.Message.{Message}
 use Rattle.ak_describe.specs.declared.described.AppText.{AppText}
-use Rattle.ak_run.specs.Launching.{Book, ComesTo, TellsTeam}
+use Rattle.ak_team.specs.Launching.{Book, ComesTo, TellsTeam}
 use Rattle.ak_run.proofs.Launches.{comes_entered, enters, has_entered, is_next}
 use Rattle.ak_run.proofs.RosterTurn.{RosterOn, goes_on}
 use Rattle.ak_run.proofs.Standing.{same_book}

@@ -1,7 +1,7 @@
 -- Main's turn, in which it looks for a team.
 use Rattle.std.proofs.Common.{refl, ap, sym, subst, ◌∙◌, Some, ◌≤◌, length}
 use Rattle.ak_base.specs.declared.thread.ThreadId.{ThreadId}
-use Rattle.ak_run.specs.Launching.{Book}
+use Rattle.ak_team.specs.Launching.{Book}
 use Rattle.ak_run.proofs.LookUps.{found_started, last_there, looks_entered}
 use Rattle.ak_run.proofs.Launches.{found_does, is_next, loopers_counted, runs_on}
 use Rattle.ak_run.proofs.RosterTurn.{RosterOn, goes_on, sees_all}

@@ -3,18 +3,14 @@ use Rattle.std.proofs.Common.{◌≡◌, ◌≤◌, ℕ, arith, List, refl, subs
 use Rattle.ak_base.specs.Limits.{looper_limit}
 use Rattle.ak_roster.specs.declared.head.AppHead.{AppHead}
 use Rattle.ak_diary.specs.declared.histories.Histories.{Histories}
-use Rattle.ak_run.specs.Ending.{IsRunOfLoopers}
-use Rattle.ak_run.specs.Gathering.{AreHeadsIn, AreKeptIn}
+use Rattle.ak_gather.specs.Ending.{IsRunOfLoopers}
+use Rattle.ak_gather.specs.Gathering.{AreHeadsIn, AreKeptIn}
 use Rattle.ak_run.specs.Sessions.{session_count, told_in}
 use Rattle.ak_roster.specs.Roster.{plain_entries}
-use Rattle.ak_run.specs.Launching.{Book}
+use Rattle.ak_team.specs.Launching.{Book}
 use Rattle.ak_run.proofs.Endings.{as_many, book_below, joined_all, roster_below}
-use Rattle.ak_run.proofs.Joining.{knows_further}
-use Rattle.ak_run.proofs.Makers.{IsGathered}
-use Rattle.ak_run.proofs.Paired.{kept_leads, ways_lead}
+use Rattle.ak_gather.proofs.Surface.{knows_further, IsGathered, kept_leads, ways_lead, all_gain_further, heads_still, of_all, taken_later, ways_later, ways_of_all, is_run}
 use Rattle.ak_run.proofs.SlotsStand.{all_closed_at, all_stood}
-use Rattle.ak_run.proofs.Taking.{all_gain_further, heads_still, of_all, taken_later, ways_later, ways_of_all}
-use Rattle.ak_run.proofs.Telling.{is_run}
 use Rattle.ak_run.proofs.ToldOfSessions.{sessions_done, sessions_lead}
 use Rattle.ak_run.proofs.MainDone.{ends_as, ends_by_others, run_done}
 use Rattle.ak_run.proofs.Opened.{were_opened}

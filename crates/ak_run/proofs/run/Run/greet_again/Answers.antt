@@ -7,8 +7,8 @@ use Rattle.ak_messenger.specs.Sends.{post_event}
 use Rattle.ak_diary.specs.Step.{Step}
 use Rattle.ak_run.specs.declared.answers.LaunchAnswer.TheVariants as answer
 use Rattle.ak_run.specs.Entering.{AreAtPorts, GreetsSo}
-use Rattle.ak_run.specs.Greeting.{from_main}
-use Rattle.ak_run.proofs.Acting.{may_post}
+use Rattle.ak_team.specs.Greeting.{from_main}
+use Rattle.ak_team.proofs.Surface.{may_post}
 use Rattle.ak_run.proofs.Calls.{does_same, goes_same, main_has, one_goes, port_alone, seats_of}
 use Rattle.ak_run.proofs.GoingOn.{still_running}
 use Rattle.ak_run.proofs.PortsAtStart.{sends_each}

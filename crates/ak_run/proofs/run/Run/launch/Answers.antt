@@ -4,7 +4,7 @@ use Rattle.ak_roster.specs.declared.entry.LaunchOutcome.TheVariants as outcome
 use Rattle.ak_describe.specs.Whole.{heads_of}
 use Rattle.ak_run.specs.Doing.{LaunchesInVain}
 use Rattle.ak_run.specs.Entering.{LaunchesLast}
-use Rattle.ak_run.specs.Recording.{team_fronts}
+use Rattle.ak_team.specs.InTime.{team_fronts}
 use Rattle.ak_run.specs.Stopping.{Stops}
 use Rattle.ak_run.proofs.Acts.{records_any, same_fronts}
 use Rattle.ak_run.proofs.Calls.{does_same}

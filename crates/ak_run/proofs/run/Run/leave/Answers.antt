@@ -1,8 +1,8 @@
 -- Main's turn, in which it enters that the team is gone, or sees that it does not run.
 use Rattle.std.proofs.Common.{refl, ap, sym, map, ◌++◌, ◌∙◌, Some}
-use Rattle.ak_run.specs.Launching.{Book}
-use Rattle.ak_run.specs.Recording.{member_front}
-use Rattle.ak_run.proofs.Entering.{gone_entered, gone_event, gone_in_time}
+use Rattle.ak_team.specs.Launching.{Book}
+use Rattle.ak_gather.specs.Members.{member_front}
+use Rattle.ak_team.proofs.Surface.{gone_entered, gone_event, gone_in_time}
 use Rattle.ak_run.proofs.GoingOn.{goes_by}
 use Rattle.ak_run.proofs.Recorded.{turn_acts}
 use Rattle.ak_run.proofs.RosterTurn.{goes_on}

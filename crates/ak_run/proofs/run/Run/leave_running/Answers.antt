@@ -1,8 +1,8 @@
 -- Main's turn, in which it enters that the team is gone, or sees that it does not run.
 use Rattle.std.proofs.Common.{refl, ap, map, ◌++◌, sym, ◌∙◌, Some, length}
 use Rattle.ak_base.specs.declared.thread.ThreadId.{ThreadId}
-use Rattle.ak_run.specs.Launching.{Book}
-use Rattle.ak_run.specs.Recording.{member_front}
+use Rattle.ak_team.specs.Launching.{Book}
+use Rattle.ak_gather.specs.Members.{member_front}
 use Rattle.ak_run.proofs.TeamEnds.{leaves_entered, leaves_started}
 use Rattle.ak_run.proofs.GoingOn.{goes_by}
 use Rattle.ak_run.proofs.Launches.{is_next, leaves, loopers_counted}

@@ -11,7 +11,7 @@ use Rattle.ak_port.specs.ReplySeats.{ReplySeat}
 use Rattle.ak_describe.specs.Whole.{heads_of}
 use Rattle.ak_looper.specs.Rosters as rosters
 use Rattle.ak_looper.specs.Rosters.{RosterSeat}
-use Rattle.ak_run.specs.Launching.{Book}
+use Rattle.ak_team.specs.Launching.{Book}
 use Rattle.ak_run.proofs.NewRun.{begins, done_nothing}
 use Rattle.ak_run.proofs.run.Run.new.Goals as goal
 

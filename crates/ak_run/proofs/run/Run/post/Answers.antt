@@ -3,7 +3,7 @@ use Rattle.std.proofs.Common.{refl, sym, ◌∙◌}
 use Rattle.std.proofs.lemmas.List.{length-set}
 use Rattle.ak_messenger.specs.Sends.{post_event}
 use Rattle.ak_run.specs.Doing.{EnteredSo}
-use Rattle.ak_run.proofs.Acting.{may_post}
+use Rattle.ak_team.proofs.Surface.{may_post}
 use Rattle.ak_turn.proofs.Surface.{keeps_itself}
 use Rattle.ak_run.proofs.Calls.{main_has, one_does, port_after, port_before, post_acts, post_goes}
 use Rattle.ak_run.proofs.GoingOn.{still_running}

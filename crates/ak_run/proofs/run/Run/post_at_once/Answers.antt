@@ -5,8 +5,8 @@ use Rattle.ak_turn.specs.Called.{KeepsSeat}
 use Rattle.ak_turn.proofs.Surface.{keeps_itself}
 use Rattle.ak_messenger.specs.Sends.{post_event}
 use Rattle.ak_run.specs.Doing.{EnteredSo}
-use Rattle.ak_run.specs.Doors.{KeepsSeats}
-use Rattle.ak_run.proofs.Acting.{may_post}
+use Rattle.ak_team.specs.Doors.{KeepsSeats}
+use Rattle.ak_team.proofs.Surface.{may_post}
 use Rattle.ak_run.proofs.Calls.{main_has, one_does, port_after, port_before, post_acts, post_goes}
 use Rattle.ak_run.proofs.GoingOn.{still_running}
 use Rattle.ak_run.proofs.run.Run.post_at_once.Goals as goal

@@ -5,8 +5,9 @@ use Rattle.ak_outside.specs.Faults.{Rose}
 use Rattle.ak_outside.proofs.Surface.{Rose-after, Rose-before}
 use Rattle.std.proofs.lemmas.Grind.{common_steps}
 use Rattle.ak_looper.specs.declared.door.Door.{Door}
-use Rattle.ak_run.specs.declared.new_looper.NewLooper.{NewLooper}
-use Rattle.ak_run.specs.Recording.{fronts_with, new_front, team_fronts}
+use Rattle.ak_team.specs.declared.new_looper.NewLooper.{NewLooper}
+use Rattle.ak_run.specs.Recording.{fronts_with}
+use Rattle.ak_team.specs.InTime.{new_front, team_fronts}
 use Rattle.ak_run.specs.Starting.{IsStarting, MayStart}
 use Rattle.ak_run.specs.Stopping.{StopsSince}
 use Rattle.ak_run.proofs.Stopping.{has_all, own_stops, stops_on}

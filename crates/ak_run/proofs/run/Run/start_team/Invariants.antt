@@ -2,7 +2,8 @@
 use Rattle.std.proofs.Common.{◌≡◌, ◌≤◌, length, map}
 use Rattle.std.specs.Prelude.{IsFalse, IsTrue}
 use Rattle.ak_outside.specs.Faults.{Rose}
-use Rattle.ak_run.specs.Recording.{fronts_with, new_front, team_fronts}
+use Rattle.ak_run.specs.Recording.{fronts_with}
+use Rattle.ak_team.specs.InTime.{new_front, team_fronts}
 use Rattle.ak_run.specs.Starting.{IsStarting}
 use Rattle.ak_run.specs.Stopping.{StopsSince}
 use Rattle.ak_run.proofs.run.Run.start_team.Given as goal

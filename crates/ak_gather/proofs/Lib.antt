@@ -1,0 +1,12 @@
+pub mod Books
+pub mod Elsewhere
+pub mod Joining
+pub mod Knowing
+pub mod LastFronts
+pub mod Launched
+pub mod Makers
+pub mod Paired
+pub mod Placed
+pub mod Surface
+pub mod Taking
+pub mod Telling

@@ -1,0 +1,4 @@
+pub mod Below
+pub mod Ending
+pub mod Gathering
+pub mod Members

@@ -1,0 +1,14 @@
+pub mod Adding
+pub mod Deciding
+pub mod Entering
+pub mod Heads
+pub mod Jobs
+pub mod Makings
+pub mod NewDoors
+pub mod NewLoopers
+pub mod NewPorts
+pub mod Places
+pub mod Started
+pub mod Surface
+pub mod Teams
+pub mod Ways
