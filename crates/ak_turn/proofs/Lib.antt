@@ -3,6 +3,7 @@ pub mod Placing
 pub mod Seating
 pub mod Drawing
 pub mod Looking
+pub mod Glancing
 pub mod Adding
 pub mod Passing
 pub mod Splitting

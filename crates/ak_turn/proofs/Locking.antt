@@ -1,15 +1,30 @@
--- What a seat is seen as once it has its turn.
-use Rattle.std.proofs.Common.{◌≡◌, ℕ, List, [], All, Contains, Some, None, refl, sym, ap, ◌∙◌, subst}
+-- What a seat is seen as once it has its turn, or has counted the entries.
+use Rattle.std.proofs.Common.{◌≡◌, ℕ, List, [], ◌++◌, All, Contains, Some, None, refl, sym, ap, ◌∙◌, subst}
 use Rattle.std.specs.Prelude.{Option, IfSome}
 use Rattle.ak_turn.specs.declared.view.Stage.TheVariants.{Waits, HasTurn}
 use Rattle.ak_turn.specs.declared.view.View.{View}
-use Rattle.ak_turn.specs.Steps.{Sat, staged, fronted, TakesTurn}
+use Rattle.ak_turn.specs.Steps.{Sat, staged, fronted, TakesTurn, Glances}
 use Rattle.ak_turn.specs.Seats.{LockId, SeatData, IsGiven, KnowsWhole, at_turn}
 use Rattle.ak_turn.specs.Seen.{seat_seen}
+use Rattle.ak_turn.proofs.Placing.{places_still}
 
 if_some : (names : Option (List ℕ)) (P : List ℕ → Type 0) → ((ns : List ℕ) → names ≡ Some ns → P ns) → IfSome names P
 if_some None P every = tt
 if_some (Some ns) P every = every ns refl
+
+module _ {B O L : Type 0} (by : L → ℕ) where
+  -- what a seat knows of the whole it knows once it has counted the entries
+  pub counted_whole : (lock lock' : LockId) (v : View O L) (slots : List (ℕ × Option B)) (n : ℕ) (m : Sat B O L) → Glances by n (v, slots) m → KnowsWhole by (seat_seen lock v) → KnowsWhole by (seat_seen lock' m.0)
+  counted_whole lock lock' v slots n m g whole =
+      let front : List L = v.me.front ++ g.between in
+      let base : KnowsWhole by (seat_seen lock' (fronted front v)) = record {
+        own = whole.own ∙ sym (places_still by v.me.thread v.me.front g.between g.others);
+        joined = g.joined whole.joined;
+        apart = whole.apart;
+        names = if_some v.names (λ names. All (λ entry. Contains names (by entry)) front) g.names;
+        named = whole.named;
+      } in
+      subst (λ x. KnowsWhole by (seat_seen lock' x)) (sym (ap (λ x. x.0) g.after)) base
 
 module _ {B O L : Type 0} (opening : B → O) (entries : B → List L) (at_rest : B → Type 0) (by : L → ℕ) where
   abbrev Given : SeatData O L → SeatData O L → Type 0

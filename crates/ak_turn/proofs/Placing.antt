@@ -48,6 +48,11 @@ module _ {L : Type 0} (by : L → ℕ) (thread : ℕ) where
   pub places-other : (xs : List L) (x : L) → by x ≢ thread → places by thread (xs ++ x ∷ []) ≡ places by thread xs
   places-other xs x e = places_from-append 0 xs (x ∷ []) ∙ ap (λ l. places by thread xs ++ l) (other_first (0 + length xs) x [] e) ∙ append-nil (places by thread xs)
 
+  -- more entries, which are others'
+  pub places_still : (xs ys : List L) → AreByOthers by thread ys → places by thread (xs ++ ys) ≡ places by thread xs
+  places_still xs ys others =
+      places_from-append 0 xs ys ∙ ap (λ l. places by thread xs ++ l) (places_from-others (0 + length xs) ys others) ∙ append-nil (places by thread xs)
+
   -- where a list has no more places of the thread than its front, the rest is by others
   pub rest_by_others : (front rest : List L) → places by thread (front ++ rest) ≡ places by thread front → AreByOthers by thread rest
   rest_by_others front rest same =

@@ -1,5 +1,5 @@
 -- What each step of a turn lock tells the seat that makes it.
-use Rattle.std.specs.Prelude.{◌≡◌, ◌≢◌, ◌⊎◌, ℕ, ◌%◌, ◌^◌, List, [], ◌∷◌, ◌++◌, length, All, Contains, Option, Some, None}
+use Rattle.std.specs.Prelude.{◌≡◌, ◌≢◌, ◌≤◌, ◌⊎◌, ℕ, ◌%◌, ◌^◌, List, [], ◌∷◌, ◌++◌, length, All, Contains, Option, Some, None}
 use Rattle.atomic_table.specs.Seated.{TableId}
 use Rattle.atomic_table.specs.Table.{Me, Step}
 use Rattle.ak_turn.specs.declared.view.Stage.{Stage}
@@ -91,6 +91,19 @@ module _ {B O L : Type 0} (opening : B → O) (entries : B → List L) (at_rest 
   added st m r m' = (book : B) → m.1 ≡ (0, Some book) ∷ [] → m' ≡ (entered (entries book) m.0, m.1)
 
 module _ {B O L : Type 0} where
+  -- n entries were counted: where the seat had seen no more, its front goes on to n, by entries of others alone; else it stays. What it
+  -- knew up to its front it knows up to the new one
+  pub record Glances (by : L → ℕ) (n : ℕ) (m m' : Sat B O L) : Type 0 where
+    pub between : List L
+    pub others : AreByOthers by m.0.me.thread between
+    pub many : length m.0.me.front ≤ n → length (m.0.me.front ++ between) ≡ n
+    pub joined : All (IsKnown by m.0.me.front) m.0.joined → All (IsKnown by (m.0.me.front ++ between)) m.0.joined
+    pub names : (names : List ℕ) → m.0.names ≡ Some names → All (λ entry. Contains names (by entry)) (m.0.me.front ++ between)
+    pub after : m' ≡ (fronted (m.0.me.front ++ between) m.0, m.1)
+
+  abbrev pub glanced : (L → ℕ) → Step (Option B) → Sat B O L → ℕ → Sat B O L → Type 0
+  glanced by st m n m' = Glances by n m m'
+
   -- it has neither ticket nor book
   abbrev pub passed : Step (Option B) → Sat B O L → ℕ → Sat B O L → Type 0
   passed st m r m' = m' ≡ (staged Idle m.0, [])

@@ -24,3 +24,4 @@ pub use laws::{fronts_go_on, makings_go_on, new_seats_know, what_was_done_is_not
 pub use lock::TurnLock;
 pub use seat::Seat;
 pub use turn::Turn;
+pub use waiting::rest_for_ever;

@@ -1,14 +1,14 @@
-ghost use Rattle.std.specs.Prelude.{◌≡◌, ◌≢◌, ◌<◌, ◌^◌, All, None, Some, IfOk, false};
+ghost use Rattle.std.specs.Prelude.{◌≡◌, ◌≢◌, ◌<◌, ◌≤◌, ◌^◌, length, All, None, Some, IfOk, false};
 ghost use Rattle.std.specs.Arc.{arc_value};
 ghost use Rattle.ak_turn.specs.Entries.{last_stamp_of, maker, places};
-ghost use Rattle.ak_turn.specs.Seats.{IsGiven, KnowsWhole, first_seat, new_seat, titled_seat, joined_seat};
+ghost use Rattle.ak_turn.specs.Seats.{HasSeen, IsGiven, KnowsWhole, first_seat, new_seat, titled_seat, joined_seat};
 ghost use Rattle.ak_turn.specs.Steps.{IsNewName, names_with};
 
 use crate::bells::Watchers;
 use crate::book::Book;
 use crate::plays::{Board, Start};
 use crate::seat::Seat;
-use crate::steps::{await_turn, draw, join_in, split_off, split_off_head, take_out};
+use crate::steps::{await_turn, draw, join_in, look_at_count, split_off, split_off_head, take_out};
 use crate::turn::Turn;
 use crate::waiting::{rest_before_ticket, rest_for_entry, rest_for_ever};
 use ak_base::{NoMemory, ThreadId};
@@ -111,6 +111,27 @@ impl<B: Book> TurnLock<B> {
         }
         seat.seen = book.len();
         Turn { lock: self, book }
+    }
+
+    /// The seat has seen `count` entries of the object, or more. It counts them, and takes no turn, so nobody who has one keeps it.
+    /// Another seat of this lock tells how many to ask for; where the object has fewer, it never returns. The front goes on by
+    /// entries of other threads alone. A seat that knows the whole of its front knows the whole of the longer one. It is one of
+    /// this lock, and has no turn. Takes no memory.
+    pub fn see<R: Wait>(&self, rt: &R, seat: &mut Seat<B>, count: u64)
+        requires of { seat.old.lock ≡ self.now }
+        requires idle { seat.old.turn ≡ false }
+        ensures seen { HasSeen (maker B.plain B.by) seat.old seat.new }
+        ensures many { count ≤ length seat.new.front }
+        ensures known { KnowsWhole (maker B.plain B.by) seat.old → KnowsWhole (maker B.plain B.by) seat.new }
+    {
+        if seat.seen >= count {
+            return;
+        }
+        let found = look_at_count(&self.board.shared, &mut seat.place);
+        if found < count {
+            rest_for_ever(rt);
+        }
+        seat.seen = found;
     }
 
     /// Waits while the object has just so many entries as `seen`, which a seat tells, and answers the other

@@ -68,6 +68,17 @@ impl<B: Book> Play<Option<B>, View<B::Opening, B::Entry>> for Look<B> {
     ghost then = { looked B.opening B.entries B.at_rest (maker B.plain B.by) };
 }
 
+pub(crate) struct Glance<B> {
+    book: PhantomData<B>,
+}
+
+impl<B: Book> Play<Option<B>, View<B::Opening, B::Entry>> for Glance<B> {
+    ghost use Rattle.ak_turn.specs.Entries.{maker};
+    ghost use Rattle.ak_turn.specs.Steps.{glanced};
+
+    ghost then = { glanced (maker B.plain B.by) };
+}
+
 pub(crate) struct Add<B> {
     book: PhantomData<B>,
 }

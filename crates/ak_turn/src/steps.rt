@@ -1,11 +1,11 @@
 //! The steps on the table under a lock, as calls with contracts. Only `await_turn` waits.
 ghost use Rattle.std.specs.Prelude.{◌≡◌, ℕ, ◌%◌, ◌^◌, [], ◌∷◌, Some, None, true, false};
 ghost use Rattle.ak_turn.specs.Entries.{maker};
-ghost use Rattle.ak_turn.specs.Steps.{IsWide, IsNewName, staged, entered, titled, newcomer, names_with, joined_view, TakesTurn, HoldsBook, IsSame, IsMore, IsNoted};
+ghost use Rattle.ak_turn.specs.Steps.{IsWide, IsNewName, staged, entered, titled, newcomer, names_with, joined_view, TakesTurn, Glances, HoldsBook, IsSame, IsMore, IsNoted};
 ghost use Rattle.ak_turn.specs.declared.view.Stage.TheVariants.{Idle, Waits};
 
 use crate::book::Book;
-use crate::plays::{Add, Both, Common, Draw, Head, Look, Newcomer, Pass, Place, Plain};
+use crate::plays::{Add, Both, Common, Draw, Glance, Head, Look, Newcomer, Pass, Place, Plain};
 use crate::waiting::rest_for_turn;
 use std::snapshot::Snapshot;
 use std::sync::Wait;
@@ -56,6 +56,17 @@ pub(crate) fn await_turn<B: Book, R: Wait>(
         tries = tries.saturating_add(1);
     }
     unreachable!()
+}
+
+// Counts the entries. Where the seat had seen fewer, its front goes on to so many.
+pub(crate) fn look_at_count<B: Book>(common: &Common<B>, place: &mut Place<B>) -> u64
+    requires wide { IsWide common.now.table_id }
+    requires of { place.old.table_id ≡ common.now.table_id }
+    requires idle { place.old.me.0.stage ≡ Idle }
+    ensures of { place.new.table_id ≡ place.old.table_id }
+    ensures glances { Glances (maker B.plain B.by) result place.old.me place.new.me }
+{
+    common.load::<Glance<B>>(place, COUNT)
 }
 
 // Takes the book out of the slot that the seat holds.

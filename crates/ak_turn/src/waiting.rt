@@ -180,10 +180,10 @@ pub(crate) fn rest_for_entry<B: Book, R: Wait>(
     count
 }
 
-// Never returns.
+/// Never returns. Takes no memory.
 #[cold]
 #[inline(never)]
-pub(crate) fn rest_for_ever<R: Wait>(rt: &R)
+pub fn rest_for_ever<R: Wait>(rt: &R)
     ensures { ⊥ }
 {
     let word = AtomicU64::new(0);
