@@ -1,5 +1,5 @@
 -- What the layers above may cite of these proofs: they name this file alone.
-pub use Rattle.ak_describe.proofs.grammar.Dests.{app_word_again, app_word_takes}
+pub use Rattle.ak_input.proofs.Surface.{app_word_again, app_word_takes}
 pub use Rattle.ak_describe.proofs.ground.Ends.{last_none}
 pub use Rattle.ak_describe.proofs.ground.Places.{all_there}
 pub use Rattle.ak_describe.proofs.lines.Keeping.{nothing_fits}

@@ -1,5 +1,6 @@
 -- The second pass, name by name: where each name stands, whom it leads to, and which of them is the first with a fault.
 pub mod Asking
+pub mod LookedUp
 pub mod Naming
 pub mod Noting
 pub mod Ordering

@@ -1,10 +1,8 @@
 -- What the lines of descriptions say, as a relation on words, apart from how they are read: to be read beside docs/language.md.
--- Values and texts are those of the input (ak_message); where one passes a limit, the line is of its form and says none.
+-- Values and texts are what words of an input say (ak_input); where one passes a limit, the line is of its form and says none.
 use Rattle.std.specs.Prelude.{◌≡◌, ◌≢◌, ℕ, ◌<◌, nat_le, Bool, true, false, ◌&&◌, if◌then◌else◌, ◌⊎◌, List, [], ◌∷◌, ◌++◌, length, slice_index_or, codes, Any, Option, Some, None}
 use Rattle.std.specs.List.{AllZip}
-use Rattle.ak_base.specs.Code.{IsCodeText}
 use Rattle.ak_base.specs.Word.{is_word}
-use Rattle.ak_base.specs.declared.app_word.AppWord.{AppWord}
 use Rattle.ak_base.specs.declared.app_word.AppWord.TheVariants as app
 use Rattle.ak_base.specs.declared.code.Code.{Code}
 use Rattle.ak_base.specs.declared.limited.Limited.{Limited}
@@ -19,8 +17,9 @@ use Rattle.ak_filter.specs.declared.filter.SourceIs.TheVariants as sides
 use Rattle.ak_message.specs.declared.kind.Kind.{Kind}
 use Rattle.ak_message.specs.declared.kind.Kind.TheVariants as k
 use Rattle.ak_message.specs.Kind.{kind_letters}
-use Rattle.ak_message.specs.Message.{ValueData, text_value, kind_of}
-use Rattle.ak_input.specs.Reading.{got, over, text_from, read_value, read_values}
+use Rattle.ak_message.specs.Message.{ValueData, kind_of}
+use Rattle.ak_input.specs.Got.{got}
+use Rattle.ak_input.specs.Said.{WritesValue, WritesValues}
 use Rattle.ak_flatten.specs.Spelling.{spelling}
 use Rattle.ak_action.specs.declared.action.Action.{Action}
 use Rattle.ak_action.specs.declared.action.Action.TheVariants as action
@@ -45,20 +44,13 @@ use Rattle.ak_describe.specs.Actions.{written}
 use Rattle.ak_describe.specs.Made.{is_short}
 use Rattle.ak_describe.specs.Parts.{property_named}
 use Rattle.ak_base.specs.AppName.{is_path, is_signature}
-use Rattle.ak_input.specs.Written.{WritesNumber, is_app_name}
+use Rattle.ak_input.specs.Written.{WritesNumber}
 use Rattle.ak_describe.specs.Limits.{usual_capacity, form_limit}
+pub use Rattle.ak_input.specs.Said.{IsTeamText, SaysAppWord, WritesCode, WritesText}
 
 -- ---- words
 abbrev pub IsName : List ℕ → List ℕ → Type 0
 IsName word name = (is_word word ≡ true) × (word ≡ name)
-
-abbrev pub WritesCode : List ℕ → Code → Type 0
-WritesCode word code = IsCodeText word code.0
-
--- a text in quotes, or one that is too long
-abbrev pub WritesText : List ℕ → Limited (List ℕ) → Type 0
-WritesText word (Within text) = text_from word ≡ Some (got (text_value text))
-WritesText word Over = text_from word ≡ Some (over k.Text)
 
 abbrev pub mode_word : Mode → List ℕ
 mode_word mode.Single = codes "single"
@@ -164,7 +156,7 @@ pub record SaysElement (kind : Kind) (words : List (List ℕ)) (e : Limited (Lis
   pub part : List (List ℕ)
   pub all : words ≡ word ∷ part
   pub value : Limited ValueData
-  pub value_is : read_value word ≡ Some (record { kind = kind; value = value })
+  pub value_is : WritesValue word (record { kind = kind; value = value })
   pub name : Limited (List ℕ)
   pub name_is : IsTextPart (codes "name") name part
   pub kept : IsElement name value e
@@ -182,8 +174,8 @@ IsCopied properties text (gets.Values v) = ⊥
 
 -- values of one kind, where they pass no limit
 abbrev pub AreValues : List ℕ → Limited Given → Type 0
-AreValues text Over = (kind : Kind) × (read_values text ≡ Some (record { kind = kind; values = Over }))
-AreValues text (Within (gets.Values v)) = read_values text ≡ Some (record { kind = v.kind; values = Within v.list })
+AreValues text Over = (kind : Kind) × WritesValues text (record { kind = kind; values = Over })
+AreValues text (Within (gets.Values v)) = WritesValues text (record { kind = v.kind; values = Within v.list })
 AreValues text (Within (gets.Field name)) = ⊥
 AreValues text (Within (gets.Property name)) = ⊥
 
@@ -249,16 +241,7 @@ pub record SaysMessage (properties : List PropertyParts) (words : List (List ℕ
   pub names_differ : NamesDiffer fields
   pub kept : t ≡ small_template what (all_fields fields)
 
--- ---- where it is sent: a number of a team, a signature, or else a name
-abbrev pub IsTeamText : List ℕ → Type 0
-IsTeamText word = (n : ℕ) × WritesNumber 0 4294967295 word n
-
-abbrev pub SaysAppWord : List ℕ → AppWord → Type 0
-SaysAppWord word (app.Team team) = WritesNumber 0 4294967295 word team
-SaysAppWord word (app.Signature signature) = (word ≡ signature) × (is_signature word ≡ true)
-SaysAppWord word (app.Name name) = (word ≡ name) × (is_app_name word ≡ true) × ¬ (IsTeamText word)
-SaysAppWord word (app.Path path) = ⊥
-
+-- ---- where it is sent
 abbrev pub SaysDest : List (List ℕ) → Dest → Type 0
 SaysDest words dest.Own = words ≡ codes "self" ∷ []
 SaysDest words (dest.Looper name) = (words ≡ codes "looper" ∷ name ∷ []) × (is_word name ≡ true)
@@ -320,7 +303,7 @@ set_value Over = Over
 set_value (Within v) = small_value v
 
 abbrev pub IsOne : List ℕ → Limited Given → Type 0
-IsOne text g = (kind : Kind) × (value : Limited ValueData) × (read_value text ≡ Some (record { kind = kind; value = value })) × (g ≡ set_value value)
+IsOne text g = (kind : Kind) × (value : Limited ValueData) × WritesValue text (record { kind = kind; value = value }) × (g ≡ set_value value)
 
 pub record SaysSet (properties : List PropertyParts) (words : List (List ℕ)) (a : Limited Action) : Type 0 where
   pub name : List ℕ
@@ -341,6 +324,6 @@ pub record SaysAdd (properties : List PropertyParts) (words : List (List ℕ)) (
   pub all : words ≡ name ∷ word ∷ []
   pub name_is : is_word name ≡ true
   pub amount : Number
-  pub amount_is : read_value word ≡ Some (got (number_value amount))
+  pub amount_is : WritesValue word (got (number_value amount))
   pub kind_is : IsPropertyOf properties name (kind_of (number_value amount))
   pub kept : a ≡ Within (action.Add name amount)

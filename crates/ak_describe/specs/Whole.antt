@@ -1,10 +1,12 @@
 -- What is described is whole: the layers above take it as it is.
-use Rattle.std.specs.Prelude.{◌≡◌, ◌≢◌, ℕ, ◌+◌, ◌<◌, ◌≤◌, List, length, map, All, AllPairs, Some, IfSome, IsTrue, slice_get}
-use Rattle.std.specs.List.{list_any}
+use Rattle.std.specs.Prelude.{◌≡◌, ◌≢◌, ℕ, ◌+◌, ◌<◌, ◌≤◌, nat_le, Bool, true, ◌&&◌, List, length, map, All, AllPairs, Some, IfSome, IsTrue, slice_get}
+use Rattle.std.specs.List.{list_all, list_any}
 use Rattle.ak_base.specs.declared.app_word.AppWord.{AppWord}
 use Rattle.ak_base.specs.Word.{is_word}
 use Rattle.ak_base.specs.Limits.{app_looper_limit, looper_limit}
 use Rattle.ak_input.specs.declared.line.Line.{Line}
+use Rattle.ak_input.specs.Written.{is_looked_up}
+use Rattle.ak_action.specs.Limits.{action_limit}
 use Rattle.ak_action.specs.declared.action.Action.{Action}
 use Rattle.ak_action.specs.declared.action.Action.TheVariants as action
 use Rattle.ak_action.specs.declared.action.Dest.{Dest}
@@ -71,6 +73,29 @@ AsksGoOn apps =
     (app_place place : ℕ) (a : AppText) (p : PlanParts) → slice_get apps app_place ≡ Some a → slice_get a.loopers place ≡ Some p
     → All (λ (row : PlanRow). RowGoesOn (heads_of apps) app_place (looper_names a) place row) p.rows
 
+-- ---- how actions name applications: an input can say no others
+abbrev pub dest_names : Dest → Bool
+dest_names dest.Own = true
+dest_names (dest.Looper _) = true
+dest_names (dest.Handler _) = true
+dest_names (dest.App word) = is_looked_up word
+
+abbrev pub action_names : Action → Bool
+action_names (action.Reply _) = true
+action_names (action.Post to _ _) = dest_names to
+action_names (action.Ask to _ _) = dest_names to
+action_names (action.Set _ _) = true
+action_names (action.Add _ _) = true
+action_names action.Stop = true
+action_names action.Quit = true
+
+-- a reaction has at most 16 actions
+abbrev pub reaction_names : Reaction → Bool
+reaction_names r = nat_le (length r.actions) action_limit && list_all action_names r.actions
+
+abbrev pub row_names : PlanRow → Bool
+row_names row = list_all reaction_names row.reactions
+
 pub record IsWholeApp (a : AppText) : Type 0 where
   pub path_is : IsTrue (is_path a.path)
   pub signature_is : IsTrue (is_signature a.signature)
@@ -80,6 +105,8 @@ pub record IsWholeApp (a : AppText) : Type 0 where
   pub names_differ : AllPairs (λ (x y : List ℕ). x ≢ y) (looper_names a)
   -- each looper is a plan
   pub plans_are : All IsPlan a.loopers
+  -- each action that looks for an application names it by a number, a signature or a name
+  pub words_are : All (λ (p : PlanParts). IsTrue (list_all row_names p.rows)) a.loopers
   pub own_capacity : IfSome (slice_get a.loopers 0) (λ (p : PlanParts). 2 ≤ p.capacity)
   -- each looper that an action names is one of them
   pub loopers_are_there : All (λ (p : PlanParts). IsTrue (knows_loopers (looper_names a) p.rows)) a.loopers

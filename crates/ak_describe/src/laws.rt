@@ -33,8 +33,8 @@ pub fn names_have_places()
 
 /// What lines describe is whole: at most 16 applications, whose paths differ, with 1 to 8 loopers each, whose
 /// names differ; the first of them keeps 2 messages or more; each looper is a plan, each one that an action
-/// names is there, and whom a looper asks is described behind it. So a roster and the loopers' desks take it as
-/// it is.
+/// names is there, and whom a looper asks is described behind it. An action names an application by the number
+/// of a team, a signature or a name. So a roster and the loopers' desks take it as it is.
 pub fn descriptions_are_whole()
     ensures { DescriptionsAreWhole }
 {}

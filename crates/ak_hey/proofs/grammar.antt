@@ -4,6 +4,7 @@ pub mod Agreeing
 pub mod Bracketing
 pub mod Columns
 pub mod Completing
+pub mod Elements
 pub mod Fitting
 pub mod Keys
 pub mod Numerals

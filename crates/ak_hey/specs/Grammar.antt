@@ -1,20 +1,20 @@
--- What a hey line says, as a relation on its words, apart from how they are read one by one. Single words are read as before: how one
--- names an application, which code a verb has, which elements brackets or a name in quotes mean, and values (ak_message); where one
--- passes a limit, the line is of its form, and its message is Over.
+-- What a hey line says, as a relation on its words, apart from how they are read one by one. Values and texts are what words of an input
+-- say (ak_input), and elements are what brackets mean; where one passes a limit, the line is of its form, and its message is Over.
+-- Which code a verb has is a table (verb_of).
 use Rattle.std.specs.Prelude.{◌≡◌, ◌⊎◌, ℕ, true, List, [], ◌∷◌, ◌++◌, codes, Option, Some, None}
 use Rattle.ak_base.specs.Option.{◌>>=◌}
 use Rattle.ak_base.specs.declared.app_word.AppWord.{AppWord}
 use Rattle.ak_base.specs.declared.code.Code.{Code}
 use Rattle.ak_base.specs.declared.limited.Limited.{Limited}
-use Rattle.ak_base.specs.declared.limited.Limited.TheVariants.{Within}
+use Rattle.ak_base.specs.declared.limited.Limited.TheVariants.{Within, Over}
 use Rattle.ak_base.specs.Word.{is_word}
 use Rattle.ak_message.specs.declared.specifier.At.{At}
 use Rattle.ak_message.specs.declared.specifier.At.TheVariants as at
 use Rattle.ak_message.specs.Message.{MessageData}
-use Rattle.ak_input.specs.Reading.{Got, read_value}
-use Rattle.ak_input.specs.Written.{app_word_of}
+use Rattle.ak_input.specs.Got.{Got}
+use Rattle.ak_input.specs.Said.{SaysAppWord, WritesText, WritesValue}
+use Rattle.ak_hey.specs.Bracketed.{IsBracket}
 use Rattle.ak_hey.specs.Draft.{DraftData, new_draft, with_specifier, with_got, short_message}
-use Rattle.ak_hey.specs.Hey.{elements}
 use Rattle.ak_hey.specs.Words.{verb_of, is_property}
 
 -- ---- specifiers: a property, and its elements in brackets or by a name in quotes, or none
@@ -22,11 +22,22 @@ pub record SpecText : Type 0 where
   pub property : List ℕ
   pub at : Limited At
 
+-- a name in quotes, or one that is too long, or brackets
+abbrev pub AreElements : List ℕ → Limited At → Type 0
+AreElements word Over = WritesText word Over
+AreElements word (Within (at.Name name)) = WritesText word (Within name)
+AreElements word (Within at.Direct) = ⊥
+AreElements word (Within (at.Index z)) = IsBracket word (at.Index z)
+AreElements word (Within (at.Reverse z)) = IsBracket word (at.Reverse z)
+AreElements word (Within (at.Id z)) = IsBracket word (at.Id z)
+AreElements word (Within (at.Range z count)) = IsBracket word (at.Range z count)
+AreElements word (Within (at.ReverseRange z count)) = IsBracket word (at.ReverseRange z count)
+
 pub record IsSpec (s : SpecText) (words : List (List ℕ)) : Type 0 where
   pub part : List (List ℕ)
   pub all : words ≡ s.property ∷ part
   pub property_is : is_property s.property ≡ true
-  pub elements_are : ((part ≡ []) × (s.at ≡ Within at.Direct)) ⊎ ((word : List ℕ) × (part ≡ word ∷ []) × (elements word ≡ Some s.at))
+  pub elements_are : ((part ≡ []) × (s.at ≡ Within at.Direct)) ⊎ ((word : List ℕ) × (part ≡ word ∷ []) × AreElements word s.at)
 
 -- each of them behind `of`
 abbrev pub AreFurther : List SpecText → List (List ℕ) → Type 0
@@ -41,7 +52,7 @@ AreSpecs specs words = AreFurther specs words ⊎ AreFurther specs (codes "of" �
 -- ---- data: `to VALUE`, or nothing
 abbrev pub IsData : Option Got → List (List ℕ) → Type 0
 IsData None words = words ≡ []
-IsData (Some g) words = (word : List ℕ) × (words ≡ codes "to" ∷ word ∷ []) × (read_value word ≡ Some g)
+IsData (Some g) words = (word : List ℕ) × (words ≡ codes "to" ∷ word ∷ []) × WritesValue word g
 
 -- ---- fields: `NAME=VALUE`, the first one behind `with`, and each further one behind `and`
 pub record FieldText : Type 0 where
@@ -52,7 +63,7 @@ pub record IsField (f : FieldText) (word : List ℕ) : Type 0 where
   pub text : List ℕ
   pub all : word ≡ f.name ++ 61 ∷ text
   pub name_is : is_word f.name ≡ true
-  pub value_is : read_value text ≡ Some f.value
+  pub value_is : WritesValue text f.value
 
 abbrev pub AreFields : List ℕ → List FieldText → List (List ℕ) → Type 0
 AreFields key [] words = words ≡ []
@@ -84,7 +95,7 @@ pub record IsHey (words : List (List ℕ)) (app : AppWord) (message : Limited Me
   pub data_part : List (List ℕ)
   pub field_part : List (List ℕ)
   pub all : words ≡ codes "hey" ∷ app_word ∷ verb ∷ (spec_part ++ (data_part ++ field_part))
-  pub app_is : app_word_of app_word ≡ Some app
+  pub app_is : SaysAppWord app_word app
   pub what : Code
   pub verb_is : verb_of verb ≡ Some what
   pub specs : List SpecText

@@ -4,7 +4,8 @@
 //! tool hey, and their codes those of The Be Book, The Application Kit, Scripting.)
 #![tactic(auto)]
 
-ghost use Rattle.std.specs.Prelude.{◌≡◌, ◌+◌, ◌-◌, ◌^◌, min, length, IfOk, IfErr};
+ghost use Rattle.std.specs.Prelude.{◌≡◌, ◌+◌, ◌-◌, ◌^◌, min, length, IfOk, IfErr, IsTrue};
+ghost use Rattle.ak_input.specs.Written.{is_looked_up};
 ghost use Rattle.ak_hey.specs.Answers.{Answers, Columns};
 ghost use Rattle.ak_hey.specs.Hey as reads;
 ghost use Rattle.ak_hey.specs.Laws.{Fits, IsLineOf, IsRefusal};
@@ -45,6 +46,7 @@ pub fn read_hey(alloc: Global, words: &[Word], end: u32) -> Result<HeyLine, HeyF
     ensures answer { Answers line_of result (reads.hey_of end words.now) }
     ensures said { IfOk result (IsLineOf words.now) }
     ensures fits { IfOk result Fits }
+    ensures named { IfOk result (λ line. IsTrue (is_looked_up line.app)) }
     ensures refused { IfErr result (IsRefusal end words.now) }
 {
     read(alloc, words, end)

@@ -33,14 +33,14 @@ abbrev pub FieldsAreRead : (List ℕ → Option Got) → NestedFields → Type 0
 FieldsAreRead message no_fields = Unit {0}
 FieldsAreRead message (then_field name kind vs fs) = AreRead message vs × FieldsAreRead message fs
 
-abbrev field : List ℕ → Kind → List ValueData → FieldData
+abbrev pub field : List ℕ → Kind → List ValueData → FieldData
 field name kind values = record { name = name; kind = kind; values = values }
 
-abbrev with_fields : ℕ → List FieldData → MessageData
+abbrev pub with_fields : ℕ → List FieldData → MessageData
 with_fields what fields = record { what = what; fields = fields; popped = 0 }
 
 -- a message, as far as it is read, with these fields
-abbrev name_of : FieldData → List ℕ
+abbrev pub name_of : FieldData → List ℕ
 name_of f = f.name
 
 abbrev built : ℕ → List FieldData → Built
@@ -48,7 +48,7 @@ built what fields = record { names = map name_of fields; message = Within (with_
 
 -- ---- names
 
-abbrev NoneNamed : List ℕ → List FieldData → Type 0
+abbrev pub NoneNamed : List ℕ → List FieldData → Type 0
 NoneNamed name [] = Unit {0}
 NoneNamed name (f ∷ fs) = (f.name ≢ name) × NoneNamed name fs
 
@@ -67,33 +67,33 @@ not_used name [] h = refl
 not_used name (f ∷ fs) h =
     or_from (bytes_eq name f.name) (list_any (bytes_eq name) (map name_of fs)) (names_differ name f.name (λ e. h.0 (sym e))) (not_used name fs h.1)
 
-none_found : (name : List ℕ) (fs : List FieldData) → NoneNamed name fs → field_named fs name ≡ None
+pub none_found : (name : List ℕ) (fs : List FieldData) → NoneNamed name fs → field_named fs name ≡ None
 none_found name [] h = refl
 none_found name (f ∷ fs) h = rw (names_differ f.name name h.0) (none_found name fs h.1)
 
-added_new : (name : List ℕ) (v : ValueData) (fs : List FieldData) → NoneNamed name fs → added fs name v ≡ fs ++ new_field name v ∷ []
+pub added_new : (name : List ℕ) (v : ValueData) (fs : List FieldData) → NoneNamed name fs → added fs name v ≡ fs ++ new_field name v ∷ []
 added_new name v [] h = refl
 added_new name v (f ∷ fs) h = rw (names_differ f.name name h.0) (ap (λ (t : List FieldData). f ∷ t) (added_new name v fs h.1))
 
 same_bytes : (name : List ℕ) → bytes_eq name name ≡ true
 same_bytes name = (bytes_eq-Decides name name).1 refl
 
-last_found : (name : List ℕ) (kind : Kind) (values : List ValueData) (fs : List FieldData) → NoneNamed name fs → field_named (fs ++ field name kind values ∷ []) name ≡ Some (field name kind values)
+pub last_found : (name : List ℕ) (kind : Kind) (values : List ValueData) (fs : List FieldData) → NoneNamed name fs → field_named (fs ++ field name kind values ∷ []) name ≡ Some (field name kind values)
 last_found name kind values [] h = rw (same_bytes name) refl
 last_found name kind values (f ∷ fs) h = rw (names_differ f.name name h.0) (last_found name kind values fs h.1)
 
-added_last : (name : List ℕ) (kind : Kind) (values : List ValueData) (v : ValueData) (fs : List FieldData) → NoneNamed name fs → added (fs ++ field name kind values ∷ []) name v ≡ fs ++ field name kind (values ++ v ∷ []) ∷ []
+pub added_last : (name : List ℕ) (kind : Kind) (values : List ValueData) (v : ValueData) (fs : List FieldData) → NoneNamed name fs → added (fs ++ field name kind values ∷ []) name v ≡ fs ++ field name kind (values ++ v ∷ []) ∷ []
 added_last name kind values v [] h = rw (same_bytes name) refl
 added_last name kind values v (f ∷ fs) h =
     rw (names_differ f.name name h.0) (ap (λ (t : List FieldData). f ∷ t) (added_last name kind values v fs h.1))
 
 -- ---- faults
 
-no_fault_new : (name : List ℕ) (v : ValueData) (fs : List FieldData) → is_word name ≡ true → NoneNamed name fs → length fs < 64 → depth_of_value v < 16 → add_fault fs name v ≡ None
+pub no_fault_new : (name : List ℕ) (v : ValueData) (fs : List FieldData) → is_word name ≡ true → NoneNamed name fs → length fs < 64 → depth_of_value v < 16 → add_fault fs name v ≡ None
 no_fault_new name v fs word new room shallow =
     rw (word, none_found name fs new, lt-ltb (length fs) 64 room, lt-ltb (depth_of_value v) 16 shallow) refl
 
-no_fault_more : (name : List ℕ) (kind : Kind) (values : List ValueData) (v : ValueData) (fs : List FieldData) → is_word name ≡ true → NoneNamed name fs → is_same_kind kind (kind_of v) ≡ true → length values < 255 → depth_of_value v < 16
+pub no_fault_more : (name : List ℕ) (kind : Kind) (values : List ValueData) (v : ValueData) (fs : List FieldData) → is_word name ≡ true → NoneNamed name fs → is_same_kind kind (kind_of v) ≡ true → length values < 255 → depth_of_value v < 16
     → add_fault (fs ++ field name kind values ∷ []) name v ≡ None
 no_fault_more name kind values v fs word new same room shallow =
     rw (word, last_found name kind values fs new, same, lt-ltb (length values) 255 room, lt-ltb (depth_of_value v) 16 shallow) refl

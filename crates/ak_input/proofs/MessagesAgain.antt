@@ -26,7 +26,7 @@ use Rattle.ak_input.proofs.ValuesAgain.{value_is, bool_again, int8_again, int16_
 
 -- ---- what stands in braces
 
-braced_again : (body : List ℕ) → braced (123 ∷ body ++ 125 ∷ []) ≡ Some body
+pub braced_again : (body : List ℕ) → braced (123 ∷ body ++ 125 ∷ []) ≡ Some body
 braced_again body =
     let size : length (123 ∷ body ++ 125 ∷ []) - 1 ≡ suc (length body) = omega (arith, length-append body (125 ∷ [])) in
     let long : ltb (length (123 ∷ body ++ 125 ∷ [])) 2 ≡ false = le-ltb (length (123 ∷ body ++ 125 ∷ [])) 2 (omega (arith, length-append body (125 ∷ []))) in

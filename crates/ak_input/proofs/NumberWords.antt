@@ -1,9 +1,11 @@
 -- The number that a word writes is read of it, and what is read of it is the number that it writes.
-use Rattle.std.proofs.Common.{◌≡◌, ℕ, ◌^◌, ◌<◌, ◌≤◌, true, leb, Bool, List, ℤ, pos, negsuc, Option, Some, None, refl, ap, subst, ◌∙◌, arith}
+use Rattle.std.proofs.Common.{◌≡◌, ℕ, ◌^◌, ◌<◌, ◌≤◌, true, leb, Bool, List, ◌∷◌, length, ℤ, pos, negsuc, Option, Some, None, refl, sym, ap, subst, ◌∙◌, arith}
 use Rattle.std.specs.Prelude.{int_le, unsigned_abs, option_map}
 use Rattle.std.specs.Fmt.{decimal, signed_decimal}
+use Rattle.std.specs.Str.Parse.{AllDigits}
 use Rattle.std.proofs.lemmas.Bool.{leb-true, le-leb}
-use Rattle.ak_base.proofs.Surface.{bind_some, cond_some, some_is}
+use Rattle.std.proofs.lemmas.Str.Parse.{digit_from_value}
+use Rattle.ak_base.proofs.Surface.{IsForm-decimal, bind_some, cond_some, short_from_below, some_is}
 use Rattle.ak_base.specs.Option.{where_true, ◌>>=◌}
 use Rattle.ak_input.specs.Payload.{int_within, uint_within}
 use Rattle.ak_input.specs.Written.{number_within, WritesNumber}
@@ -31,3 +33,16 @@ pub number_again : (least most : ℕ) (word : List ℕ) (n : ℕ) → most < 10 
 number_again least most word n small is =
     let read = (ints_read (pos 0) (pos most) word (pos n) (omega arith) small).all is.0 (le-leb 0 n (omega arith)) (le-leb n most is.2) in
     ap (λ (o : Option ℤ). (option_map unsigned_abs o) >>= (λ (m : ℕ). where_true (leb least m) m)) read ∙ ap (λ (b : Bool). where_true b n) (le-leb least n is.1)
+
+-- a word that writes no number is read as none
+pub number_none : (least most : ℕ) (word : List ℕ) → most < 10 ^ 20 → ((n : ℕ) → WritesNumber least most word n → ⊥) → number_within word least most ≡ None
+number_none least most word small none = by_read (number_within word least most) refl where
+  by_read : (o : Option ℕ) → number_within word least most ≡ o → number_within word least most ≡ None
+  by_read None e = e
+  by_read (Some n) e = absurd (none n (number_takes least most word n small e))
+
+-- a number begins with a digit
+pub no_number : (least most b : ℕ) (text : List ℕ) (n : ℕ) → most < 10 ^ 20 → 57 < b → WritesNumber least most (b ∷ text) n → ⊥
+no_number least most b text n small high is =
+    let short : length (decimal n) ≤ 20 = short_from_below n (omega (arith, is.2)) in
+    omega (arith, digit_from_value b (subst (AllDigits 10) (sym is.0) (IsForm-decimal n short).digits).0)

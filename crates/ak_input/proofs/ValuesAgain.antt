@@ -1,8 +1,8 @@
 -- A value that is no message is read from its text.
-use Rattle.std.proofs.Common.{◌≡◌, ℕ, suc, ◌+◌, ◌^◌, ◌<◌, ◌≤◌, Bool, true, false, ◌||◌, cond, eqb, ltb, List, [], ◌∷◌, ◌++◌, length, drop, codes, ℤ, pos, negsuc, Option, Some, None, refl, ap, subst, ◌∙◌, arith}
+use Rattle.std.proofs.Common.{◌≡◌, ℕ, suc, ◌+◌, ◌^◌, ◌<◌, ◌≤◌, Bool, true, false, ◌||◌, cond, eqb, ltb, List, [], ◌∷◌, ◌++◌, length, drop, codes, ℤ, pos, negsuc, Option, Some, None, refl, ap, subst, arith}
 use Rattle.std.specs.Prelude.{FitsSigned, int_le, unsigned_abs}
 use Rattle.std.specs.Fmt.{decimal, signed_decimal}
-use Rattle.std.specs.Int.{w8, w16, w32, w64, from_be_bytes}
+use Rattle.std.specs.Int.{w8, w16, w32, w64}
 use Rattle.std.specs.List.{flat_map, list_all, position, position_or_len}
 use Rattle.std.specs.Str.{bytes_eq}
 use Rattle.std.proofs.lemmas.Bool.{and_parts, both_ways, eq-eqb, lt-ltb, le-ltb, le-leb, false_from_ne_true}
@@ -15,10 +15,10 @@ use Rattle.ak_message.specs.declared.address.Target.{Target}
 use Rattle.ak_message.specs.declared.address.Target.TheVariants as target
 use Rattle.ak_message.specs.declared.kind.Kind.{Kind}
 use Rattle.ak_message.specs.declared.kind.Kind.TheVariants as k
-use Rattle.ak_message.specs.Kind.{kind_letters, kind_of_code, kind_of_code-code}
+use Rattle.ak_message.specs.Kind.{kind_letters}
 use Rattle.ak_message.specs.Message.{bool_value, int8_value, int16_value, int32_value, int64_value, uint8_value, uint16_value, uint32_value, uint64_value, text_value, messenger_value, raw_value}
 use Rattle.ak_input.specs.MessageText.{quoted, bool_text, target_text}
-use Rattle.ak_input.specs.Payload.{kind_before, int_within, uint_within, target_from, address_from, unquoted}
+use Rattle.ak_input.specs.Payload.{kind_before, kind_lettered, int_within, uint_within, target_from, address_from, unquoted}
 use Rattle.ak_input.specs.Reading.{Got, got, text_from, raw_value_from, small_from, payload_from, value_with}
 use Rattle.ak_message.specs.Whole.{FitsTarget, FitsAddress}
 use Rattle.ak_base.specs.Text.{IsText, IsRaw}
@@ -34,27 +34,27 @@ use Rattle.ak_input.proofs.TextKept.{text_ok}
 abbrev kind_unless : Bool → Option Kind → Option Kind
 kind_unless test kind = cond test None kind
 
-four_letters : (a b c d : ℕ) (payload : List ℕ) → kind_before (a ∷ b ∷ c ∷ d ∷ 58 ∷ payload) ≡ kind_of_code (from_be_bytes w32 (a ∷ b ∷ c ∷ d ∷ []))
+four_letters : (a b c d : ℕ) (payload : List ℕ) → kind_before (a ∷ b ∷ c ∷ d ∷ 58 ∷ payload) ≡ kind_lettered (a ∷ b ∷ c ∷ d ∷ [])
 four_letters a b c d payload =
     let long : ltb (length (a ∷ b ∷ c ∷ d ∷ 58 ∷ payload)) 5 ≡ false = le-ltb (length (a ∷ b ∷ c ∷ d ∷ 58 ∷ payload)) 5 (omega arith) in
-    ap (λ (short : Bool). kind_unless (short || false) (kind_of_code (from_be_bytes w32 (a ∷ b ∷ c ∷ d ∷ [])))) long
+    ap (λ (short : Bool). kind_unless (short || false) (kind_lettered (a ∷ b ∷ c ∷ d ∷ []))) long
 
-kind_again : (kind : Kind) (payload : List ℕ) → kind_before (kind_letters kind ++ 58 ∷ payload) ≡ Some kind
-kind_again k.Bool payload = four_letters 66 79 79 76 payload ∙ kind_of_code-code k.Bool
-kind_again k.Int8 payload = four_letters 66 89 84 69 payload ∙ kind_of_code-code k.Int8
-kind_again k.Int16 payload = four_letters 83 72 82 84 payload ∙ kind_of_code-code k.Int16
-kind_again k.Int32 payload = four_letters 76 79 78 71 payload ∙ kind_of_code-code k.Int32
-kind_again k.Int64 payload = four_letters 76 76 78 71 payload ∙ kind_of_code-code k.Int64
-kind_again k.UInt8 payload = four_letters 85 66 89 84 payload ∙ kind_of_code-code k.UInt8
-kind_again k.UInt16 payload = four_letters 85 83 72 84 payload ∙ kind_of_code-code k.UInt16
-kind_again k.UInt32 payload = four_letters 85 76 78 71 payload ∙ kind_of_code-code k.UInt32
-kind_again k.UInt64 payload = four_letters 85 76 76 71 payload ∙ kind_of_code-code k.UInt64
-kind_again k.Text payload = four_letters 67 83 84 82 payload ∙ kind_of_code-code k.Text
-kind_again k.Message payload = four_letters 77 83 71 71 payload ∙ kind_of_code-code k.Message
-kind_again k.Messenger payload = four_letters 77 83 78 71 payload ∙ kind_of_code-code k.Messenger
-kind_again k.Raw payload = four_letters 82 65 87 84 payload ∙ kind_of_code-code k.Raw
+pub kind_again : (kind : Kind) (payload : List ℕ) → kind_before (kind_letters kind ++ 58 ∷ payload) ≡ Some kind
+kind_again k.Bool payload = four_letters 66 79 79 76 payload
+kind_again k.Int8 payload = four_letters 66 89 84 69 payload
+kind_again k.Int16 payload = four_letters 83 72 82 84 payload
+kind_again k.Int32 payload = four_letters 76 79 78 71 payload
+kind_again k.Int64 payload = four_letters 76 76 78 71 payload
+kind_again k.UInt8 payload = four_letters 85 66 89 84 payload
+kind_again k.UInt16 payload = four_letters 85 83 72 84 payload
+kind_again k.UInt32 payload = four_letters 85 76 78 71 payload
+kind_again k.UInt64 payload = four_letters 85 76 76 71 payload
+kind_again k.Text payload = four_letters 67 83 84 82 payload
+kind_again k.Message payload = four_letters 77 83 71 71 payload
+kind_again k.Messenger payload = four_letters 77 83 78 71 payload
+kind_again k.Raw payload = four_letters 82 65 87 84 payload
 
-behind_letters : (kind : Kind) (payload : List ℕ) → drop 5 (kind_letters kind ++ 58 ∷ payload) ≡ payload
+pub behind_letters : (kind : Kind) (payload : List ℕ) → drop 5 (kind_letters kind ++ 58 ∷ payload) ≡ payload
 behind_letters k.Bool payload = refl
 behind_letters k.Int8 payload = refl
 behind_letters k.Int16 payload = refl
@@ -89,7 +89,7 @@ within_16 : (z : ℤ) → FitsSigned w16 z → int_within (negsuc 32767) (pos 32
 within_16 (pos x) fits = int_again (negsuc 32767) (pos 32767) (pos x) (omega arith) (omega arith) refl (le-leb x 32767 (omega (arith, fits)))
 within_16 (negsuc x) fits = int_again (negsuc 32767) (pos 32767) (negsuc x) (omega arith) (omega arith) (le-leb x 32767 (omega (arith, fits))) refl
 
-within_32 : (z : ℤ) → FitsSigned w32 z → int_within (negsuc 2147483647) (pos 2147483647) (signed_decimal z) ≡ Some z
+pub within_32 : (z : ℤ) → FitsSigned w32 z → int_within (negsuc 2147483647) (pos 2147483647) (signed_decimal z) ≡ Some z
 within_32 (pos x) fits = int_again (negsuc 2147483647) (pos 2147483647) (pos x) (omega arith) (omega arith) refl (le-leb x 2147483647 (omega (arith, fits)))
 within_32 (negsuc x) fits = int_again (negsuc 2147483647) (pos 2147483647) (negsuc x) (omega arith) (omega arith) (le-leb x 2147483647 (omega (arith, fits))) refl
 

@@ -1,3 +1,4 @@
+pub mod Got
 pub mod InputText
 pub mod Laws
 pub mod Limits
@@ -10,5 +11,8 @@ pub mod Payload
 pub mod Pieces
 pub mod ReadSeen
 pub mod Reading
+pub mod Said
+pub mod SaidLaws
+pub mod Told
 pub mod Words
 pub mod Written

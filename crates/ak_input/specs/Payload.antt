@@ -1,6 +1,5 @@
 -- Reading the values that are no message, each from the whole of its text.
 use Rattle.std.specs.Prelude.{ℕ, ◌+◌, ◌-◌, ◌*◌, Bool, true, false, not, ◌&&◌, ◌||◌, ◌==◌, nat_lt, nat_le, if◌then◌else◌, List, [], ◌∷◌, ◌++◌, length, take, drop, codes, position, slice_index, ℤ, pos, neg_ℤ, unsigned_abs, int_le, Option, Some, None, option_map}
-use Rattle.std.specs.Int.{w32, from_be_bytes}
 use Rattle.std.specs.List.{starts_with}
 use Rattle.std.specs.Str.{bytes_eq}
 use Rattle.std.specs.Str.Parse.{digits_value}
@@ -9,17 +8,35 @@ use Rattle.ak_message.specs.declared.address.Address.{Address}
 use Rattle.ak_message.specs.declared.address.Target.{Target}
 use Rattle.ak_message.specs.declared.address.Target.TheVariants as target
 use Rattle.ak_message.specs.declared.kind.Kind.{Kind}
+use Rattle.ak_message.specs.declared.kind.Kind.TheVariants as k
 use Rattle.ak_input.specs.declared.marks.Quotes.{Quotes}
 use Rattle.ak_input.specs.declared.marks.Quotes.TheVariants as q
-use Rattle.ak_message.specs.Kind.{kind_of_code}
+use Rattle.ak_message.specs.Kind.{kind_letters}
 use Rattle.ak_input.specs.Marks.{is_unquoted, double_step, escape_step, hex_step, is_hex_digit}
 use Rattle.ak_base.specs.Option.{◌>>=◌, where_true}
+
+-- the kind of these letters
+abbrev pub kind_lettered : List ℕ → Option Kind
+kind_lettered letters =
+    if bytes_eq letters (kind_letters k.Bool) then Some k.Bool
+    else if bytes_eq letters (kind_letters k.Int8) then Some k.Int8
+    else if bytes_eq letters (kind_letters k.Int16) then Some k.Int16
+    else if bytes_eq letters (kind_letters k.Int32) then Some k.Int32
+    else if bytes_eq letters (kind_letters k.Int64) then Some k.Int64
+    else if bytes_eq letters (kind_letters k.UInt8) then Some k.UInt8
+    else if bytes_eq letters (kind_letters k.UInt16) then Some k.UInt16
+    else if bytes_eq letters (kind_letters k.UInt32) then Some k.UInt32
+    else if bytes_eq letters (kind_letters k.UInt64) then Some k.UInt64
+    else if bytes_eq letters (kind_letters k.Text) then Some k.Text
+    else if bytes_eq letters (kind_letters k.Message) then Some k.Message
+    else if bytes_eq letters (kind_letters k.Messenger) then Some k.Messenger
+    else if bytes_eq letters (kind_letters k.Raw) then Some k.Raw
+    else None
 
 -- the kind whose letters and a colon the text begins with
 abbrev pub kind_before : List ℕ → Option Kind
 kind_before text =
-    if nat_lt (length text) 5 || not (slice_index text 4 == 58) then None
-    else kind_of_code (from_be_bytes w32 (slice_index text 0 ∷ slice_index text 1 ∷ slice_index text 2 ∷ slice_index text 3 ∷ []))
+    if nat_lt (length text) 5 || not (slice_index text 4 == 58) then None else kind_lettered (take 4 text)
 
 abbrev pub bool_from : List ℕ → Option Bool
 bool_from text = if bytes_eq text (codes "true") then Some true else where_true (bytes_eq text (codes "false")) false

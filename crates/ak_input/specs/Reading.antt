@@ -14,27 +14,12 @@ use Rattle.ak_input.specs.declared.pieces.Separator.TheVariants as by
 use Rattle.ak_message.specs.declared.fault.AddFault.{AddFault}
 use Rattle.ak_message.specs.Fields.{added, add_fault}
 use Rattle.ak_message.specs.Kind.{is_same_kind}
-use Rattle.ak_message.specs.Message.{ValueData, bool_value, int8_value, int16_value, int32_value, int64_value, uint8_value, uint16_value, uint32_value, uint64_value, text_value, messenger_value, raw_value, MessageData, kind_of, value_of_message}
+use Rattle.ak_message.specs.Message.{ValueData, bool_value, int8_value, int16_value, int32_value, int64_value, uint8_value, uint16_value, uint32_value, uint64_value, text_value, messenger_value, raw_value, MessageData, value_of_message}
 use Rattle.ak_base.specs.Option.{where_true, ◌>>=◌}
 use Rattle.ak_input.specs.Payload.{kind_before, bool_from, int_within, uint_within, address_from, raw_from, unquoted}
 use Rattle.ak_input.specs.Pieces.{pieces_of, braced}
 use Rattle.ak_message.specs.Limits.{value_limit, depth_limit}
-
--- a kind, and the value where it passes no limit
-pub record Got : Type 0 where
-  pub kind : Kind
-  pub value : Limited ValueData
-
--- the same of the values of a field
-pub record GotValues : Type 0 where
-  pub kind : Kind
-  pub values : Limited (List ValueData)
-
-abbrev pub got : ValueData → Got
-got v = record { kind = kind_of v; value = Within v }
-
-abbrev pub over : Kind → Got
-over kind = record { kind = kind; value = Over }
+pub use Rattle.ak_input.specs.Got.{Got, GotValues, got, over}
 
 -- ---- values that are no message
 -- a text has no zero byte, and quotes hold none

@@ -1,8 +1,8 @@
 -- What a word of a line writes: a number in a range, a code, a text in quotes, a value, or the name of an application.
-use Rattle.std.specs.Prelude.{◌≡◌, ℕ, ◌≤◌, Bool, not, ◌&&◌, ◌==◌, nat_le, if◌then◌else◌, List, Option, Some, None, option_map}
+use Rattle.std.specs.Prelude.{◌≡◌, ℕ, ◌≤◌, Bool, false, not, ◌&&◌, ◌==◌, nat_le, if◌then◌else◌, List, Option, Some, None, is_none, option_map}
 use Rattle.std.specs.Fmt.{decimal}
 use Rattle.std.specs.List.{list_any}
-use Rattle.ak_base.specs.AppName.{is_signature}
+use Rattle.ak_base.specs.AppName.{is_path, is_signature}
 use Rattle.ak_base.specs.Word.{is_word}
 use Rattle.ak_base.specs.Option.{where_true, ◌>>=◌}
 use Rattle.ak_base.specs.declared.app_word.AppWord.{AppWord}
@@ -76,3 +76,22 @@ team_or_name None word = named_app word
 -- a team by its number, or else one that is named
 unfoldable pub app_word_of : List ℕ → Option AppWord
 app_word_of word = team_or_name (number_within word 0 4294967295) word
+
+-- ---- which words an application is launched by, and which one is looked up by
+-- a path, or else a signature
+abbrev pub launch_word_of : List ℕ → Option AppWord
+launch_word_of word = if is_path word then Some (app.Path word) else where_true (is_signature word) (app.Signature word)
+
+-- a word that is launched is a path or a signature
+abbrev pub is_launched : AppWord → Bool
+is_launched (app.Path path) = is_path path
+is_launched (app.Signature signature) = is_signature signature
+is_launched (app.Name name) = false
+is_launched (app.Team team) = false
+
+-- a word that is looked up is a number of a team, a signature, or else a name, which is no number
+abbrev pub is_looked_up : AppWord → Bool
+is_looked_up (app.Path path) = false
+is_looked_up (app.Signature signature) = is_signature signature
+is_looked_up (app.Name name) = is_app_name name && is_none (number_within name 0 4294967295)
+is_looked_up (app.Team team) = nat_le team 4294967295

@@ -15,8 +15,8 @@ mod quoted;
 mod reading;
 mod words;
 
-pub use app_word::read_app_word;
-pub use laws::printed_messages_are_read;
+pub use app_word::{read_app_word, read_launch_word};
+pub use laws::{one_meaning, printed_is_written, printed_messages_are_read, written_is_read};
 pub use line::{Line, Word};
 pub use lines::{
     INPUT_LIMIT, InputLines, LineFault, LinesFault, pieces_are_the_input, split_lines,

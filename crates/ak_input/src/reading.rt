@@ -9,6 +9,7 @@ ghost use Rattle.ak_message.specs.Seen.{value_of};
 ghost use Rattle.ak_message.specs.Kind.{is_same_kind};
 ghost use Rattle.ak_input.specs.Payload.{kind_before};
 ghost use Rattle.ak_message.specs.Limits.{depth_limit};
+ghost use Rattle.ak_input.specs.Told.{TellsCode, TellsKind, TellsMessage, TellsText, TellsValue, TellsValues};
 ghost use Rattle.ak_input.specs.Written.{code_of};
 
 use crate::line::Word;
@@ -51,6 +52,13 @@ struct Building<'a> {
 /// `ParseFault`. A message that stands in 16 others passes the limit, whatever stands in its braces.
 /// `NoMemory` may come in place of any answer.
 pub fn read_value(alloc: Global, word: &[u8]) -> Result<Value, ParseFault>
+    ensures read { GivesValue result (reads.read_value word.now) }
+    ensures written { TellsValue result word.now }
+{
+    value_read(alloc, word)
+}
+
+fn value_read(alloc: Global, word: &[u8]) -> Result<Value, ParseFault>
     ensures { GivesValue result (reads.read_value word.now) }
 {
     kept(value(alloc, DEPTH_LIMIT, word)?)
@@ -60,6 +68,13 @@ pub fn read_value(alloc: Global, word: &[u8]) -> Result<Value, ParseFault>
 /// and has its kind all the same. `None` where the word writes no value. Answers `NoMemory` where memory ran
 /// out.
 pub fn read_with_kind(alloc: Global, word: &[u8]) -> Result<Option<ReadValue>, NoMemory>
+    ensures read { IfOk result (λ read. option_map got_of read ≡ reads.read_value word.now) }
+    ensures written { IfOk result (λ read. TellsKind read word.now) }
+{
+    kind_read(alloc, word)
+}
+
+fn kind_read(alloc: Global, word: &[u8]) -> Result<Option<ReadValue>, NoMemory>
     ensures { IfOk result (λ read. option_map got_of read ≡ reads.read_value word.now) }
 {
     match value(alloc, DEPTH_LIMIT, word) {
@@ -83,6 +98,13 @@ fn kept(read: ReadValue) -> Result<Value, ParseFault>
 /// in the order of `ParseFault`. A message among them is at most 15 deep. `NoMemory` may come in place of any
 /// answer.
 pub fn read_values(alloc: Global, text: &[u8]) -> Result<Vec<Value>, ParseFault>
+    ensures read { GivesValues result (reads.read_values text.now) }
+    ensures written { TellsValues result text.now }
+{
+    values_read(alloc, text)
+}
+
+fn values_read(alloc: Global, text: &[u8]) -> Result<Vec<Value>, ParseFault>
     ensures { GivesValues result (reads.read_values text.now) }
 {
     kept_values(values(alloc, DEPTH_LIMIT - 1, text)?)
@@ -102,6 +124,13 @@ fn kept_values(read: ReadValues) -> Result<Vec<Value>, ParseFault>
 /// values. The faults are tested in the order of `ParseFault`. A message in it is at most 15 deep. The
 /// message read has nothing popped. `NoMemory` may come in place of any answer.
 pub fn read_message(alloc: Global, words: &[Word]) -> Result<Message, ParseFault>
+    ensures read { GivesMessage result (reads.read_message (map (λ word. word.bytes) words.now)) }
+    ensures written { TellsMessage result (map (λ word. word.bytes) words.now) }
+{
+    message_read(alloc, words)
+}
+
+fn message_read(alloc: Global, words: &[Word]) -> Result<Message, ParseFault>
     ensures { GivesMessage result (reads.read_message (map (λ word. word.bytes) words.now)) }
 {
     let texts = texts_of(alloc, words)?;
@@ -121,6 +150,13 @@ fn kept_message(message: Limited<Message>) -> Result<Message, ParseFault>
 /// The text that a word writes, in double quotes. The faults are tested in the order of `ParseFault`: `Limit`
 /// where the text has over 1,024 bytes. `NoMemory` may come in place of any answer.
 pub fn read_quoted(alloc: Global, word: &[u8]) -> Result<Text, ParseFault>
+    ensures read { GivesText result (reads.text_from word.now) }
+    ensures written { TellsText result word.now }
+{
+    quoted_read(alloc, word)
+}
+
+fn quoted_read(alloc: Global, word: &[u8]) -> Result<Text, ParseFault>
     ensures { GivesText result (reads.text_from word.now) }
 {
     match text_within(alloc, word)? {
@@ -396,6 +432,7 @@ fn message_of(alloc: Global, levels: u32, words: &[&[u8]]) -> Result<Limited<Mes
 pub fn read_code(word: &[u8]) -> Option<Code>
     ensures number { option_map (λ c. c.0) result ≡ reads.code_from word.now }
     ensures code { result ≡ code_of word.now }
+    ensures written { TellsCode result word.now }
 {
     match Code::read(word) {
         Some(code) => Some(code),

@@ -1,5 +1,5 @@
 -- The session that has begun, as the code holds it and as contracts see it.
-use Rattle.std.proofs.Common.{◌≡◌, ◌≤◌, ◌<◌, ◌+◌, ℕ, true, false, List, [], ◌∷◌, length, Option, Some, None, refl, arith}
+use Rattle.std.proofs.Common.{◌≡◌, ◌≤◌, ◌<◌, ◌+◌, ℕ, true, false, List, [], ◌∷◌, length, Option, Some, None, is_some, refl, arith}
 use Rattle.std.specs.Prelude.{Vec}
 use Rattle.std.specs.declared.alloc.Global.{Global}
 use Rattle.std.proofs.lemmas.Grind.{common_steps}
@@ -11,6 +11,11 @@ use Rattle.ak_script.specs.Limits.{session_limit}
 use Rattle.ak_script.specs.Seen.{begun_seen}
 use Rattle.ak_script.specs.StatementSeen.{lines_seen, session_seen, sessions_seen}
 use Rattle.ak_script.proofs.Counting.{may_begin, may_end}
+
+-- contracts see it where the code holds one
+pub begun_there : (o : Option (Vec SessionLine Global)) → is_some (begun_seen o) ≡ is_some o
+begun_there None = refl
+begun_there (Some lines) = refl
 
 -- it has a line, where it is not bare
 pub lines_there : (lines : List SessionLine) → is_bare (Some (lines_seen lines)) ≡ false → 1 ≤ length lines

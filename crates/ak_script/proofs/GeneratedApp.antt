@@ -1,6 +1,7 @@
 -- The application whose loopers count is whole.
 use Rattle.std.proofs.Common.{◌≡◌, ◌≢◌, ℕ, zero, suc, ◌+◌, ◌-◌, ◌≤◌, true, false, List, [], ◌∷◌, All, AllPairs, Some, IsTrue, option_map, slice_get, refl, ap, subst, sym, ◌∙◌, arith}
 use Rattle.std.specs.Prelude.{codes, pos}
+use Rattle.std.specs.List.{list_all}
 use Rattle.std.specs.Str.{bytes_eq}
 use Rattle.std.proofs.lemmas.List.Elements.{All-nil, All-cons}
 use Rattle.std.proofs.lemmas.List.Kept.{AllPairs-cons}
@@ -17,7 +18,7 @@ use Rattle.ak_action.specs.Opening.{FitsPlace, knows_loopers}
 use Rattle.ak_action.specs.Plan.{IsPlan}
 use Rattle.ak_roster.specs.declared.head.AppHead.{AppHead}
 use Rattle.ak_describe.specs.declared.described.AppText.{AppText}
-use Rattle.ak_describe.specs.Whole.{ActionGoesOn, AreWholeApps, IsWholeApp, ReactionGoesOn, RowGoesOn, head_of, heads_of, looper_names}
+use Rattle.ak_describe.specs.Whole.{ActionGoesOn, AreWholeApps, IsWholeApp, ReactionGoesOn, RowGoesOn, head_of, heads_of, looper_names, row_names}
 use Rattle.ak_describe.proofs.Surface.{all_there}
 use Rattle.ak_script.specs.Generated.{app, bare_row, counting_row, counts_up, looper, loopers, no_error}
 
@@ -147,6 +148,7 @@ app_is =
       names_are_words = words;
       names_differ = names_differ;
       plans_are = each_looper IsPlan own_plan first_plan second_plan third_plan;
+      words_are = each_looper (λ (p : PlanParts). IsTrue (list_all row_names p.rows)) refl refl refl refl;
       own_capacity = omega arith;
       loopers_are_there = known;
       places_fit = fits_at;

@@ -1,14 +1,11 @@
 -- A launch line is read of the words that say so, and of no others.
 use Rattle.std.proofs.Common.{◌≡◌, ◌≢◌, ◌≤◌, ℕ, Bool, true, false, if◌then◌else◌, List, [], ◌∷◌, ◌++◌, length, codes, Option, Some, None, Result, Ok, refl, ap, sym, subst, ◌∙◌, append_assoc, arith}
-use Rattle.std.specs.Prelude.{nat_lt, not, ◌&&◌, ◌==◌}
-use Rattle.std.specs.List.{ends_with}
-use Rattle.std.proofs.lemmas.Bool.{and_parts}
+use Rattle.std.specs.Prelude.{nat_lt}
 use Rattle.std.proofs.lemmas.Grind.{common_steps}
 use Rattle.std.proofs.lemmas.List.{append-nil}
-use Rattle.ak_base.specs.AppName.{begins_with, is_path, is_signature}
+use Rattle.ak_base.specs.AppName.{is_path, is_signature}
 use Rattle.ak_base.specs.declared.app_word.AppWord.{AppWord}
 use Rattle.ak_base.specs.declared.app_word.AppWord.TheVariants as app
-use Rattle.ak_base.specs.Word.{is_word}
 use Rattle.ak_base.specs.declared.ending.RefusalKind.{RefusalKind}
 use Rattle.ak_base.specs.declared.ending.RefusalKind.TheVariants as refusal
 use Rattle.ak_base.specs.declared.limited.Limited.{Limited}
@@ -16,6 +13,7 @@ use Rattle.ak_base.specs.declared.limited.Limited.TheVariants.{Within, Over}
 use Rattle.ak_message.specs.Limits.{value_limit}
 use Rattle.ak_message.specs.Message.{MessageData}
 use Rattle.ak_input.specs.Written.{quoted_text}
+use Rattle.ak_input.proofs.Surface.{signature_no_path, texts_are_written}
 use Rattle.ak_describe.specs.Pass.{or_bad, or_limit}
 use Rattle.ak_describe.specs.Words.{behind, ends, first_of}
 use Rattle.ak_script.specs.Forms.{launch_word, with_text, texts_behind, some_texts, arguments_at, is_short, launch_kept, launched, launch_of}
@@ -56,7 +54,7 @@ texts_are (word ∷ words) read all few e =
     by_room further text is true room f =
         let more : length (read ++ text ∷ []) ≤ value_limit = grind (arith, common_steps) in
         let q = further text more f in
-        record { texts = text ∷ q.texts; all_are = q.all_are ∙ append_assoc read (text ∷ []) q.texts; say = (is, q.say); few = q.few }
+        record { texts = text ∷ q.texts; all_are = q.all_are ∙ append_assoc read (text ∷ []) q.texts; say = ((texts_are_written word (Within text)).1 is, q.say); few = q.few }
     by_room further text is false room f = absurd (over_stays words all f)
 
     by_text
@@ -72,7 +70,8 @@ texts_again (word ∷ words) (text ∷ texts) read say few =
     let room : nat_lt (length read) value_limit ≡ true = grind (arith, common_steps) in
     let all = append_assoc read (text ∷ []) texts in
     let more : length ((read ++ text ∷ []) ++ texts) ≤ value_limit = subst (λ (ts : List (List ℕ)). length ts ≤ value_limit) (sym all) few in
-    rw (say.0, room) (texts_again words texts (read ++ text ∷ []) say.1 more ∙ ap (λ (ts : List (List ℕ)). Some (Within ts)) all)
+    let is = (texts_are_written word (Within text)).0 say.0 in
+    rw (is, room) (texts_again words texts (read ++ text ∷ []) say.1 more ∙ ap (λ (ts : List (List ℕ)). Some (Within ts)) all)
 texts_again [] (text ∷ texts) read say few = absurd say
 texts_again (word ∷ words) [] read say few = absurd say
 
@@ -172,20 +171,6 @@ launch_takes words x e =
     subst (SaysLaunch words) l.same says
 
 -- ---- and back
--- a signature begins with another letter than a path
-signature_no_path : (word : List ℕ) → is_signature word ≡ true → is_path word ≡ false
-signature_no_path word is = by_test (is_path word) refl where
-  front : (bytes : List ℕ) → begins_with (codes "application/") bytes ≡ true → begins_with (codes "/") bytes ≡ true → ⊥
-  front [] a b = absurd cc
-  front (byte ∷ bytes) a b = grind (arith, common_steps)
-
-  by_test : (b : Bool) → is_path word ≡ b → is_path word ≡ false
-  by_test true path =
-      let begins = (and_parts (is_word word) (begins_with (codes "/") word) (and_parts (is_word word && begins_with (codes "/") word) (not (ends_with ◌==◌ word (codes "/"))) path).0).1 in
-      let signs = (and_parts (is_word word) (begins_with (codes "application/") word) (and_parts (is_word word && begins_with (codes "application/") word) (nat_lt 12 (length word)) is).0).1 in
-      absurd (front word signs begins)
-  by_test false path = path
-
 pub named_again : (word : List ℕ) (w : AppWord) → SaysLaunched word w → launch_word word ≡ Some w
 named_again word (app.Path path) p =
     ap (λ (b : Bool). if b then Some (app.Path word) else if is_signature word then Some (app.Signature word) else None) p.1 ∙ ap (λ (v : List ℕ). some_app (app.Path v)) p.0

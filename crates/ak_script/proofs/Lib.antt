@@ -17,6 +17,7 @@ pub mod PastLimits
 pub mod Posts
 pub mod ReadingAgain
 pub mod Refusing
+pub mod Sameness
 pub mod Saying
 pub mod Splitting
 pub mod Stages

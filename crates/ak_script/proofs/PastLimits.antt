@@ -17,6 +17,7 @@ use Rattle.ak_flatten.specs.Spelling.{spelling}
 use Rattle.ak_describe.specs.Pass.{or_bad, or_limit}
 use Rattle.ak_describe.specs.Words.{behind, ends, first_of}
 use Rattle.ak_describe.proofs.Surface.{app_word_takes, app_word_again}
+use Rattle.ak_input.proofs.Surface.{messages_are_written, texts_are_written}
 use Rattle.ak_script.specs.Faulty.{IsQuoted, ArgumentsPass, LaunchPasses, MessagePasses, PostPasses}
 use Rattle.ak_script.specs.Forms.{Way, with_text, texts_behind, some_texts, arguments_at, is_short, launch_kept, launch_word, launched, launch_of, way_at, post_kept, post_of, looper_at, edit_of, locked, lock_of}
 use Rattle.ak_script.specs.Messages.{arguments_of}
@@ -95,7 +96,7 @@ post_refused words kind e = by_named (bad_or (first_of words) behind_named kind 
           dropped_is = w.dropped_says;
           waits_is = w.waits_says;
           read = r.value;
-          message_is = r.is;
+          message_is = (messages_are_written y.value.1 r.value).1 r.is;
           pass = told.1;
         },
       )
@@ -115,10 +116,11 @@ post_refused words kind e = by_named (bad_or (first_of words) behind_named kind 
 
 pub post_past : (words : List (List ℕ)) → PostPasses words → post_of words ≡ Err refusal.Limit
 post_past words p =
+    let said = (messages_are_written p.message p.read).0 p.message_is in
     let there = way_again p.place p.for_whom p.drops p.waits p.message p.way p.place_is p.target_is p.dropped_is p.waits_is
-    (no_message (codes "looper") p.message p.read looper_no_code p.message_is) (no_message (codes "token") p.message p.read token_no_code p.message_is)
-    (no_message (codes "dropped") p.message p.read dropped_no_code p.message_is) (no_message (codes "wait") p.message p.read wait_no_code p.message_is) in
-    ap post_of p.parts ∙ rw (app_word_again p.named p.word p.app_is, there, p.message_is) (message_again p.word p.way p.read p.pass)
+    (no_message (codes "looper") p.message p.read looper_no_code said) (no_message (codes "token") p.message p.read token_no_code said)
+    (no_message (codes "dropped") p.message p.read dropped_no_code said) (no_message (codes "wait") p.message p.read wait_no_code said) in
+    ap post_of p.parts ∙ rw (app_word_again p.named p.word p.app_is, there, said) (message_again p.word p.way p.read p.pass)
 
 -- ---- `lock`
 abbrev edited : AppWord → ℕ × List (List ℕ) → Result LockData RefusalKind
@@ -154,7 +156,7 @@ unfolding texts_behind
 quoted_all [] read x e = All-nil IsQuoted
 quoted_all (word ∷ words) read x e =
     let b = bind_is (quoted_text word) (λ (t : Limited (List ℕ)). texts_behind (with_text read t) words) x e in
-    All-cons IsQuoted word words (b.value, b.is) (quoted_all words (with_text read b.value) x b.then_is)
+    All-cons IsQuoted word words (b.value, (texts_are_written word b.value).1 b.is) (quoted_all words (with_text read b.value) x b.then_is)
 
 -- texts in quotes are read, within the limits or past them
 quoted_again : (words : List (List ℕ)) (read : Limited (List (List ℕ))) → All IsQuoted words → (x : Limited (List (List ℕ))) × (texts_behind read words ≡ Some x)
@@ -163,7 +165,7 @@ quoted_again [] read all = (read, refl)
 quoted_again (word ∷ words) read all =
     let text = All-head IsQuoted word words all in
     let more = quoted_again words (with_text read text.0) (All-tail IsQuoted word words all) in
-    (more.0, ap (λ (o : Option (Limited (List ℕ))). o >>= λ (t : Limited (List ℕ)). texts_behind (with_text read t) words) text.1 ∙ more.1)
+    (more.0, ap (λ (o : Option (Limited (List ℕ))). o >>= λ (t : Limited (List ℕ)). texts_behind (with_text read t) words) ((texts_are_written word text.0).0 text.1) ∙ more.1)
 
 abbrev texts_kept : AppWord → Limited (List (List ℕ)) → Result LaunchData RefusalKind
 texts_kept word texts = or_limit texts (launch_kept word)

@@ -15,6 +15,7 @@ use Rattle.ak_input.specs.Written.{app_word_of}
 use Rattle.ak_describe.specs.Pass.{or_bad, or_limit}
 use Rattle.ak_describe.specs.Words.{behind, first_of}
 use Rattle.ak_describe.proofs.Surface.{app_word_takes, app_word_again}
+use Rattle.ak_input.proofs.Surface.{messages_are_written}
 use Rattle.ak_script.specs.Forms.{Way, flag_behind, flag_from, flagged, is_short, looper_at, most_token, number_behind, post_kept, post_of, target_of, way_at}
 use Rattle.ak_script.specs.Says.{SayFlag, SayNumber, SayPlace, SayTarget, SaysPost}
 use Rattle.ak_script.specs.Statement.{PostData}
@@ -143,7 +144,7 @@ post_takes words x e =
       target_is = w.target_says;
       dropped_is = w.dropped_says;
       waits_is = w.waits_says;
-      message_is = r.is ∙ ap some_message m.is;
+      message_is = (messages_are_written y.value.1 (Within m.value)).1 (r.is ∙ ap some_message m.is);
       short = short_is m.value k.0;
     } in
     subst (SaysPost words) k.1 says
@@ -184,8 +185,9 @@ way_again place for_whom drops waits message way place_says target_says dropped_
 pub post_again : (words : List (List ℕ)) (s : PostData) → SaysPost words s → post_of words ≡ Ok s
 post_again words s p =
     let way : Way = record { looper = s.looper; target = s.target; dropped = s.dropped; waits = s.waits } in
+    let said = (messages_are_written p.message (Within s.message)).0 p.message_is in
     let read = way_again p.place p.for_whom p.drops p.waits p.message way p.place_is p.target_is p.dropped_is p.waits_is
-    (no_message (codes "looper") p.message (Within s.message) looper_no_code p.message_is) (no_message (codes "token") p.message (Within s.message) token_no_code p.message_is)
-    (no_message (codes "dropped") p.message (Within s.message) dropped_no_code p.message_is) (no_message (codes "wait") p.message (Within s.message) wait_no_code p.message_is) in
+    (no_message (codes "looper") p.message (Within s.message) looper_no_code said) (no_message (codes "token") p.message (Within s.message) token_no_code said)
+    (no_message (codes "dropped") p.message (Within s.message) dropped_no_code said) (no_message (codes "wait") p.message (Within s.message) wait_no_code said) in
     let short = is_short_again s.message p.short in
-    ap post_of p.parts ∙ rw (app_word_again p.named s.app p.app_is, read, p.message_is, short) refl
+    ap post_of p.parts ∙ rw (app_word_again p.named s.app p.app_is, read, said, short) refl

@@ -12,7 +12,6 @@ use Rattle.ak_input.specs.Limits.{input_limit}
 use Rattle.ak_input.specs.Lines.{line_at, lines_of, too_long}
 use Rattle.ak_describe.specs.declared.described.AppText.{AppText}
 use Rattle.ak_describe.specs.Describes as descriptions
-use Rattle.ak_describe.specs.Describes.{Describes, Follow}
 use Rattle.ak_describe.specs.Description.{description}
 use Rattle.ak_describe.specs.Laws.{DescribedIsRead, FirstFaultIsTold, GoesLineByLine, IsPassed}
 use Rattle.ak_describe.specs.Pass.{State, Refusal, nothing_read, then_read, or_refused, last_item, may_open_app, number_behind}

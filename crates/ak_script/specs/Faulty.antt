@@ -1,6 +1,6 @@
 -- What is wrong with the words of a line: the first one begins no line that may stand there; or those behind it are of no form of
 -- that, or pass a limit; or a hey line goes wrong at a word, or ends too early.
-use Rattle.std.specs.Prelude.{◌≡◌, ◌≢◌, ◌↔◌, ◌⊎◌, ℕ, ◌<◌, List, [], ◌∷◌, ◌++◌, length, codes, Some, Err}
+use Rattle.std.specs.Prelude.{◌≡◌, ◌≢◌, ◌↔◌, ◌⊎◌, ℕ, ◌<◌, List, [], ◌∷◌, ◌++◌, length, codes, Err}
 use Rattle.std.specs.List.{All}
 use Rattle.ak_base.specs.declared.app_word.AppWord.{AppWord}
 use Rattle.ak_base.specs.declared.ending.RefusalKind.{RefusalKind}
@@ -9,8 +9,7 @@ use Rattle.ak_base.specs.declared.limited.Limited.{Limited}
 use Rattle.ak_base.specs.declared.limited.Limited.TheVariants.{Within, Over}
 use Rattle.ak_input.specs.declared.line.Word.{Word}
 use Rattle.ak_message.specs.Message.{MessageData}
-use Rattle.ak_input.specs.Reading.{read_message}
-use Rattle.ak_input.specs.Written.{quoted_text}
+use Rattle.ak_input.specs.Said.{WritesMessage, WritesText}
 use Rattle.ak_flatten.specs.Limits.{flat_limit}
 use Rattle.ak_flatten.specs.Spelling.{spelling}
 use Rattle.ak_describe.specs.Grammar.{SaysAppWord}
@@ -25,7 +24,7 @@ use Rattle.ak_script.specs.Statement.{LaunchData, HeyData, PostData, LockData}
 -- ---- of a form, but past a limit
 -- a text in quotes, of any length
 abbrev pub IsQuoted : List ℕ → Type 0
-IsQuoted word = (text : Limited (List ℕ)) × (quoted_text word ≡ Some text)
+IsQuoted word = (text : Limited (List ℕ)) × WritesText word text
 
 -- `args` and one text or more, which are no arguments within the limits: a text has over 1,024 bytes, or there are over 255, or the message
 -- that tells of them has over 4,096 bytes of flat text
@@ -45,7 +44,7 @@ pub record LaunchPasses (words : List (List ℕ)) : Type 0 where
   pub word_is : SaysLaunched named word
   pub pass : ArgumentsPass rest
 
--- what is read of a message passes a limit, or its flat text has over 4,096 bytes
+-- a message passes a limit, or its flat text has over 4,096 bytes
 abbrev pub MessagePasses : Limited MessageData → Type 0
 MessagePasses Over = Unit {0}
 MessagePasses (Within m) = flat_limit < length (spelling m)
@@ -67,7 +66,7 @@ pub record PostPasses (words : List (List ℕ)) : Type 0 where
   pub dropped_is : SayFlag (codes "dropped") drops way.dropped
   pub waits_is : SayFlag (codes "wait") waits way.waits
   pub read : Limited MessageData
-  pub message_is : read_message message ≡ Some read
+  pub message_is : WritesMessage message read
   pub pass : MessagePasses read
 
 -- ---- the first word

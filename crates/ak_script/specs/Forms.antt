@@ -1,11 +1,9 @@
 -- The forms of statements: what the words of a line say, or its first fault.
 use Rattle.std.specs.Prelude.{ℕ, Bool, true, false, ◌≤◌, nat_lt, nat_le, if◌then◌else◌, List, [], ◌∷◌, ◌++◌, length, codes, Option, Some, None, option_map, Result, Ok, Err}
 use Rattle.std.specs.Str.{bytes_eq}
-use Rattle.ak_base.specs.AppName.{is_path, is_signature}
 use Rattle.ak_base.specs.Option.{where_true, ◌>>=◌}
 use Rattle.ak_base.specs.Word.{is_word}
 use Rattle.ak_base.specs.declared.app_word.AppWord.{AppWord}
-use Rattle.ak_base.specs.declared.app_word.AppWord.TheVariants as app
 use Rattle.ak_base.specs.declared.ending.RefusalKind.{RefusalKind}
 use Rattle.ak_base.specs.declared.ending.RefusalKind.TheVariants as refusal
 use Rattle.ak_base.specs.declared.limited.Limited.{Limited}
@@ -19,7 +17,7 @@ use Rattle.ak_message.specs.Limits.{value_limit}
 use Rattle.ak_input.specs.Payload.{uint_within}
 use Rattle.ak_input.specs.Reading.{read_message}
 use Rattle.ak_message.specs.Message.{MessageData}
-use Rattle.ak_input.specs.Written.{quoted_text, app_word_of}
+use Rattle.ak_input.specs.Written.{quoted_text, app_word_of, launch_word_of}
 use Rattle.ak_flatten.specs.Limits.{flat_limit}
 use Rattle.ak_flatten.specs.Spelling.{spelling}
 use Rattle.ak_describe.specs.Pass.{or_bad, or_limit, then_read}
@@ -75,8 +73,7 @@ looper_at words = option_map (λ (x : Option ℕ × List (List ℕ)). (or_zero x
 -- ---- `launch`
 -- a path or a signature
 abbrev pub launch_word : List ℕ → Option AppWord
-launch_word word =
-    if is_path word then Some (app.Path word) else if is_signature word then Some (app.Signature word) else None
+launch_word word = launch_word_of word
 
 -- one more text, where it is not too long and there are not 255
 abbrev pub with_text : Limited (List (List ℕ)) → Limited (List ℕ) → Limited (List (List ℕ))

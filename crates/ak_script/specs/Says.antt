@@ -6,7 +6,7 @@ use Rattle.ak_base.specs.declared.ending.RefusalKind.TheVariants as refusal
 use Rattle.ak_base.specs.declared.limited.Limited.TheVariants.{Within}
 use Rattle.ak_base.specs.AppName.{is_path, is_signature}
 use Rattle.ak_message.specs.Message.{MessageData}
-use Rattle.ak_input.specs.Reading.{read_message}
+use Rattle.ak_input.specs.Said.{WritesMessage, WritesText}
 use Rattle.ak_input.specs.declared.line.Word.{Word}
 use Rattle.ak_message.specs.declared.address.Target.{Target}
 use Rattle.ak_message.specs.declared.address.Target.TheVariants as target
@@ -21,7 +21,7 @@ use Rattle.ak_hey.specs.Laws.{IsFirstBad, EndsEarly}
 use Rattle.ak_desk.specs.declared.entry.Edit.{Edit}
 use Rattle.ak_desk.specs.declared.entry.Edit.TheVariants as edit
 use Rattle.ak_base.specs.Word.{is_word}
-use Rattle.ak_input.specs.Written.{quoted_text, WritesNumber}
+use Rattle.ak_input.specs.Written.{WritesNumber}
 use Rattle.ak_script.specs.Forms.{most_looper, most_token, or_zero, session_line_of, statement_of}
 use Rattle.ak_script.specs.Messages.{arguments_of}
 use Rattle.ak_script.specs.Statement.{LaunchData, PostData, LockData, SessionLineData, hey_line, post_line, lock_line, StatementData, launch_statement, hey_statement, post_statement, lock_statement, together_statement}
@@ -36,7 +36,7 @@ SaysLaunched word (app.Team team) = ⊥
 -- each word is a text in quotes, of at most 1,024 bytes
 abbrev pub SayTexts : List (List ℕ) → List (List ℕ) → Type 0
 SayTexts [] [] = Unit {0}
-SayTexts (word ∷ words) (text ∷ texts) = (quoted_text word ≡ Some (Within text)) × SayTexts words texts
+SayTexts (word ∷ words) (text ∷ texts) = WritesText word (Within text) × SayTexts words texts
 SayTexts [] (text ∷ texts) = ⊥
 SayTexts (word ∷ words) [] = ⊥
 
@@ -98,7 +98,7 @@ pub record SaysPost (words : List (List ℕ)) (s : PostData) : Type 0 where
   pub target_is : SayTarget for_whom s.target
   pub dropped_is : SayFlag (codes "dropped") drops s.dropped
   pub waits_is : SayFlag (codes "wait") waits s.waits
-  pub message_is : read_message message ≡ Some (Within s.message)
+  pub message_is : WritesMessage message (Within s.message)
   pub short : length (spelling s.message) ≤ flat_limit
 
 -- ---- `lock`

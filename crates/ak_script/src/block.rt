@@ -149,6 +149,7 @@ impl BlockSoFar {
     }
 
     /// What the words of a line say in the session that has begun.
+    #[tactic(auto, using(crate::proofs::Begun::begun_there))]
     pub(crate) fn line_of(
         &self,
         alloc: Global,

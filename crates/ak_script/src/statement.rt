@@ -1,8 +1,10 @@
 //! What a statement is.
 ghost use Rattle.std.proofs.Props.{props};
-ghost use Rattle.std.specs.Prelude.{◌≤◌, length, IfSome};
+ghost use Rattle.std.specs.Prelude.{◌≤◌, length, IfSome, IsTrue};
+ghost use Rattle.ak_desk.specs.Plain.{is_plain_edit};
 ghost use Rattle.ak_flatten.specs.Limits.{flat_limit};
 ghost use Rattle.ak_flatten.specs.Spelling.{spelling};
+ghost use Rattle.ak_input.specs.Written.{is_launched, is_looked_up};
 ghost use Rattle.ak_roster.specs.Answers.{IsWord};
 ghost use Rattle.ak_script.specs.Facts.{word-prop};
 ghost use Rattle.ak_script.specs.Limits.{session_limit};
@@ -19,6 +21,7 @@ pub struct Launch {
     /// What its own looper is told of its arguments, where there are some. Its flat text has at most 4,096 bytes.
     pub arguments: Option<Message>,
     ghost word_is: { IsWord word } by { word-prop word },
+    ghost form: { IsTrue (is_launched word) },
     ghost fits: { IfSome arguments (λ message. length (spelling message) ≤ flat_limit) } by { Prim.hlevel props },
 }
 
@@ -28,6 +31,7 @@ pub struct Hey {
     pub app: AppWord,
     /// Its flat text has at most 4,096 bytes.
     pub message: Message,
+    ghost form: { IsTrue (is_looked_up app) },
     ghost fits: { length (spelling message) ≤ flat_limit },
 }
 
@@ -43,6 +47,7 @@ pub struct Post {
     pub waits: bool,
     /// Its flat text has at most 4,096 bytes.
     pub message: Message,
+    ghost form: { IsTrue (is_looked_up app) },
     ghost fits: { length (spelling message) ≤ flat_limit },
 }
 
@@ -52,7 +57,10 @@ pub struct Lock {
     pub app: AppWord,
     /// The place of the looper in its application, counted from 0.
     pub looper: u32,
+    /// The name of a new handler is a word.
     pub edit: Edit,
+    ghost form: { IsTrue (is_looked_up app) },
+    ghost edit_is: { IsTrue (is_plain_edit edit) },
 }
 
 /// The most sessions of a block.

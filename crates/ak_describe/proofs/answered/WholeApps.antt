@@ -1,5 +1,6 @@
 -- What is described is whole.
 use Rattle.std.proofs.Common.{◌≡◌, ◌≢◌, ℕ, ◌+◌, ◌-◌, ◌<◌, ◌≤◌, true, List, [], ◌∷◌, length, get_or, map, All, AllPairs, Some, None, IfSome, IsTrue, option_map, slice_get, refl, sym, ap, subst, ◌∙◌, arith}
+use Rattle.std.specs.List.{list_all}
 use Rattle.std.proofs.lemmas.List.{length-map, get_or-map}
 use Rattle.std.proofs.lemmas.List.Elements.{All-map, All-weaker}
 use Rattle.std.proofs.lemmas.Option.{slice_get-get_or, slice_get-map}
@@ -15,11 +16,12 @@ use Rattle.ak_describe.specs.Described.{AreWhole, IsWhole, app_text, described, 
 use Rattle.ak_describe.specs.Describes.{Adds, Follow, IsGood}
 use Rattle.ak_describe.specs.Parts.{LooperData, AppData}
 use Rattle.ak_describe.specs.Pass.{State, nothing_read}
-use Rattle.ak_describe.specs.Whole.{AreWholeApps, DescriptionsAreWhole, IsWholeApp, head_of, heads_of, looper_names}
+use Rattle.ak_describe.specs.Whole.{AreWholeApps, DescriptionsAreWhole, IsWholeApp, head_of, heads_of, looper_names, row_names}
 use Rattle.ak_describe.proofs.names.Asking.{asks_go_on}
 use Rattle.ak_describe.proofs.answered.BothPasses.{are_whole}
 use Rattle.ak_describe.proofs.lines.Heading.{AppIs, AppsAre, Differ, complete_filled, form_are, name_of, nothing_is, path_of}
 use Rattle.ak_describe.proofs.answered.LawsHold.{describes_passed, describes_good}
+use Rattle.ak_describe.proofs.names.LookedUp.{AllNameApps, AppNamesApps, LooperNamesApps, form_names, looper_is, nothing_names}
 use Rattle.ak_describe.proofs.names.Noting.{AllNoted, form_noted, loopers_known, nothing_noted}
 use Rattle.ak_describe.proofs.ground.Outcomes.{mapped}
 use Rattle.ak_describe.proofs.ground.Places.{all_there}
@@ -28,18 +30,23 @@ use Rattle.ak_describe.proofs.ground.Places.{all_there}
 record Held (s : State) : Type 0 where
   are : AppsAre s.apps
   noted : AllNoted s.apps s.names
+  named : AllNameApps s.apps
 
 adds_held : (s : State) (line : Line) (left : State) → Held s → Adds s line left → Held left
 adds_held s line left h a =
     subst Held (sym a.left_is)
-    (record { are = form_are s a.keyword a.words a.form a.opens.stands a.says a.is_new a.within h.are; noted = form_noted s.apps s.names line.number a.form h.noted })
+    (record {
+      are = form_are s a.keyword a.words a.form a.opens.stands a.says a.is_new a.within h.are;
+      noted = form_noted s.apps s.names line.number a.form h.noted;
+      named = form_names s a.keyword a.words a.form a.says a.within h.named;
+    })
 
 follow_held : (lines : List Line) (s left : State) → Held s → Follow s lines left → Held left
 follow_held [] s left h f = subst Held f h
 follow_held (line ∷ lines) s left h f = follow_held lines f.0 left (adds_held s line f.0 h f.1) f.2
 
 nothing_held : Held nothing_read
-nothing_held = record { are = nothing_is; noted = nothing_noted }
+nothing_held = record { are = nothing_is; noted = nothing_noted; named = nothing_names }
 
 -- ---- an application
 -- a looper of that name alone
@@ -106,6 +113,9 @@ module _ (s : State) (h : Held s) (good : All (IsGood s.apps) s.names) (wholes :
         names_are_words = subst (λ (ns : List (List ℕ)). All (λ (name : List ℕ). IsTrue (is_word name)) ns) (sym (names-are a.loopers)) (All-map (λ (name : List ℕ). IsTrue (is_word name)) name_of a.loopers app_is.words);
         names_differ = differ;
         plans_are = plans_are;
+        words_are =
+            All-map (λ (p : PlanParts). IsTrue (list_all row_names p.rows)) plan_parts a.loopers
+            (All-weaker LooperNamesApps (λ (l : LooperData). IsTrue (list_all row_names (plan_parts l).rows)) looper_is a.loopers (all_there AppNamesApps s.apps i a at h.named));
         own_capacity = own_large a.loopers app_is.own;
         loopers_are_there =
             All-map (λ (p : PlanParts). IsTrue (knows_loopers (looper_names (app_text a)) p.rows)) plan_parts a.loopers

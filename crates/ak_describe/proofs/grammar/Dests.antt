@@ -1,91 +1,20 @@
 -- Where a message is sent.
-use Rattle.std.proofs.Common.{◌≡◌, ◌↔◌, ℕ, Bool, true, false, cond, not, ltb, ◌&&◌, length, drop, List, [], ◌∷◌, ◌++◌, Option, Some, None, refl, sym, ap, subst, ◌∙◌, arith}
-use Rattle.std.specs.Prelude.{codes, ◌==◌}
-use Rattle.std.specs.List.{list_any, starts_with}
+use Rattle.std.proofs.Common.{◌≡◌, ◌↔◌, ℕ, Bool, true, false, cond, List, [], ◌∷◌, ◌++◌, Option, Some, None, refl, sym, ap, subst, ◌∙◌}
+use Rattle.std.specs.Prelude.{codes}
 use Rattle.std.specs.Str.{bytes_eq}
-use Rattle.std.proofs.lemmas.Bool.{and_parts}
-use Rattle.std.proofs.lemmas.Bool.Decides.{Decides-eqb}
-use Rattle.std.proofs.lemmas.Slice.Eq.{bytes_eq-Decides, starts_is}
+use Rattle.std.proofs.lemmas.Slice.Eq.{bytes_eq-Decides}
 use Rattle.ak_base.specs.Word.{is_word}
 use Rattle.ak_base.specs.declared.app_word.AppWord.{AppWord}
-use Rattle.ak_base.specs.declared.app_word.AppWord.TheVariants as app
-use Rattle.ak_base.specs.Option.{where_true, ◌>>=◌}
-use Rattle.ak_base.proofs.Surface.{bind_some, cond_some, some_is}
+use Rattle.ak_base.specs.Option.{◌>>=◌}
+use Rattle.ak_base.proofs.Surface.{bind_some}
 use Rattle.ak_action.specs.declared.action.Dest.{Dest}
 use Rattle.ak_action.specs.declared.action.Dest.TheVariants as dest
 use Rattle.ak_describe.specs.Actions.{to_app, dest_at}
-use Rattle.ak_describe.specs.Grammar.{IsTeamText, SaysAppWord, SaysDest}
-use Rattle.ak_base.specs.AppName.{begins_with, is_signature}
-use Rattle.ak_input.specs.Written.{WritesNumber, is_app_name, number_within, named_app, team_or_name, app_word_of}
-use Rattle.ak_input.proofs.Surface.{number_takes, number_again}
+use Rattle.ak_describe.specs.Grammar.{SaysDest}
+use Rattle.ak_input.specs.Written.{app_word_of}
+use Rattle.ak_input.proofs.Surface.{app_word_again, app_word_takes}
 use Rattle.ak_describe.specs.Words.{name_of, name_at}
-use Rattle.ak_describe.proofs.grammar.Numbers.{number_none, no_number}
 use Rattle.ak_describe.proofs.grammar.Parts.{read_as, read_is, word_at, name_at-takes, name_at-again}
-
--- ---- an application
--- a signature begins with `application/`
-signature_front : (word : List ℕ) → is_signature word ≡ true → (rest : List ℕ) × (word ≡ codes "application/" ++ rest)
-signature_front word is =
-    let p = and_parts (is_word word && begins_with (codes "application/") word) (ltb 12 (length word)) is in
-    let q = and_parts (is_word word) (begins_with (codes "application/") word) p.0 in
-    (drop 12 word, (starts_is Decides-eqb word (codes "application/") (starts_with ◌==◌ word (codes "application/")) refl).0 q.1)
-
--- so it is no number
-signature_no_team : (word : List ℕ) (n : ℕ) → is_signature word ≡ true → WritesNumber 0 4294967295 word n → ⊥
-signature_no_team word n is written =
-    let f = signature_front word is in
-    no_number 0 4294967295 97 (codes "pplication/" ++ f.0) n (omega arith) (omega arith) (subst (λ (w : List ℕ). WritesNumber 0 4294967295 w n) f.1 written)
-
--- and no name of an application, which has no `/`
-has_slash : (word : List ℕ) → is_signature word ≡ true → list_any (λ (b : ℕ). b == 47) word ≡ true
-has_slash word is = let f = signature_front word is in subst (λ (w : List ℕ). list_any (λ (b : ℕ). b == 47) w ≡ true) (sym f.1) refl
-
-name_no_signature : (word : List ℕ) → is_app_name word ≡ true → is_signature word ≡ false
-name_no_signature word is = by_test (is_signature word) refl where
-  by_test : (b : Bool) → is_signature word ≡ b → is_signature word ≡ false
-  by_test true e =
-      let none = (and_parts (is_word word) (not (list_any (λ (b : ℕ). b == 47) word)) is).1 in
-      let wrong : not true ≡ true = subst (λ (b : Bool). not b ≡ true) (has_slash word e) none in
-      absurd cc
-  by_test false e = e
-
-named_takes : (word : List ℕ) (a : AppWord) → number_within word 0 4294967295 ≡ None → named_app word ≡ Some a → SaysAppWord word a
-named_takes word a none e = by_test (is_signature word) refl e where
-  by_test : (b : Bool) → is_signature word ≡ b → cond b (Some (app.Signature word)) (where_true (is_app_name word) (app.Name word)) ≡ Some a → SaysAppWord word a
-  by_test true is e = subst (λ (x : AppWord). SaysAppWord word x) (some_is (app.Signature word) a e) (refl, is)
-  by_test false is e =
-      let t = cond_some (is_app_name word) (app.Name word) a e in
-      let no_team : ¬ (IsTeamText word) = λ team. no_team_of team.0 team.1 in
-      subst (λ (x : AppWord). SaysAppWord word x) t.1 (refl, t.0, no_team) where
-        no_team_of : (n : ℕ) → WritesNumber 0 4294967295 word n → ⊥
-        no_team_of n written = let read = number_again 0 4294967295 word n (omega arith) written in absurd cc
-
-pub app_word_takes : (word : List ℕ) (a : AppWord) → app_word_of word ≡ Some a → SaysAppWord word a
-unfolding app_word_of
-app_word_takes word a e = by_number (number_within word 0 4294967295) refl e where
-  by_number : (o : Option ℕ) → number_within word 0 4294967295 ≡ o → team_or_name o word ≡ Some a → SaysAppWord word a
-  by_number (Some team) is e = subst (λ (x : AppWord). SaysAppWord word x) (some_is (app.Team team) a e) (number_takes 0 4294967295 word team (omega arith) is)
-  by_number None is e = named_takes word a is e
-
-pub app_word_again : (word : List ℕ) (a : AppWord) → SaysAppWord word a → app_word_of word ≡ Some a
-unfolding app_word_of
-app_word_again word (app.Team team) is = ap (λ (o : Option ℕ). team_or_name o word) (number_again 0 4294967295 word team (omega arith) is)
-app_word_again word (app.Signature signature) is =
-    ap (λ (o : Option ℕ). team_or_name o word) (number_none 0 4294967295 word (omega arith) (λ n written. signature_no_team word n is.1 written))
-    ∙ ap (λ (b : Bool). cond b (Some (app.Signature word)) (where_true (is_app_name word) (app.Name word))) is.1
-    ∙ ap (λ (w : List ℕ). some_app (app.Signature w)) is.0
-  where
-    some_app : AppWord → Option AppWord
-    some_app a = Some a
-app_word_again word (app.Name name) is =
-    ap (λ (o : Option ℕ). team_or_name o word) (number_none 0 4294967295 word (omega arith) (λ n written. is.2 (n, written)))
-    ∙ ap (λ (b : Bool). cond b (Some (app.Signature word)) (where_true (is_app_name word) (app.Name word))) (name_no_signature word is.1)
-    ∙ ap (λ (b : Bool). where_true b (app.Name word)) is.1
-    ∙ ap (λ (w : List ℕ). some_app (app.Name w)) is.0
-  where
-    some_app : AppWord → Option AppWord
-    some_app a = Some a
-app_word_again word (app.Path path) is = absurd is
 
 -- ---- `self`, `looper NAME`, `handler NAME`, `app APP`
 abbrev IsDest : List (List ℕ) → Dest → List (List ℕ) → Type 0

@@ -24,6 +24,7 @@ use Rattle.ak_describe.specs.Made.{value_of_kind}
 use Rattle.ak_describe.specs.Words.{kind_of, name_at, name_of, ends}
 use Rattle.ak_describe.proofs.grammar.Choices.{chosen}
 use Rattle.ak_describe.proofs.grammar.Codes.{code_again_is, code_takes_is}
+use Rattle.ak_input.proofs.Surface.{values_are_written}
 use Rattle.ak_describe.proofs.grammar.Numbers.{number_none, no_number}
 use Rattle.ak_describe.proofs.grammar.Parts.{read_as, ends_nil, all_of, NotFirst, IsStop, IsBehind, name_at-takes, name_at-again, word_at, word_at-takes, word_at-again, parts_take, parts_again, parts_begin, form_takes, form_again, text_part_takes, text_part_again, text_begins_all}
 
@@ -199,7 +200,7 @@ element_of kind word words rest value name e read part none kept =
       part = part.0;
       all = ap (λ (ws : List (List ℕ)). word ∷ ws) (all_of words part.0 rest part.1 none);
       value = value;
-      value_is = read;
+      value_is = (values_are_written word (got_as kind value)).1 read;
       name = name;
       name_is = part.2;
       kept = both_are name value e kept;
@@ -219,7 +220,7 @@ unfolding element_form
 element_again kind words e is =
     let name = subst (λ (ws : List (List ℕ)). text_behind ws (codes "name") ≡ read_as is.name []) (append-nil is.part) (text_part_again (codes "name") is.part is.name [] refl is.name_is) in
     ap (element_form kind) is.all
-    ∙ ap (λ (o : Option (Limited ValueData)). o >>= (λ (v : Limited ValueData). with_value is.part v)) (value_again kind is.word is.value is.value_is)
+    ∙ ap (λ (o : Option (Limited ValueData)). o >>= (λ (v : Limited ValueData). with_value is.part v)) (value_again kind is.word is.value ((values_are_written is.word (got_as kind is.value)).0 is.value_is))
     ∙ ap (λ (o : Option (Limited (List ℕ) × List (List ℕ))). o >>= (λ (n : Limited (List ℕ) × List (List ℕ)). with_both is.value n)) name
     ∙ ap (λ (x : Limited (List ℕ × ValueData)). some_element x) (are_both is.name is.value e is.kept)
 

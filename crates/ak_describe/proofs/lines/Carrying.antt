@@ -39,7 +39,7 @@ use Rattle.ak_describe.specs.Says as says
 use Rattle.ak_describe.specs.Says.{Form, says_app, says_looper, says_hook, says_prefer, says_common, says_handler, says_next, says_suite, says_filter, says_property, says_element, says_on, says_action, open_row, properties_in, open_properties, least_of, MayStand, HasLooper, HasRow, HasReaction, IsInUse, RowHas, LooperHas, PropertyHas, ReactionHas, reactions_in, IsKept, IsWithin, with_changed, usage_of, with_form, names_in}
 use Rattle.ak_describe.specs.Words.{first_of, ends, only_name, only_code}
 use Rattle.ak_describe.proofs.grammar.Properties.{value_is_read}
-use Rattle.ak_describe.proofs.grammar.Values.{IfWithin, Holds, IsFine, read_fine}
+use Rattle.ak_input.proofs.Surface.{Holds, IfWithin, IsFine, read_fine}
 use Rattle.ak_describe.proofs.ground.Ends.{some_there, last_there, changed_is}
 use Rattle.ak_describe.proofs.ground.Outcomes.{where_is}
 use Rattle.ak_describe.proofs.lines.Judging.{Judged, is_twice, is_over, is_done, over, placed, judged_over, judged_is, never, decides_room, last_over, then_over, put_looper, put_row, app_carried, judged_looper, app_row_carried, judged_row}

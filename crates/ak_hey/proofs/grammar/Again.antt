@@ -13,10 +13,11 @@ use Rattle.ak_input.specs.Reading.{Got, read_value, field_split}
 use Rattle.ak_hey.specs.declared.reading.Place.{Place}
 use Rattle.ak_hey.specs.declared.reading.Place.TheVariants as place
 use Rattle.ak_hey.specs.Draft.{DraftData, new_draft, with_specifier, with_got, short_message}
-use Rattle.ak_hey.specs.Grammar.{SpecText, IsSpec, AreFurther, AreSpecs, IsData, FieldText, IsField, AreFields, with_fields, with_data_field, made_of, IsHey}
+use Rattle.ak_hey.specs.Grammar.{SpecText, AreElements, IsSpec, AreFurther, AreSpecs, IsData, FieldText, IsField, AreFields, with_fields, with_data_field, made_of, IsHey}
 use Rattle.ak_hey.specs.Hey.{start, at_app, body, key_of, property, elements, with_data, with_field, step, ended}
 use Rattle.ak_hey.specs.Words.{is_property}
-use Rattle.ak_input.proofs.Surface.{split_again}
+use Rattle.ak_input.proofs.Surface.{app_word_again, split_again, values_are_written}
+use Rattle.ak_hey.proofs.grammar.Elements.{elements_are_written}
 use Rattle.ak_hey.proofs.grammar.Keys.{IsKey, of_key, to_key, with_key, key_is, property_no_key, elements_no_key}
 use Rattle.ak_hey.proofs.grammar.Walks.{Said, said, placed, goes_with}
 
@@ -29,7 +30,7 @@ unfolding with_field
 field_step d word f is =
     ap (λ (w : List ℕ). field_split w >>= λ field. read_value field.1 >>= λ g. with_got d field.0 g) is.all
     ∙ ap (λ (o : Option (List ℕ × List ℕ)). o >>= λ field. read_value field.1 >>= λ g. with_got d field.0 g) (split_again f.name is.text is.name_is)
-    ∙ ap (λ (o : Option Got). o >>= λ g. with_got d f.name g) is.value_is
+    ∙ ap (λ (o : Option Got). o >>= λ g. with_got d f.name g) ((values_are_written is.text f.value).0 is.value_is)
 
 fields_read : (app : AppWord) (p : Place) (d : DraftData) (key : List ℕ) (fields : List FieldText) (words : List (List ℕ)) → ended p d ≡ Some d → step p d key ≡ Some (place.With, d) → AreFields key fields words → said (body app p d) words ≡ message_said app (with_fields d fields)
 fields_read app p d key [] words ends leads are = ap (λ (ws : List (List ℕ)). said (body app p d) ws) are ∙ ap (message_said app) ends
@@ -55,7 +56,7 @@ data_read app p d None fields front words ends to with is are =
 data_read app p d (Some g) fields front words ends to with is are =
     ap (λ (ws : List (List ℕ)). said (body app p d) (ws ++ words)) is.1
     ∙ ap (goes_with app (is.0 ∷ words)) to
-    ∙ ap (λ (o : Option DraftData). goes_with app words (o >>= placed place.Data)) (data_step d is.0 g is.2)
+    ∙ ap (λ (o : Option DraftData). goes_with app words (o >>= placed place.Data)) (data_step d is.0 g ((values_are_written is.0 g).0 is.2))
     ∙ by_got (with_got d (codes "data") g) (λ e. fields_read app place.Data e (codes "with") fields words refl refl are) where
       by_got : (o : Option DraftData) → ((e : DraftData) → said (body app place.Data e) words ≡ message_said app (with_fields e fields))
           → goes_with app words (o >>= placed place.Data) ≡ message_said app (o >>= λ e. with_fields e fields)
@@ -101,7 +102,7 @@ spec_read app d s spec words is led =
     ap (λ (ws : List (List ℕ)). said (body app place.Of d) (ws ++ words)) is.all
     ∙ ap (λ (o : Option Place). goes_with app (is.part ++ words) (o >>= λ q. placed q d)) (property_step s.property is.property_is)
     ∙ by_part is.elements_are where
-      by_part : ((is.part ≡ []) × (s.at ≡ Within at.Direct)) ⊎ ((word : List ℕ) × (is.part ≡ word ∷ []) × (elements word ≡ Some s.at))
+      by_part : ((is.part ≡ []) × (s.at ≡ Within at.Direct)) ⊎ ((word : List ℕ) × (is.part ≡ word ∷ []) × AreElements word s.at)
           → said (body app (place.Property s.property) d) (is.part ++ words) ≡ said (body app place.Elements (with_specifier d s.property s.at)) words
       by_part (inl none) =
           ap (λ (ws : List (List ℕ)). said (body app (place.Property s.property) d) (ws ++ words)) none.0
@@ -109,7 +110,7 @@ spec_read app d s spec words is led =
           ∙ ap (λ (a : Limited At). said (body app place.Elements (with_specifier d s.property a)) words) (sym none.1)
       by_part (inr some) =
           ap (λ (ws : List (List ℕ)). said (body app (place.Property s.property) d) (ws ++ words)) some.1
-          ∙ elements_step app s.property d some.0 s.at words some.2
+          ∙ elements_step app s.property d some.0 s.at words ((elements_are_written some.0 s.at).0 some.2)
 
 further_read : (app : AppWord) (d : DraftData) (specs : List SpecText) (x : Option Got) (fields : List FieldText) (front data_part words : List (List ℕ)) → AreFurther specs front → IsData x data_part → AreFields (codes "with") fields words
     → said (body app place.Elements d) (front ++ (data_part ++ words)) ≡ message_said app (made_of d specs x fields)
@@ -147,7 +148,7 @@ specs_read app d (s ∷ specs) x fields front data_part words (inr are) is field
 pub hey_again : (words : List (List ℕ)) (app : AppWord) (message : Limited MessageData) → IsHey words app message → said start words ≡ Some (app, message)
 hey_again words app message is =
     ap (λ (ws : List (List ℕ)). said start ws) is.all
-    ∙ ap (λ (o : Option AppWord). (o >>= λ a. Some (at_app a)) >>= λ t. said t (is.verb ∷ (is.spec_part ++ (is.data_part ++ is.field_part)))) is.app_is
+    ∙ ap (λ (o : Option AppWord). (o >>= λ a. Some (at_app a)) >>= λ t. said t (is.verb ∷ (is.spec_part ++ (is.data_part ++ is.field_part)))) (app_word_again is.app_word app is.app_is)
     ∙ ap (λ (o : Option Code). (o >>= λ what. Some (body app place.Verb (new_draft what))) >>= λ t. said t (is.spec_part ++ (is.data_part ++ is.field_part))) is.verb_is
     ∙ specs_read app (new_draft is.what) is.specs is.data_value is.fields is.spec_part is.data_part is.field_part is.specs_are is.data_is is.fields_are
     ∙ ap (message_said app) is.draft_is

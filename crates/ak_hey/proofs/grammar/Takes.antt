@@ -15,10 +15,11 @@ use Rattle.ak_input.specs.Written.{app_word_of}
 use Rattle.ak_hey.specs.declared.reading.Place.{Place}
 use Rattle.ak_hey.specs.declared.reading.Place.TheVariants as place
 use Rattle.ak_hey.specs.Draft.{DraftData, new_draft, with_specifier, with_got, short_message}
-use Rattle.ak_hey.specs.Grammar.{SpecText, AreFurther, AreSpecs, IsData, FieldText, IsField, AreFields, with_fields, made_of, IsHey}
+use Rattle.ak_hey.specs.Grammar.{SpecText, AreElements, AreFurther, AreSpecs, IsData, FieldText, IsField, AreFields, with_fields, made_of, IsHey}
 use Rattle.ak_hey.specs.Hey.{State, start, hey, at_app, body, key_of, property, place_or, behind_verb, leading, elements, key_or, elements_or_key, with_data, with_field, step, ended}
 use Rattle.ak_hey.specs.Words.{verb_of, is_property}
-use Rattle.ak_input.proofs.Surface.{split_takes}
+use Rattle.ak_input.proofs.Surface.{app_word_takes, split_takes, values_are_written}
+use Rattle.ak_hey.proofs.grammar.Elements.{elements_are_written}
 use Rattle.ak_hey.proofs.grammar.Keys.{IsKey, of_key, to_key, with_key, key_is, eq_of}
 use Rattle.ak_hey.proofs.grammar.Walks.{Said, said}
 
@@ -41,7 +42,7 @@ pub record Pending (name : List ℕ) (specs : List SpecText) (x : Option Got) (f
   pub further : List SpecText
   pub specs_is : specs ≡ (record { property = name; at = elements_at }) ∷ further
   pub all : words ≡ part ++ rest
-  pub elements_are : ((part ≡ []) × (elements_at ≡ Within at.Direct)) ⊎ ((word : List ℕ) × (part ≡ word ∷ []) × (elements word ≡ Some elements_at))
+  pub elements_are : ((part ≡ []) × (elements_at ≡ Within at.Direct)) ⊎ ((word : List ℕ) × (part ≡ word ∷ []) × AreElements word elements_at)
   pub rest_is : Parts further x fields rest
 
 -- behind the verb
@@ -232,7 +233,7 @@ of_word app d w words r p is e later =
 
 -- the elements of a property
 pending_tail : (app : AppWord) (name : List ℕ) (d : DraftData) (a : Limited At) (part rest words : List (List ℕ)) (r : Said) → words ≡ part ++ rest
-    → ((part ≡ []) × (a ≡ Within at.Direct)) ⊎ ((word : List ℕ) × (part ≡ word ∷ []) × (elements word ≡ Some a)) → Tail place.Elements (with_specifier d name a) app rest r → Tail (place.Property name) d app words r
+    → ((part ≡ []) × (a ≡ Within at.Direct)) ⊎ ((word : List ℕ) × (part ≡ word ∷ []) × AreElements word a) → Tail place.Elements (with_specifier d name a) app rest r → Tail (place.Property name) d app words r
 pending_tail app name d a part rest words r all are t =
     record {
       specs = (record { property = name; at = a }) ∷ t.specs;
@@ -256,7 +257,7 @@ property_word app name d w words r s is e later = by_first (key_of w) refl is wh
       let b = bind_some (elements w) (λ a. Some (place.Elements, a)) s is in
       let same = some_is (place.Elements, b.0) s b.2 in
       let e = ap (λ (t : Place × Limited At). said (body app t.0 (with_specifier d name t.1)) words) same ∙ e in
-      pending_tail app name d b.0 (w ∷ []) words (w ∷ words) r refl (inr (w, refl, b.1)) (later place.Elements (with_specifier d name b.0) tt e)
+      pending_tail app name d b.0 (w ∷ []) words (w ∷ words) r refl (inr (w, refl, (elements_are_written w b.0).1 b.1)) (later place.Elements (with_specifier d name b.0) tt e)
 
 -- ---- data and fields
 -- where only fields are left
@@ -274,7 +275,7 @@ to_word app d e w words r is t =
       specs = [];
       data_value = Some b.0;
       fields = t.fields;
-      says = record { spec_part = []; data_part = codes "to" ∷ w ∷ []; field_part = words; all = refl; specs_are = refl; data_is = (w, refl, b.1); fields_are = t.says.2 };
+      says = record { spec_part = []; data_part = codes "to" ∷ w ∷ []; field_part = words; all = refl; specs_are = refl; data_is = (w, refl, (values_are_written w b.0).1 b.1); fields_are = t.says.2 };
       draft = t.draft;
       draft_is = made;
       said_is = t.said_is;
@@ -321,7 +322,7 @@ field_of d e w is =
     let s = bind_some (field_split w) (λ field. read_value field.1 >>= λ g. with_got d field.0 g) e is in
     let g = bind_some (read_value s.0.1) (λ g. with_got d s.0.0 g) e s.2 in
     let parts = split_takes w s.0 s.1 in
-    (record { name = s.0.0; value = g.0 }, record { text = s.0.1; all = parts.0; name_is = parts.1; value_is = g.1 }, g.2)
+    (record { name = s.0.0; value = g.0 }, record { text = s.0.1; all = parts.0; name_is = parts.1; value_is = (values_are_written s.0.1 g.0).1 g.1 }, g.2)
 
 with_word : (app : AppWord) (d e : DraftData) (w : List ℕ) (words : List (List ℕ)) (r : Said) → with_field d w ≡ Some e → Tail place.Field e app words r → Tail place.With d app (w ∷ words) r
 with_word app d e w words r is t =
@@ -393,7 +394,7 @@ hey_of_tail app_word verb words a what r app_is verb_is t =
       data_part = t.says.data_part;
       field_part = t.says.field_part;
       all = ap (λ (ws : List (List ℕ)). codes "hey" ∷ app_word ∷ verb ∷ ws) t.says.all;
-      app_is = app_is;
+      app_is = app_word_takes app_word a app_is;
       what = what;
       verb_is = verb_is;
       specs = t.specs;

@@ -1,7 +1,9 @@
 -- What is read is what the line says, and what is told is why it says nothing.
 use Rattle.std.proofs.Common.{ℕ, List, Result, Ok, Err}
-use Rattle.std.specs.Prelude.{IfOk, IfErr}
+use Rattle.std.specs.Prelude.{IfOk, IfErr, IsTrue}
 use Rattle.ak_input.specs.declared.line.Word.{Word}
+use Rattle.ak_input.specs.Written.{is_looked_up}
+use Rattle.ak_input.proofs.Surface.{looked_up_is}
 use Rattle.ak_hey.specs.declared.HeyLine.{HeyLine}
 use Rattle.ak_hey.specs.declared.fault.HeyFault.{HeyFault}
 use Rattle.ak_hey.specs.Answers.{Answers}
@@ -22,6 +24,10 @@ fit end words (Ok line) e =
     (hey_fits (texts words) line.app line.message is, hey_unpopped (texts words) line.app line.message is)
 fit end words (Err f) e = tt
 
+named : (end : ℕ) (words : List Word) (result : Result HeyLine HeyFault) → Answers line_of result (hey_of end words) → IfOk result (λ line. IsTrue (is_looked_up line.app))
+named end words (Ok line) e = let is = line_said end words line e in looked_up_is is.app_word line.app is.app_is
+named end words (Err f) e = tt
+
 refused : (end : ℕ) (words : List Word) (result : Result HeyLine HeyFault) → Answers line_of result (hey_of end words) → IfErr result (IsRefusal end words)
 refused end words (Ok line) e = tt
 refused end words (Err f) e = is_refusal end words f e
@@ -32,5 +38,6 @@ returns c =
       answer = c.read.ensures;
       said = said c.args.end c.args.words.now c.read.result c.read.ensures;
       fits = fit c.args.end c.args.words.now c.read.result c.read.ensures;
+      named = named c.args.end c.args.words.now c.read.result c.read.ensures;
       refused = refused c.args.end c.args.words.now c.read.result c.read.ensures;
     }

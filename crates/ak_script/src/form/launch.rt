@@ -1,11 +1,10 @@
 //! `launch`
 
-ghost use Rattle.std.specs.Prelude.{◌≡◌, ◌≤◌, [], length, IfOk, IfSome};
+ghost use Rattle.std.specs.Prelude.{◌≡◌, ◌≤◌, [], length, IfOk, IsTrue};
 ghost use Rattle.ak_base.specs.Limited.{limited_map};
 ghost use Rattle.ak_base.specs.declared.limited.Limited.TheVariants.{Within};
 ghost use Rattle.ak_message.specs.Limits.{value_limit};
-ghost use Rattle.ak_input.specs.Written.{quoted_text};
-ghost use Rattle.ak_roster.specs.Answers.{IsWord};
+ghost use Rattle.ak_input.specs.Written.{is_launched, quoted_text};
 ghost use Rattle.ak_describe.specs.Words.{texts};
 ghost use Rattle.ak_script.specs.Answers.{Gives, Tells};
 ghost use Rattle.ak_script.specs.Faults as faults;
@@ -17,9 +16,9 @@ use crate::fault::{FormFault, StatementFault};
 use crate::messages::{arguments_message, is_short};
 use crate::statement::Launch;
 use crate::words::first_of;
-use ak_base::{AppWord, Limited, NoMemory, Text, is_path, is_signature};
+use ak_base::{AppWord, Limited, NoMemory, Text};
 use ak_describe::{behind, ends};
-use ak_input::{ParseFault, Word, read_quoted};
+use ak_input::{ParseFault, Word, read_launch_word, read_quoted};
 use ak_message::VALUE_LIMIT;
 use std::alloc::Global;
 
@@ -30,29 +29,15 @@ pub(crate) fn launch_of(alloc: Global, words: &[Word]) -> Result<Launch, Stateme
     let Some((word, words)) = first_of(words) else {
         return Err(StatementFault::BadValue);
     };
-    let Some(word) = launch_word(alloc, word)? else {
+    let Some(word) = read_launch_word(alloc, word)? else {
         return Err(StatementFault::BadValue);
     };
     launched(alloc, word, words)
 }
 
-// A path or a signature.
-fn launch_word(alloc: Global, word: &[u8]) -> Result<Option<AppWord>, NoMemory>
-    ensures word { IfOk result (λ w. w ≡ reads.launch_word word.now) }
-    ensures launched { IfOk result (λ w. IfSome w IsWord) }
-{
-    if is_path(word) {
-        return Ok(Some(AppWord::Path(Text::from_word(alloc, word)?)));
-    }
-    if is_signature(word) {
-        return Ok(Some(AppWord::Signature(Text::from_word(alloc, word)?)));
-    }
-    Ok(None)
-}
-
 // With the words behind the one that names the application.
 fn launched(alloc: Global, word: AppWord, words: &[Word]) -> Result<Launch, StatementFault>
-    requires { IsWord word }
+    requires { IsTrue (is_launched word) }
     ensures { Tells launch_seen result (reads.launched word (texts words.now)) }
 {
     if ends(words) {
@@ -69,7 +54,7 @@ fn launched(alloc: Global, word: AppWord, words: &[Word]) -> Result<Launch, Stat
 
 // With these arguments, where the message that tells of them has at most 4,096 bytes of flat text.
 fn launch_kept(alloc: Global, word: AppWord, texts: Vec<Text>) -> Result<Launch, StatementFault>
-    requires word { IsWord word }
+    requires form { IsTrue (is_launched word) }
     requires few { length texts.items ≤ value_limit }
     ensures { Tells launch_seen result (reads.launch_kept word texts.items) }
 {

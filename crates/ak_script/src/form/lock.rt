@@ -1,6 +1,7 @@
 //! `lock`
 
-ghost use Rattle.std.specs.Prelude.{◌≡◌};
+ghost use Rattle.std.specs.Prelude.{◌≡◌, IfOk, IfSome, IsTrue};
+ghost use Rattle.ak_desk.specs.Plain.{is_plain_edit};
 ghost use Rattle.ak_describe.specs.Words.{texts};
 ghost use Rattle.ak_script.specs.Answers.{Gives, Tells};
 ghost use Rattle.ak_script.specs.Forms as reads;
@@ -33,7 +34,8 @@ pub(crate) fn lock_of(alloc: Global, words: &[Word]) -> Result<Lock, StatementFa
 
 // `add W`, `remove N`, `next N N|none` or `prefer N|none`
 fn edit_of(alloc: Global, words: &[Word]) -> Result<Edit, FormFault>
-    ensures { Gives (λ e. e) result (reads.edit_of (texts words.now)) }
+    ensures read { Gives (λ e. e) result (reads.edit_of (texts words.now)) }
+    ensures plain { IfOk result (λ e. IsTrue (is_plain_edit e)) }
 {
     let Some((word, words)) = first_of(words) else {
         return Err(FormFault::BadValue);
@@ -49,7 +51,8 @@ fn edit_of(alloc: Global, words: &[Word]) -> Result<Edit, FormFault>
 
 // The name of a new handler.
 fn add_from(alloc: Global, words: &[Word]) -> Result<Edit, FormFault>
-    ensures { Gives (λ e. e) result (reads.add_form (texts words.now)) }
+    ensures read { Gives (λ e. e) result (reads.add_form (texts words.now)) }
+    ensures plain { IfOk result (λ e. IsTrue (is_plain_edit e)) }
 {
     let Some(name) = only(words) else {
         return Err(FormFault::BadValue);
@@ -62,7 +65,8 @@ fn add_from(alloc: Global, words: &[Word]) -> Result<Edit, FormFault>
 
 // An edit of handlers that are there, which tokens tell.
 fn token_edit(word: &[u8], words: &[Word]) -> Option<Edit>
-    ensures { result ≡ reads.token_edit word.now (texts words.now) }
+    ensures read { result ≡ reads.token_edit word.now (texts words.now) }
+    ensures plain { IfSome result (λ e. IsTrue (is_plain_edit e)) }
 {
     if word == b"remove".as_slice() {
         remove_form(words)
@@ -76,7 +80,8 @@ fn token_edit(word: &[u8], words: &[Word]) -> Option<Edit>
 }
 
 fn remove_form(words: &[Word]) -> Option<Edit>
-    ensures { result ≡ reads.remove_form (texts words.now) }
+    ensures read { result ≡ reads.remove_form (texts words.now) }
+    ensures plain { IfSome result (λ e. IsTrue (is_plain_edit e)) }
 {
     let token = token_of(only(words)?)?;
     Some(Edit::Remove(token))
@@ -84,7 +89,8 @@ fn remove_form(words: &[Word]) -> Option<Edit>
 
 #[tactic(auto, unfolding(crate::specs::Forms::next_form))]
 fn next_form(words: &[Word]) -> Option<Edit>
-    ensures { result ≡ reads.next_form (texts words.now) }
+    ensures read { result ≡ reads.next_form (texts words.now) }
+    ensures plain { IfSome result (λ e. IsTrue (is_plain_edit e)) }
 {
     let (first, words) = first_of(words)?;
     let token = token_of(first)?;
@@ -93,7 +99,8 @@ fn next_form(words: &[Word]) -> Option<Edit>
 }
 
 fn prefer_form(words: &[Word]) -> Option<Edit>
-    ensures { result ≡ reads.prefer_form (texts words.now) }
+    ensures read { result ≡ reads.prefer_form (texts words.now) }
+    ensures plain { IfSome result (λ e. IsTrue (is_plain_edit e)) }
 {
     let token = token_or_none(only(words)?)?;
     Some(Edit::Prefer(token))

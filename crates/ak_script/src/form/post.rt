@@ -1,6 +1,7 @@
 //! `post`
 
-ghost use Rattle.std.specs.Prelude.{◌≡◌, option_map};
+ghost use Rattle.std.specs.Prelude.{◌≡◌, option_map, IsTrue};
+ghost use Rattle.ak_input.specs.Written.{is_looked_up};
 ghost use Rattle.ak_describe.specs.Words.{texts};
 ghost use Rattle.ak_script.specs.Answers.{Tells};
 ghost use Rattle.ak_script.specs.Faults as faults;
@@ -85,6 +86,7 @@ fn target_of(token: Option<u64>) -> Target
 
 // The statement, where its message has at most 4,096 bytes of flat text.
 fn post_kept(app: AppWord, posting: Posting, message: Message) -> Result<Post, StatementFault>
+    requires { IsTrue (is_looked_up app) }
     ensures { Tells post_seen result (reads.post_kept app (way_seen posting) message) }
 {
     if !is_short(&message) {

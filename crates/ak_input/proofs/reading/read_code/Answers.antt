@@ -16,3 +16,9 @@ returns-in-None-clause-number c = sym (no_code c.args.word.now (λ i. omega (ari
 
 pub returns-in-None-clause-code : goal.returns-in-None-clause-code
 returns-in-None-clause-code c = sym (ap (λ (o : Option ℕ). option_map coded o) (no_code c.args.word.now (λ i. omega (arith, c.type_inv.word i)) c.in-None.ensures.none))
+
+pub returns-in-Some-clause-written : goal.returns-in-Some-clause-written
+returns-in-Some-clause-written c = c.in-Some.ensures.found
+
+pub returns-in-None-clause-written : goal.returns-in-None-clause-written
+returns-in-None-clause-written c = λ code is. c.in-None.ensures.none code.0 is
