@@ -16,9 +16,9 @@ use Rattle.ak_action.specs.declared.doing.Sending.TheVariants as sending
 use Rattle.ak_action.specs.declared.interp.Stage.{Stage}
 use Rattle.ak_action.specs.declared.interp.Stage.TheVariants as stage
 use Rattle.ak_action.specs.declared.state.DeskState.{DeskState}
-use Rattle.ak_action.specs.Acts.{acts, is_at, put, want_of}
-use Rattle.ak_action.specs.Doing.{Doing, says, replies, puts, sends, finds, stops, quits, doing_of, preferred_of}
-use Rattle.ak_action.specs.Interp.{InterpData, Nexted, nexted, failed, Given, Answers, AnswersFind, AnswersSend, AnswersStage, MayGoOn, MayGoOnFrom, actions_of, carried, give_at, give_of, go_on, hear_of_send, hear_of_team, next_at, next_of, out_of_memory, past, started, then_go_on, with_stage}
+use Rattle.ak_action.specs.Acts.{acts, is_at, put}
+use Rattle.ak_action.specs.Doing.{Doing, says, replies, puts, sends, finds, stops, quits, doing_of}
+use Rattle.ak_action.specs.Interp.{InterpData, Nexted, nexted, failed, Given, Answers, AnswersFind, AnswersSend, AnswersStage, MayGoOn, MayGoOnFrom, actions_of, carried, give_at, give_of, go_on, hear_of_send, hear_of_team, next_at, next_of, out_of_memory, past, started, then_go_on}
 use Rattle.ak_action.specs.Laws.{Calls, CallsAct, Ran, RunsAct, answered_so, by_want, finished, found_none, got_one, run, unanswered, wanting}
 use Rattle.ak_action.specs.Laws as law
 use Rattle.ak_action.specs.Steps.{IsFinding}
@@ -33,7 +33,7 @@ use Rattle.ak_desk.specs.Answering.{AnswersAsk, AnswersPost}
 use Rattle.ak_desk.specs.Dispatch.{Dispatch, by_reaction, by_route, came_to, dispatch_of, ran_out, taken}
 use Rattle.ak_desk.specs.Place.{routed_of}
 use Rattle.ak_desk.specs.Replies.{none_reply, not_understood}
-use Rattle.ak_desk.specs.Task.{Awaits, Comes, Wanted, wants, wants_none, IsDone, MayWant, TakesAnswer, came_of, place_in, taken_as, task_by, task_of}
+use Rattle.ak_desk.specs.Task.{Awaits, Comes, wants, wants_none, IsDone, MayWant, came_of, place_in, taken_as, task_by, task_of}
 use Rattle.ak_desk.specs.Task as the
 use Rattle.ak_desk.proofs.AtOnce.{FailsSo, Outcomes, built_in_comes, ends_so, fails_so, forward_comes, property_comes, ready_comes}
 use Rattle.ak_desk.proofs.Reacting.{IsClear, TaskKeeps, clear_without, failed_is, keeps_on, next_is, ran_out-push}

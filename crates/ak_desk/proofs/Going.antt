@@ -1,5 +1,5 @@
 -- How a message that is begun goes on, with what it asks for and what it hears.
-use Rattle.std.proofs.Common.{◌≡◌, ℕ, ◌≤◌, Bool, true, false, List, [], ◌∷◌, ◌++◌, Option, None, Some, Result, Ok, Err, IfOk, OnErr, IsSome, option_map, refl, sym, ap, subst, ◌∙◌}
+use Rattle.std.proofs.Common.{◌≡◌, ℕ, ◌≤◌, Bool, true, false, List, [], ◌∷◌, ◌++◌, Option, None, Some, Result, Ok, Err, IfOk, OnErr, option_map, refl, sym, ap, subst, ◌∙◌}
 use Rattle.ak_base.specs.declared.no_memory.NoMemory.{NoMemory}
 use Rattle.ak_flatten.specs.declared.item.Taken.{Taken}
 use Rattle.ak_flatten.specs.Item.{IsItem, message_of}
@@ -26,16 +26,16 @@ use Rattle.ak_desk.specs.declared.desk.Begun.{Begun}
 use Rattle.ak_desk.specs.declared.entry.EntryRoute.TheVariants as went
 use Rattle.ak_desk.specs.declared.task.Task.{Task}
 use Rattle.ak_desk.specs.declared.task.Task.TheVariants as task
-use Rattle.ak_desk.specs.Answering.{AnswersWant, AreAnswered}
+use Rattle.ak_desk.specs.Answering.{AreAnswered}
 use Rattle.ak_desk.specs.BuiltIns.{built_in_quits, built_in_reply}
-use Rattle.ak_desk.specs.Desk.{Asks, AsksInto, BegunData, DeskAwaits, DeskData, DeskIsDone, DeskMayWant, DeskTakes, Ends, Fails, FailsFrom, Forwards, GoesOn, Hears, IsTakenIn, OfBegun, RunsOut, StaysDone, Turns, Wants, actions_told, begun_at}
+use Rattle.ak_desk.specs.Desk.{Asks, AsksInto, BegunData, DeskAwaits, DeskData, DeskIsDone, DeskMayWant, DeskTakes, Fails, FailsFrom, Forwards, GoesOn, Hears, IsTakenIn, StaysDone, Turns, Wants, actions_told, begun_at}
 use Rattle.ak_desk.specs.DeskInside.{ComesFar, IsBegun, IsOver, Stands, asked_more, begun_seen, came_seen, is_last, noted}
 use Rattle.ak_desk.specs.Dispatch.{Came, dispatch_of, entry_route}
 use Rattle.ak_desk.specs.Entry.{EntryData}
 use Rattle.ak_desk.specs.Machine.{IsHistory, dispatches}
 use Rattle.ak_desk.specs.Place.{is_local, loopers_of, routed_of}
 use Rattle.ak_desk.specs.Properties.{property_replied}
-use Rattle.ak_desk.specs.Task.{Comes, Heard, IsDone, MayWant, TakesAnswer, Wanted, wants, wants_none, came_of, heard_of, place_in, task_by, task_of, want_of}
+use Rattle.ak_desk.specs.Task.{Comes, Heard, MayWant, TakesAnswer, wants, wants_none, came_of, heard_of, place_in, task_by, task_of, want_of}
 use Rattle.ak_desk.specs.Task as the
 use Rattle.ak_action.proofs.Surface.{NextStands, next_stands}
 use Rattle.ak_desk.proofs.Coming.{dispatch_comes}

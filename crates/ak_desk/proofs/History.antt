@@ -2,7 +2,6 @@
 use Rattle.std.proofs.Common.{◌≡◌, ℕ, ◌+◌, ◌<◌, Bool, true, false, ◌||◌, List, [], ◌∷◌, ◌++◌, All, Option, Some, refl, sym, ap, subst}
 use Rattle.std.proofs.lemmas.List.Elements.{All-nil, All-push}
 use Rattle.ak_flatten.specs.Item.{ItemData}
-use Rattle.ak_message.specs.Message.{MessageData}
 use Rattle.ak_action.specs.declared.answer.Answer.{Answer}
 use Rattle.ak_action.specs.declared.answer.Want.{Want}
 use Rattle.ak_action.specs.declared.state.DeskState.{DeskState}
@@ -26,7 +25,7 @@ use Rattle.ak_desk.specs.Desk.{BegunData, stamp_in, stamp_number}
 use Rattle.ak_desk.specs.DeskInside.{IsBegun, IsOver}
 use Rattle.ak_desk.specs.Dispatch.{Came, Dispatch, dispatch_of, entry_route}
 use Rattle.ak_desk.specs.Entry.{EntryData}
-use Rattle.ak_desk.specs.Machine.{DeskStep, DispatchStep, Dispatches, EventStep, IsBy, IsHistory, Replays, Replies, counted, counted_all, dispatches, gave_up, gives_up}
+use Rattle.ak_desk.specs.Machine.{DeskStep, DispatchStep, Dispatches, EventStep, IsBy, IsHistory, Replays, Replies, counted, counted_all, dispatches, gave_up, gives_up, paired}
 use Rattle.ak_desk.specs.Place.{routed_of}
 use Rattle.ak_desk.specs.Task.{Comes, TakesAnswer}
 use Rattle.ak_desk.specs.Task as the
@@ -48,6 +47,15 @@ history_push opening entries u entry t h step lt =
       replays = replays_push opening.looper 0 opening entries u entry t h.replays step;
       stamps = rise_push stamp_number entries entry h.stamps lt;
     }
+
+-- ---- what an entry is paired with
+-- a message that is routed is the entry's
+pub paired_routed : (s : DeskState) (r : Route) (item : ItemData) → paired (entry_route s r) item ≡ Some item
+paired_routed s (route.Deliver token t) item = refl
+paired_routed s route.Skipped item = refl
+paired_routed s route.Dropped item = refl
+paired_routed s route.NotUnderstood item = refl
+paired_routed s (route.Forward looper) item = refl
 
 -- ---- giving up
 either : (b : Bool) (x : Bool) → b || x ≡ false → (b ≡ false) × (x ≡ false)

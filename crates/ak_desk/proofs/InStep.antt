@@ -10,7 +10,7 @@ use Rattle.ak_action.specs.declared.doing.Sending.TheVariants as sending
 use Rattle.ak_action.specs.declared.interp.Stage.{Stage}
 use Rattle.ak_action.specs.declared.interp.Stage.TheVariants as stage
 use Rattle.ak_action.specs.declared.state.DeskState.{DeskState}
-use Rattle.ak_action.specs.Interp.{InterpData, Nexted, nexted, failed, AnswersFind, AnswersSend, AnswersStage, MayGoOnFrom, next_at, next_of, with_stage}
+use Rattle.ak_action.specs.Interp.{InterpData, nexted, failed, AnswersFind, AnswersSend, AnswersStage, MayGoOnFrom, next_at, next_of, with_stage}
 use Rattle.ak_action.specs.Laws as law
 use Rattle.ak_route.specs.declared.outcome.Route.{Route}
 use Rattle.ak_route.specs.declared.outcome.Route.TheVariants as route
@@ -20,7 +20,7 @@ use Rattle.ak_desk.specs.declared.task.Task.TheVariants as task
 use Rattle.ak_desk.specs.Answering.{AnswersAsk, AnswersPost, AnswersWant, AreAnswered}
 use Rattle.ak_desk.specs.BuiltIns.{built_in_quits, built_in_reply}
 use Rattle.ak_desk.specs.Properties.{property_replied}
-use Rattle.ak_desk.specs.Task.{Awaits, Comes, IsDone, MayWant, TakesAnswer, Wanted, wants, wants_none, heard_of, place_in, task_by, want_of}
+use Rattle.ak_desk.specs.Task.{Awaits, Comes, IsDone, MayWant, TakesAnswer, wants, wants_none, heard_of, task_by, want_of}
 use Rattle.ak_desk.specs.Task as the
 use Rattle.ak_action.proofs.Surface.{IsAsked, IsAsking, IsPosted, IsPosting, IsWaiting, NextStands, StandsBehind, next_stands, sent_so}
 use Rattle.ak_action.specs.Steps.{IsFinding}

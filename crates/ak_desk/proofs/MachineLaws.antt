@@ -198,8 +198,8 @@ module _ (replay : WordsReplay) where
     has_reply quit t d = record { quit = quit; leaves = t; dispatch = d; is = refl }
 
   one_step : (s : DeskState) (r : EntryRoute) (item : Option ItemData) (words : List AnswerWord) (quit quit' : Bool) (t u : DeskState) → DispatchStep s r item words quit t → DispatchStep s r item words quit' u → (quit ≡ quit') × (t ≡ u)
-  one_step s went.NoMemory None words quit quit' t u d e = absurd d
-  one_step s went.NoMemory (Some item) words quit quit' t u d e = (d.1.0 ∙ sym e.1.0, d.1.1 ∙ sym e.1.1)
+  one_step s went.NoMemory None words quit quit' t u d e = (d.1.0 ∙ sym e.1.0, d.1.1 ∙ sym e.1.1)
+  one_step s went.NoMemory (Some item) words quit quit' t u d e = absurd d
   one_step s (went.To token) None words quit quit' t u d e = absurd d
   one_step s went.Skipped None words quit quit' t u d e = absurd d
   one_step s went.Dropped None words quit quit' t u d e = absurd d
@@ -222,8 +222,8 @@ module _ (replay : WordsReplay) where
         }
 
   one_reply : (s : DeskState) (r : EntryRoute) (item : Option ItemData) (words : List AnswerWord) (quit : Bool) (t : DeskState) → DispatchStep s r item words quit t → HasOneReply s r item words
-  one_reply s went.NoMemory None words quit t d = absurd d
-  one_reply s went.NoMemory (Some item) words quit t d = record { reply = Some none_reply; replies = refl; alone = λ other h. h }
+  one_reply s went.NoMemory None words quit t d = record { reply = Some none_reply; replies = refl; alone = λ other h. h }
+  one_reply s went.NoMemory (Some item) words quit t d = absurd d
   one_reply s (went.To token) None words quit t d = absurd d
   one_reply s went.Skipped None words quit t d = absurd d
   one_reply s went.Dropped None words quit t d = absurd d

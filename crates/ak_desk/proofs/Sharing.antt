@@ -88,8 +88,8 @@ a_turn_dispatches clock clock' position item asked heard made opening before aft
     )
 
 pub a_turn_gives_up : ATurnGivesUp
-a_turn_gives_up clock clock' position item made opening state entries entries' seat given seat' h idle thread begins seen list entered =
-    let there = enters_there (given_up_entry entries clock position item) clock opening entries entries' seat given seat' h.grown refl idle thread begins seen list entered in (
+a_turn_gives_up clock clock' position made opening state entries entries' seat given seat' h idle thread begins seen list entered =
+    let there = enters_there (given_up_entry entries clock position) clock opening entries entries' seat given seat' h.grown refl idle thread begins seen list entered in (
       record {
         opening = opening;
         opening_is = there.opens;

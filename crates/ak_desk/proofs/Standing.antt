@@ -1,7 +1,6 @@
 -- How a desk stands as its messages end, and as its handlers are edited.
 use Rattle.std.proofs.Common.{◌≡◌, ℕ, ◌+◌, ◌<◌, ◌≤◌, max, Bool, true, false, List, [], ◌∷◌, ◌++◌, Option, None, Some, IfSome, IsSome, option_map, length, refl, ap, subst, sym, ◌∙◌, arith}
 use Rattle.ak_action.specs.declared.state.DeskState.{DeskState}
-use Rattle.ak_flatten.specs.Item.{ItemData}
 use Rattle.ak_desk.specs.declared.desk.Begun.{Begun}
 use Rattle.ak_desk.specs.Desk.{BegunData, DeskData, DeskIsDone, Edits, EndsDispatch, HasGivenUp, clock_after, ended, ended_event, given_up_entry, made_by, made_in, made_of, made_without_memory, entry_after, quit_in, stamp_after, stamp_in, with_entry, words_in, HasAdded, edit_entry, edited_to}
 use Rattle.ak_desk.specs.DeskInside.{ComesFar, IsBegun, IsOver, Stands, begun_seen, came_seen}
@@ -33,20 +32,20 @@ module _ (opening : DeskState) (entries : List EntryData) (clock : Clock) where
       subst (λ (l : List EntryData). IsHistory opening l s) (sym grown)
       (ends_on opening entries b t s c h over (entry_after entries clock e (Some b.item)) is refl by (later clock.time (stamp_in entries)))
 
-  module _ (position : ℕ) (item : ItemData) (new : List EntryData) (grown : new ≡ entries ++ given_up_entry entries clock position item ∷ []) where
+  module _ (position : ℕ) (new : List EntryData) (grown : new ≡ entries ++ given_up_entry entries clock position ∷ []) where
     pub given_up_stands : (s : DeskState) → IsHistory opening entries s → clock.thread.0 ≡ 10000 + opening.looper → position ≡ dispatches entries → IsHistory opening new s
     given_up_stands s h by at =
         subst (λ (l : List EntryData). IsHistory opening l s) (sym grown)
-        (history_push opening entries s (given_up_entry entries clock position item) s h (record { by = by; event = (at, (refl, (refl, refl))) }) (later clock.time (stamp_in entries)))
+        (history_push opening entries s (given_up_entry entries clock position) s h (record { by = by; event = (at, (refl, (refl, refl))) }) (later clock.time (stamp_in entries)))
 
     pub gave_up_now : gave_up new ≡ true
-    gave_up_now = ap gave_up grown ∙ gave_up_then entries (given_up_entry entries clock position item) refl
+    gave_up_now = ap gave_up grown ∙ gave_up_then entries (given_up_entry entries clock position) refl
 
     -- of the desk as it is seen
-    pub gives_up_so : (o : Option Begun) (s : DeskState) (d : DeskData) → o ≡ None → record { opening = opening; state = s; entries = entries; begun = option_map begun_seen o } ≡ d → Stands opening entries o s → (clock' : Clock) (m : Made) → gave_up d.entries ≡ false → position ≡ dispatches d.entries → clock.thread.0 ≡ 10000 + d.opening.looper → clock' ≡ record clock { time = stamp_after entries clock } → m ≡ made_without_memory → HasGivenUp clock clock' position item d.opening d.state d.entries new m
+    pub gives_up_so : (o : Option Begun) (s : DeskState) (d : DeskData) → o ≡ None → record { opening = opening; state = s; entries = entries; begun = option_map begun_seen o } ≡ d → Stands opening entries o s → (clock' : Clock) (m : Made) → gave_up d.entries ≡ false → position ≡ dispatches d.entries → clock.thread.0 ≡ 10000 + d.opening.looper → clock' ≡ record clock { time = stamp_after entries clock } → m ≡ made_without_memory → HasGivenUp clock clock' position d.opening d.state d.entries new m
     gives_up_so o s d none seen h clock' m once at by clocked is =
         let rests : IsHistory opening entries s = subst (λ (p : Option Begun). Stands opening entries p s) none h in
-        subst (λ (z : DeskData). gave_up z.entries ≡ false → position ≡ dispatches z.entries → clock.thread.0 ≡ 10000 + z.opening.looper → HasGivenUp clock clock' position item z.opening z.state z.entries new m) seen
+        subst (λ (z : DeskData). gave_up z.entries ≡ false → position ≡ dispatches z.entries → clock.thread.0 ≡ 10000 + z.opening.looper → HasGivenUp clock clock' position z.opening z.state z.entries new m) seen
         (λ once at by. record { history = rests; once = once; position_is = at; grown = grown; goes_on = given_up_stands s rests by at; clocked = clocked; made_is = is })
         once at by
 

@@ -306,28 +306,29 @@ abbrev pub given_up_event : ℕ → DeskEvent
 given_up_event position = event.Dispatched position went.NoMemory [] false
 
 abbrev pub given_up : DeskData → Clock → Taken → DeskData
-given_up d clock taken = with_entry d clock (given_up_event taken.position) (Some taken.item)
+given_up d clock taken = with_entry d clock (given_up_event taken.position) None
 
 -- the reply is NONE
 abbrev pub made_without_memory : Made
 made_without_memory = record { reply = Some none_reply; forwarded = false; quit = false; no_memory = true }
 
-abbrev pub given_up_entry : List EntryData → Clock → ℕ → ItemData → EntryData
-given_up_entry entries clock position item = entry_after entries clock (given_up_event position) (Some item)
+-- it is paired with no message
+abbrev pub given_up_entry : List EntryData → Clock → ℕ → EntryData
+given_up_entry entries clock position = entry_after entries clock (given_up_event position) None
 
 -- The message at that position was given up, as none was before: the list leads from the opening to the state, and goes on by the one
 -- entry, without words, to the same state
-pub record HasGivenUp (clock clock' : Clock) (position : ℕ) (item : ItemData) (opening state : DeskState) (entries entries' : List EntryData) (made : Made) : Type 0 where
+pub record HasGivenUp (clock clock' : Clock) (position : ℕ) (opening state : DeskState) (entries entries' : List EntryData) (made : Made) : Type 0 where
   pub history : IsHistory opening entries state
   pub once : gave_up entries ≡ false
   pub position_is : position ≡ dispatches entries
-  pub grown : entries' ≡ entries ++ given_up_entry entries clock position item ∷ []
+  pub grown : entries' ≡ entries ++ given_up_entry entries clock position ∷ []
   pub goes_on : IsHistory opening entries' state
   pub clocked : clock' ≡ at_lock.clock_after stamp_number clock entries
   pub made_is : made ≡ made_without_memory
 
 abbrev pub GivesUp : Clock → Clock → DeskData → DeskData → Taken → Made → Type 0
-GivesUp clock clock' d d' taken made = HasGivenUp clock clock' taken.position taken.item d.opening d.state d.entries d'.entries made
+GivesUp clock clock' d d' taken made = HasGivenUp clock clock' taken.position d.opening d.state d.entries d'.entries made
 
 -- ---- edits
 abbrev pub edited_to : DeskData → Clock → Edit → Edited → DeskData

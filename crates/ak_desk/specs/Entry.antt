@@ -9,7 +9,7 @@ use Rattle.ak_desk.specs.declared.entry.EntryWithItem.TheInside.{Inside}
 pub record EntryData : Type 0 where
   -- what the journal shows of it
   pub plain : DeskEntry
-  -- of a dispatch the message that it was of, also where there was no memory to begin with it; none of an edit
+  -- of a dispatch the message that it was of; none of one that there was no memory to begin with, and none of an edit
   pub item : Option ItemData
 
 abbrev pub entry_inside : Inside → EntryData

@@ -144,9 +144,9 @@ ATurnDispatches =
 -- so it is with a message that is given up there
 abbrev pub ATurnGivesUp : Type 0
 ATurnGivesUp =
-    (clock clock' : Clock) (position : ℕ) (item : ItemData) (made : Made) (opening state : DeskState) (entries entries' : List EntryData) (seat given seat' : DeskSeat)
-    → HasGivenUp clock clock' position item opening state entries entries' made
-    → InATurn clock opening entries entries' seat given seat' (HasGivenUpThere clock clock' position item made seat seat' × IsAtDesk seat')
+    (clock clock' : Clock) (position : ℕ) (made : Made) (opening state : DeskState) (entries entries' : List EntryData) (seat given seat' : DeskSeat)
+    → HasGivenUp clock clock' position opening state entries entries' made
+    → InATurn clock opening entries entries' seat given seat' (HasGivenUpThere clock clock' position made seat seat' × IsAtDesk seat')
 
 -- ---- nothing that fits is left out
 -- the field of these values, where there are any

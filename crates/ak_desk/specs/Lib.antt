@@ -8,6 +8,7 @@ pub mod Entry
 pub mod Laws
 pub mod Machine
 pub mod Place
+pub mod Plain
 pub mod Properties
 pub mod Replies
 pub mod Shared

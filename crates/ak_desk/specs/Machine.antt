@@ -81,16 +81,22 @@ pub record Replies (s : DeskState) (item : ItemData) (words : List AnswerWord) (
   pub dispatch : Dispatches s item words quit leaves
   pub is : (dispatch_of s item dispatch.answers dispatch.memory).reply ≡ reply
 
--- an entry of a dispatch has its item; where there was no memory to begin it has no words, and nothing changes
+-- what an entry of a dispatch of that item is paired with: the item; nothing where there was no memory to begin with it
+abbrev pub paired : EntryRoute → ItemData → Option ItemData
+paired went.NoMemory item = None
+paired r item = Some item
+
+-- an entry of a dispatch has its item; where there was no memory to begin it has no item and no words, and nothing changes
 abbrev pub DispatchStep : DeskState → EntryRoute → Option ItemData → List AnswerWord → Bool → DeskState → Type 0
+DispatchStep s went.NoMemory None words quit t = (words ≡ []) × ((quit ≡ false) × (t ≡ s))
+DispatchStep s went.NoMemory (Some item) words quit t = ⊥
 DispatchStep s r None words quit t = ⊥
-DispatchStep s went.NoMemory (Some item) words quit t = (words ≡ []) × ((quit ≡ false) × (t ≡ s))
 DispatchStep s r (Some item) words quit t = (r ≡ entry_route s (routed_of s item).route) × Dispatches s item words quit t
 
--- the reply of such an entry; where there was no memory to begin, it is NONE
+-- the reply of such an entry; where there was no memory to begin, it is NONE, whatever the item
 abbrev pub StepReplies : DeskState → EntryRoute → Option ItemData → List AnswerWord → Option MessageData → Type 0
+StepReplies s went.NoMemory item words reply = reply ≡ Some none_reply
 StepReplies s r None words reply = ⊥
-StepReplies s went.NoMemory (Some item) words reply = reply ≡ Some none_reply
 StepReplies s r (Some item) words reply = Replies s item words reply
 
 -- ---- one entry, of the looper with that number, after so many dispatches

@@ -38,14 +38,14 @@ pub record HasDispatchedThere (clock clock' : Clock) (position : ℕ) (item : It
 
 -- the seat's thread gave one message up in one turn: its entry is the last of the seat's front, and goes on from all that was there
 -- before
-pub record HasGivenUpThere (clock clock' : Clock) (position : ℕ) (item : ItemData) (made : Made) (seat seat' : DeskSeat) : Type 0 where
+pub record HasGivenUpThere (clock clock' : Clock) (position : ℕ) (made : Made) (seat seat' : DeskSeat) : Type 0 where
   pub opening : DeskState
   pub opening_is : seat'.opening ≡ Some opening
   -- the state before it, which stays, and the list before it
   pub state : DeskState
   pub entries : List EntryData
-  pub given_up : HasGivenUp clock clock' position item opening state entries seat'.front made
-  pub called : HasCalled by_number (given_up_entry entries clock position item) seat seat'
+  pub given_up : HasGivenUp clock clock' position opening state entries seat'.front made
+  pub called : HasCalled by_number (given_up_entry entries clock position) seat seat'
 
 -- the seat's front is a list that the machine allows from its opening on
 pub record LeadsOn (opening : DeskState) (front : List EntryData) : Type 0 where

@@ -90,12 +90,7 @@ impl Desk {
             answers: Items::from_vec(Vec::new(alloc)),
             quit: false,
         };
-        add(
-            &mut self.entries,
-            clock,
-            event,
-            Some(Snapshot::of(&taken.item)),
-        );
+        add(&mut self.entries, clock, event, None);
         Made {
             reply: Some(none_reply(alloc)),
             forwarded: false,

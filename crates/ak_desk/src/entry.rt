@@ -93,7 +93,7 @@ pub struct DeskEntry {
     pub event: DeskEvent,
 }
 
-/// An entry of a desk's list: what the journal shows of it, and of a dispatch the message that it was of, also
+/// An entry of a desk's list: what the journal shows of it, and of a dispatch the message that it was of; none
 /// where there was no memory to begin with it. Contracts alone see the message.
 #[derive(Drop)]
 pub struct EntryWithItem {

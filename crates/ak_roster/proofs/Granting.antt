@@ -2,7 +2,7 @@
 use Rattle.std.proofs.Common.{◌≡◌, ◌<◌, ◌≤◌, ℕ, zero, suc, ◌+◌, ◌⊎◌, inl, inr, List, [], ◌∷◌, ◌++◌, length, map, set, refl, sym, ap, ◌∙◌, subst, arith, append-nil, Option, None, Some, Contains, max}
 use Rattle.std.specs.Prelude.{slice_get, option_map, IfSome}
 use Rattle.std.proofs.lemmas.List.{length-set, map-append, map-set, set-get_or}
-use Rattle.std.proofs.lemmas.List.Elements.{Contains-append_left, Contains-push, Contains-push_cases}
+use Rattle.std.proofs.lemmas.List.Elements.{Contains-append_left, Contains-append_right, Contains-push, Contains-push_cases}
 use Rattle.std.proofs.lemmas.Option.{get_or_from_slice_get, slice_get-map, slice_get_within}
 use Rattle.ak_turn.specs.declared.clock.Clock.{Clock}
 use Rattle.ak_roster.specs.declared.entry.RosterEntry.{RosterEntry}
@@ -67,9 +67,10 @@ module _ {D : Type 0} (threads : D → Option (List ℕ)) where
   newcomer ds ls place thread kept stranger = newcomer_from 0 ds ls place thread place (omega arith) kept stranger
 
 -- such a thread may have an entry of the door, where there is the looper
-no_door : (thread number : ℕ) (looper : Option LooperData) → IsStranger thread number looper → (looper ≡ None → ⊥) → HasNoDoor thread number looper
+no_door : (thread number : ℕ) (looper : Option LooperData) → IsStranger thread number looper → (looper ≡ None → ⊥) → HasNoDoor thread looper
 no_door thread number None stranger there = there refl
-no_door thread number (Some looper) stranger there = stranger
+no_door thread number (Some looper) stranger there =
+    λ given. stranger (Contains-append_right (0 ∷ (10000 + number) ∷ (10000 + looper.own) ∷ 20000 ∷ []) looper.given thread given)
 
 there_within : {A : Type 0} (xs : List A) (i : ℕ) → i < length xs → slice_get xs i ≡ None → ⊥
 there_within [] i within none = omega arith

@@ -14,7 +14,7 @@ use Rattle.ak_roster.specs.declared.entry.LaunchOutcome.{LaunchOutcome}
 use Rattle.ak_roster.specs.declared.entry.LaunchOutcome.TheVariants as launch
 use Rattle.ak_roster.specs.Machine.{HasNoDoor, IsHistory, IsLegal, LooperData, RosterState, after, given_to, holders, loopers_at, loopers_of, state_of, with_given}
 use Rattle.ak_roster.specs.Roster.{IsStranger}
-use Rattle.ak_roster.specs.Laws.{FourTakeNoDoor, HoldersAreTold, IsHolder, IsNoneOfFour, StrangersAreTold, TookDoor}
+use Rattle.ak_roster.specs.Laws.{HoldersAreTold, IsHolder, IsNoneOfFour, StrangersAreTold, TookDoor}
 use Rattle.ak_roster.proofs.Carried.{carried}
 use Rattle.ak_roster.proofs.Histories.{length-with_given}
 
@@ -175,7 +175,7 @@ module _ (H : ℕ → ℕ → Type 0) (by : ℕ) where
             (λ (new : Takes by (event.Door number) n t). let within = slice_get_within loopers number old there in let same = same_door number n new.1 in omega (arith, within, same, le))
             took
 
-  legal_told : (number : ℕ) (loopers : List LooperData) (o : Option LooperData) → slice_get loopers number ≡ o → HasNoDoor by number o → Told H loopers → Told (Or (event.Door number)) (with_given by number loopers)
+  legal_told : (number : ℕ) (loopers : List LooperData) (o : Option LooperData) → slice_get loopers number ≡ o → HasNoDoor by o → Told H loopers → Told (Or (event.Door number)) (with_given by number loopers)
   legal_told number loopers None at legal h = absurd legal
   legal_told number loopers (Some old) at legal h = door_told number loopers old at h
 
@@ -282,59 +282,3 @@ stranger_by heads entries thread number (Some looper) at h four none =
 pub strangers_are_told : StrangersAreTold
 strangers_are_told heads entries thread number h four all =
     stranger_by heads entries thread number (slice_get (state_of heads entries).loopers number) refl h four (none_took thread number entries all)
-
--- ---- none of the four took the door
-module _ (number : ℕ) (looper : LooperData) (t : ℕ) (none : ¬ (Contains (holders number looper) t)) where
-  not_holder : IsHolder [] number looper t → ⊥
-  not_holder h = none (any_there (holders number looper) t (among_any [] number looper t h (λ took. absurd (omega (arith, took.2)))))
-
-  four_of : IsNoneOfFour t number looper
-  four_of = record {
-    not_main = λ e. not_holder (inl e);
-    not_looper = λ e. not_holder (inr (inl e));
-    not_own = λ e. not_holder (inr (inr (inl e)));
-    not_keeper = λ e. not_holder (inr (inr (inr (inl e))));
-  }
-
--- the loopers have given their doors to others alone
-abbrev GaveToOthers : List LooperData → Type 0
-GaveToOthers loopers = (n : ℕ) (l : LooperData) → slice_get loopers n ≡ Some l → (t : ℕ) → Contains l.given t → IsNoneOfFour t n l
-
-more_others : (loopers more : List LooperData) → ((m : ℕ) (l : LooperData) → slice_get more m ≡ Some l → l.given ≡ []) → GaveToOthers loopers → GaveToOthers (loopers ++ more)
-more_others loopers more fresh h n l at t gave = by_place (get_append loopers more n l at) where
-  by_place : (slice_get loopers n ≡ Some l) ⊎ ((length loopers ≤ n) × (m : ℕ) × (slice_get more m ≡ Some l)) → IsNoneOfFour t n l
-  by_place (inl old) = h n l old t gave
-  by_place (inr new) = absurd (none_there t (subst (λ (ts : List ℕ). Contains ts t) (fresh new.1 l new.2) gave))
-
--- a looper that gave its door to one thread more is the same beside
-given_four : (by t number : ℕ) (old : LooperData) → IsNoneOfFour t number old → IsNoneOfFour t number (given_to by old)
-given_four by t number old four = record { not_main = four.not_main; not_looper = four.not_looper; not_own = four.not_own; not_keeper = four.not_keeper }
-
-door_others : (by number : ℕ) (loopers : List LooperData) (old : LooperData) → slice_get loopers number ≡ Some old → ¬ (Contains (holders number old) by) → GaveToOthers loopers → GaveToOthers (with_given by number loopers)
-door_others by number loopers old there none h n l at t gave = ⊎_elim (λ (e : n ≡ number). here e) (λ (ne : n ≢ number). h n l (sym (get_given_other by number n loopers ne) ∙ at) t gave) (cases_eq n number) where
-  here : n ≡ number → IsNoneOfFour t n l
-  here e =
-      let same : given_to by old ≡ l = get_given_same by number loopers old l there (subst (λ (k : ℕ). slice_get (with_given by number loopers) k ≡ Some l) e at) in
-      let grown : Contains (old.given ++ by ∷ []) t = subst (λ (x : LooperData). Contains x.given t) (sym same) gave in
-      let four : IsNoneOfFour t number old =
-      ⊎_elim (λ (r : Any (λ (x : ℕ). x ≡ t) old.given). h number old there t (any_there old.given t r)) (λ (is : by ≡ t). subst (λ (x : ℕ). IsNoneOfFour x number old) is (four_of number old by none))
-      (any_parts (λ (x : ℕ). x ≡ t) old.given by (there_any (old.given ++ by ∷ []) t grown)) in
-      subst (λ (k : ℕ). IsNoneOfFour t k l) (sym e) (subst (λ (x : LooperData). IsNoneOfFour t number x) same (given_four by t number old four))
-
-legal_others : (by number : ℕ) (loopers : List LooperData) (o : Option LooperData) → slice_get loopers number ≡ o → HasNoDoor by number o → GaveToOthers loopers → GaveToOthers (with_given by number loopers)
-legal_others by number loopers None at legal h = absurd legal
-legal_others by number loopers (Some old) at legal h = door_others by number loopers old at legal h
-
-event_others : (heads : List AppHead) (s : RosterState) (by : ℕ) (what : RosterEvent) → IsLegal heads s by what → GaveToOthers s.loopers → GaveToOthers (after heads s by what).loopers
-event_others heads s by (event.Launch word o) legal h = more_others s.loopers (loopers_of heads by o) (fresh_of (λ n t. Unit {0}) by heads by o) h
-event_others heads s by (event.Find word o) legal h = h
-event_others heads s by (event.Gone team) legal h = h
-event_others heads s by (event.Door number) legal h = legal_others by number s.loopers (slice_get s.loopers number) refl legal h
-
-nothing_given : GaveToOthers []
-nothing_given n l at t gave = absurd cc
-
-pub four_take_no_door : FourTakeNoDoor
-four_take_no_door heads entries number looper h at thread took =
-    let others : GaveToOthers (state_of heads entries).loopers = carried heads (λ es s. GaveToOthers s.loopers) (λ before s e p legal. event_others heads s e.by.0 e.event legal p) [] entries h nothing_given in
-    others number looper at thread ((doors_told heads entries h).took number thread looper at took)

@@ -1,10 +1,10 @@
 -- No thread gets a door twice; and what a name is compared with.
-use Rattle.std.proofs.Common.{◌≡◌, ◌≢◌, ◌<◌, ℕ, zero, suc, ◌+◌, ◌⊎◌, inl, inr, Bool, true, false, List, [], ◌∷◌, length, get_or, Option, None, Some, refl, sym, ap, ◌∙◌, subst, arith, All, AllPairs, Contains, eq-eqb}
+use Rattle.std.proofs.Common.{◌≡◌, ◌≢◌, ◌<◌, ℕ, zero, suc, ◌⊎◌, inl, inr, Bool, true, false, List, [], ◌∷◌, length, get_or, refl, sym, ap, ◌∙◌, subst, arith, All, AllPairs, Contains, eq-eqb}
 use Rattle.std.specs.Prelude.{slice_get, if◌then◌else◌, ◌||◌}
 use Rattle.std.specs.List.{list_any}
 use Rattle.std.proofs.lemmas.Bool.{false≢true}
 use Rattle.std.proofs.lemmas.Bool.Decides.{nat_tests}
-use Rattle.std.proofs.lemmas.List.Elements.{All-append, All-cons, All-head, All-nil, All-replicate, All-tail, Contains-append_right, Contains-get_or}
+use Rattle.std.proofs.lemmas.List.Elements.{All-append, All-cons, All-head, All-nil, All-replicate, All-tail, Contains-get_or}
 use Rattle.std.proofs.lemmas.List.Quantifiers.{all_pairs_push}
 use Rattle.ak_roster.specs.declared.head.AppHead.{AppHead}
 use Rattle.ak_roster.specs.declared.entry.RosterEvent.{RosterEvent}
@@ -34,16 +34,7 @@ once_given thread looper once new =
     all_pairs_push (λ a b. a ≢ b) looper.given thread once
     (λ k d low same. new (subst (λ (t : ℕ). Contains looper.given t) same (Contains-get_or looper.given k d low)))
 
--- a thread that has no part did not get the door
-abbrev IsNotGiven : ℕ → Option LooperData → Type 0
-IsNotGiven thread None = ⊥
-IsNotGiven thread (Some looper) = ¬ (Contains looper.given thread)
-
-not_given : (thread number : ℕ) (looper : Option LooperData) → HasNoDoor thread number looper → IsNotGiven thread looper
-not_given thread number None none = none
-not_given thread number (Some looper) none = λ given. none (Contains-append_right (0 ∷ (10000 + number) ∷ (10000 + looper.own) ∷ 20000 ∷ []) looper.given thread given)
-
-once_with : (thread number : ℕ) (loopers : List LooperData) → All HasOnce loopers → IsNotGiven thread (slice_get loopers number) → All HasOnce (with_given thread number loopers)
+once_with : (thread number : ℕ) (loopers : List LooperData) → All HasOnce loopers → HasNoDoor thread (slice_get loopers number) → All HasOnce (with_given thread number loopers)
 once_with thread number [] once new = All-nil HasOnce
 once_with thread zero (l ∷ ls) once new = All-cons HasOnce (given_to thread l) ls (once_given thread l (All-head HasOnce l ls once) new) (All-tail HasOnce l ls once)
 once_with thread (suc number) (l ∷ ls) once new =
@@ -53,7 +44,7 @@ event_once : (heads : List AppHead) (s : RosterState) (by : ℕ) (what : RosterE
 event_once heads s by (event.Launch word o) once legal = All-append HasOnce s.loopers (loopers_of heads by o) once (once_of heads by o)
 event_once heads s by (event.Find word o) once legal = once
 event_once heads s by (event.Gone team) once legal = once
-event_once heads s by (event.Door looper) once legal = once_with by looper s.loopers once (not_given by looper (slice_get s.loopers looper) legal)
+event_once heads s by (event.Door looper) once legal = once_with by looper s.loopers once legal
 
 pub doors_are_given_once : DoorsAreGivenOnce
 doors_are_given_once heads entries h =

@@ -131,12 +131,6 @@ StrangersAreTold =
     (heads : List AppHead) (entries : List RosterEntry) (thread number : ℕ) → IsHistory heads entries → IfSome (slice_get (state_of heads entries).loopers number) (IsNoneOfFour thread number)
     → All (λ entry. entry.event ≢ event.Door number) (made_by (λ entry. entry.by.0) thread entries) → IsStranger thread number (slice_get (state_of heads entries).loopers number)
 
--- and none of the four has an entry of the door
-abbrev pub FourTakeNoDoor : Type 0
-FourTakeNoDoor =
-    (heads : List AppHead) (entries : List RosterEntry) (number : ℕ) (looper : LooperData) → IsHistory heads entries → slice_get (state_of heads entries).loopers number ≡ Some looper
-    → (thread : ℕ) → TookDoor entries number thread → IsNoneOfFour thread number looper
-
 -- ---- seats at the roster's lock see entries with objects: of each thread just its own are what the journal shows as its own
 abbrev pub EntriesTellPlain : Type 0 → Type 0
 EntriesTellPlain O = (thread : ℕ) (entries : List (EntryWithObjects O)) → made_by (λ (entry : RosterEntry). entry.by.0) thread (plain_entries entries) ≡ plain_entries (made_by (λ (entry : EntryWithObjects O). entry.plain.by.0) thread entries)

@@ -116,16 +116,16 @@ abbrev pub holders : ℕ → LooperData → List ℕ
 holders number looper = main_thread ∷ looper_thread number ∷ looper_thread looper.own ∷ keeper_thread ∷ looper.given
 
 -- ---- the table: when an event may come by a thread, and what it changes
--- there is a looper with that number, and the thread has no part of what its door leads to
-abbrev pub HasNoDoor : ℕ → ℕ → Option LooperData → Type 0
-HasNoDoor thread number None = ⊥
-HasNoDoor thread number (Some looper) = ¬ (Contains (holders number looper) thread)
+-- the looper was started, and the thread did not get its door before; which threads may take a door is a matter of the diaries
+abbrev pub HasNoDoor : ℕ → Option LooperData → Type 0
+HasNoDoor thread None = ⊥
+HasNoDoor thread (Some looper) = ¬ (Contains looper.given thread)
 
 abbrev pub IsLegal : List AppHead → RosterState → ℕ → RosterEvent → Type 0
 IsLegal heads s by (event.Launch word result) = result ≡ launch_of heads s word
 IsLegal heads s by (event.Find word result) = result ≡ find_of heads s word
 IsLegal heads s by (event.Gone team) = IsTrue (list_any (runs_team team) s.running)
-IsLegal heads s by (event.Door looper) = HasNoDoor by looper (slice_get s.loopers looper)
+IsLegal heads s by (event.Door looper) = HasNoDoor by (slice_get s.loopers looper)
 
 abbrev pub after : List AppHead → RosterState → ℕ → RosterEvent → RosterState
 after heads s by (event.Launch word result) = launched heads by result s

@@ -36,11 +36,9 @@ pub fn limits_hold()
 /// The threads that have a part of a looper's door that tells its threads are main, the looper, the one that the
 /// door names as its team's own, the keeper, and just those by which the list has an entry `Door` of it. A thread
 /// that is none of these four, and whose own entries have none of that door, is a stranger to it, as `grant` asks.
-/// None of the four has an entry `Door` of it.
 pub fn holders_are_told()
     ensures holders { law.HoldersAreTold }
     ensures strangers { law.StrangersAreTold }
-    ensures four { law.FourTakeNoDoor }
 {}
 
 /// What a seat at the roster's lock knows of its own entries tells whether its thread is a stranger to a door, as

@@ -1,6 +1,6 @@
 -- Who has a part is told by the entries.
-use Rattle.ak_roster.proofs.Holders.{four_take_no_door, holders_are_told, strangers_are_told}
+use Rattle.ak_roster.proofs.Holders.{holders_are_told, strangers_are_told}
 use Rattle.ak_roster.proofs.laws.holders_are_told.Goals as goal
 
 pub returns : goal.returns
-returns c = record { holders = holders_are_told; strangers = strangers_are_told; four = four_take_no_door }
+returns c = record { holders = holders_are_told; strangers = strangers_are_told }

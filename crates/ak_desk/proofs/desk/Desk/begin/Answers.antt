@@ -1,5 +1,5 @@
 -- What is begun came no further, and has its places.
-use Rattle.std.proofs.Common.{◌≡◌, ◌+◌, ◌<◌, None, option_map, ap, subst, ◌∙◌, vec_len, vec_capacity, arith}
+use Rattle.std.proofs.Common.{◌≡◌, ◌+◌, ◌<◌, None, ap, subst, ◌∙◌, vec_len, vec_capacity, arith}
 use Rattle.std.proofs.lemmas.Grind.{common_steps}
 use Rattle.ak_flatten.specs.Item.{IsItem}
 use Rattle.ak_desk.specs.Desk.{BegunData, DeskData, begun_at}

@@ -3,7 +3,7 @@ use Rattle.std.proofs.Common.{◌≡◌, ◌+◌, ◌<◌, Option, None, Some, o
 use Rattle.std.proofs.lemmas.Grind.{common_steps}
 use Rattle.ak_desk.specs.declared.desk.Begun.{Begun}
 use Rattle.ak_desk.specs.Desk.{DeskData}
-use Rattle.ak_desk.specs.DeskInside.{HasPlaces, Stands, begun_seen, desk_inside}
+use Rattle.ak_desk.specs.DeskInside.{HasPlaces, Stands, begun_seen}
 use Rattle.ak_desk.specs.Machine.{IsHistory}
 use Rattle.ak_desk.proofs.Standing.{now_dispatched, now_ended, now_made, now_stands, task_done}
 use Rattle.ak_desk.proofs.desk.Desk.end.Goals as goal

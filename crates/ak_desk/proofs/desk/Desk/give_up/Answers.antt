@@ -17,9 +17,9 @@ invariant_of-self c =
     let by : c.args.clock.now.thread.0 ≡ 10000 + c.self.inside.opening.value.looper = c.requires.looper ∙ ap (λ (d : DeskData). 10000 + d.opening.looper) (sym c.self.view_is) in
     let at : c.args.taken.now.position ≡ dispatches c.self.inside.entries.items = c.requires.position ∙ ap (λ (d : DeskData). dispatches d.entries) (sym c.self.view_is) in
     let history : IsHistory c.self.inside.opening.value c.add.new.entries.items c.self.inside.state =
-    given_up_stands c.self.inside.opening.value c.self.inside.entries.items c.args.clock.now c.args.taken.now.position c.args.taken.now.item c.add.new.entries.items (grind (arith, common_steps)) c.self.inside.state before by at in
+    given_up_stands c.self.inside.opening.value c.self.inside.entries.items c.args.clock.now c.args.taken.now.position c.add.new.entries.items (grind (arith, common_steps)) c.self.inside.state before by at in
     let now : gave_up c.add.new.entries.items ≡ true =
-    gave_up_now c.self.inside.opening.value c.self.inside.entries.items c.args.clock.now c.args.taken.now.position c.args.taken.now.item c.add.new.entries.items (grind (arith, common_steps)) in
+    gave_up_now c.self.inside.opening.value c.self.inside.entries.items c.args.clock.now c.args.taken.now.position c.add.new.entries.items (grind (arith, common_steps)) in
     record {
       stands = subst (λ (o : Option Begun). Stands c.self.inside.opening.value c.add.new.entries.items o c.self.inside.state) (sym none) history;
       places = subst (λ (o : Option Begun). HasPlaces c.add.new.entries.items o (vec_len c.add.new.entries) (vec_capacity c.add.new.entries)) (sym none) (λ never. absurd (false≢true (sym never ∙ now)));
@@ -28,5 +28,5 @@ invariant_of-self c =
 pub returns-clause-given_up : goal.returns-clause-given_up
 returns-clause-given_up c =
     let none : c.self.inside.begun ≡ None = none_inside c.self.inside.begun (ap (λ (d : DeskData). d.begun) c.self.view_is ∙ c.requires.rest) in
-    gives_up_so c.self.inside.opening.value c.self.inside.entries.items c.args.clock.now c.args.taken.now.position c.args.taken.now.item c.add.new.entries.items (grind (arith, common_steps))
+    gives_up_so c.self.inside.opening.value c.self.inside.entries.items c.args.clock.now c.args.taken.now.position c.add.new.entries.items (grind (arith, common_steps))
     c.self.inside.begun c.self.inside.state c.args.self.now none c.self.view_is c.self.invariant.stands _ _ c.requires.once c.requires.position c.requires.looper c.add.ensures.clock (grind (arith, common_steps))

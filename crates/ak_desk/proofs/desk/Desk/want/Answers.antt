@@ -1,5 +1,5 @@
 -- What is begun goes on by what it wants.
-use Rattle.std.proofs.Common.{◌≡◌, ◌+◌, ◌<◌, Option, vec_len, vec_capacity, subst}
+use Rattle.std.proofs.Common.{◌+◌, ◌<◌, Option, vec_len, vec_capacity, subst}
 use Rattle.ak_desk.specs.declared.desk.Begun.{Begun}
 use Rattle.ak_desk.specs.DeskInside.{HasPlaces}
 use Rattle.ak_desk.proofs.Going.{may_want, wanted}
