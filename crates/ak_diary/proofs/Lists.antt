@@ -1,10 +1,14 @@
 -- Lists at a place, and what a thread noted up to one of its entries.
-use Rattle.std.proofs.Common.{◌≡◌, ◌≢◌, ℕ, ◌+◌, ◌≤◌, List, [], ◌∷◌, ◌++◌, length, take, drop, get_or, cond, Some, refl, sym, ap, ◌∙◌, arith, append_assoc, append-nil, length-append, length-drop, eq-eqb, ne_eqb}
+use Rattle.std.proofs.Common.{◌≡◌, ◌≢◌, ◌⊎◌, ◌==◌, ℕ, zero, suc, ◌+◌, ◌≤◌, List, [], ◌∷◌, ◌++◌, length, drop, get_or, cond, Some, refl, sym, ap, ◌∙◌, inl, inr, arith, append_assoc, append-nil, length-drop, eq-eqb, ne_eqb}
 use Rattle.std.specs.Prelude.{slice_get}
-use Rattle.std.proofs.lemmas.List.{append_cancel_left, length-take-le, take-append-drop, take_at}
+use Rattle.std.proofs.lemmas.List.{append_cancel_left}
+use Rattle.std.proofs.lemmas.List.Elements.{filter-append}
+use Rattle.std.proofs.lemmas.Option.{slice_get_within}
 use mathlib.Core.Logic.{dite}
 use native.Mathlib.Decide.{ℕ_discrete}
+use Rattle.ak_turn.specs.Entries.{made_by}
 use Rattle.ak_turn.specs.Noted.{Noted, note, noted_from}
+use Rattle.ak_port.proofs.Surface.{get_left}
 
 -- ---- lists
 module _ {A : Type 0} where
@@ -22,10 +26,27 @@ module _ {A : Type 0} where
   pub same_rest : (x y : A) (xs ys : List A) → x ∷ xs ≡ y ∷ ys → xs ≡ ys
   same_rest x y xs ys e = ap (drop 1) e
 
-  -- what stands behind a front
-  pub get_behind : (xs : List A) (y : A) (ys : List A) → slice_get (xs ++ y ∷ ys) (length xs) ≡ Some y
-  get_behind [] y ys = refl
-  get_behind (x ∷ xs) y ys = get_behind xs y ys
+  -- what stands in a front stands in the whole
+  pub get_front : (xs ys : List A) (i : ℕ) (x : A) → slice_get xs i ≡ Some x → slice_get (xs ++ ys) i ≡ Some x
+  get_front xs ys i x at = get_left xs ys i (slice_get_within xs i x at) ∙ at
+
+  -- what stands at a place of two lists stands in one of them
+  pub get_parts : (xs ys : List A) (i : ℕ) (x : A) → slice_get (xs ++ ys) i ≡ Some x → slice_get xs i ≡ Some x ⊎ ((j : ℕ) × (i ≡ length xs + j) × (slice_get ys j ≡ Some x))
+  get_parts [] ys i x at = inr (i, omega arith, at)
+  get_parts (y ∷ xs) ys zero x at = inl at
+  get_parts (y ∷ xs) ys (suc i) x at = more y xs ys i x (get_parts xs ys i x at)
+    where
+      more : (y : A) (xs ys : List A) (i : ℕ) (x : A) → slice_get xs i ≡ Some x ⊎ ((j : ℕ) × (i ≡ length xs + j) × (slice_get ys j ≡ Some x))
+          → slice_get xs i ≡ Some x ⊎ ((j : ℕ) × (suc i ≡ length (y ∷ xs) + j) × (slice_get ys j ≡ Some x))
+      more y xs ys i x (inl there) = inl there
+      more y xs ys i x (inr behind) = inr (behind.0, omega (arith, behind.1), behind.2)
+
+  -- the first of those that are left behind n
+  pub drop_get : (n : ℕ) (xs : List A) (y : A) (ys : List A) → drop n xs ≡ y ∷ ys → slice_get xs n ≡ Some y
+  drop_get zero [] y ys e = absurd (cc e)
+  drop_get zero (x ∷ xs) y ys e = ap Some (same_first x y xs ys e)
+  drop_get (suc n) [] y ys e = absurd (cc e)
+  drop_get (suc n) (x ∷ xs) y ys e = drop_get n xs y ys e
 
   -- where things are left behind n of them, n are not all
   pub more_than : (n : ℕ) (xs : List A) (y : A) (ys : List A) → drop n xs ≡ y ∷ ys → n + 1 ≤ length xs
@@ -34,15 +55,14 @@ module _ {A : Type 0} where
   pub no_more_than : (n : ℕ) (xs : List A) → drop n xs ≡ [] → length xs ≤ n
   no_more_than n xs e = omega (arith, length-drop n xs, ap (λ l. length l) e)
 
-  -- one more is taken
-  pub take_one_more : (n : ℕ) (xs : List A) (y : A) (ys : List A) → drop n xs ≡ y ∷ ys → take (n + 1) xs ≡ take n xs ++ y ∷ []
-  take_one_more n xs y ys e =
-      let long = length-take-le n xs (omega (arith, more_than n xs y ys e)) in
-      let whole : xs ≡ (take n xs ++ y ∷ []) ++ ys = sym (take-append-drop n xs) ∙ ap (λ l. take n xs ++ l) e ∙ sym (append_assoc (take n xs) (y ∷ []) ys) in
-      ap (take (n + 1)) whole ∙ take_at (take n xs ++ y ∷ []) ys (n + 1) (length-append (take n xs) (y ∷ []) ∙ omega (arith, long))
-
 -- ---- one of the entries that a thread noted
 module _ {L : Type 0} (by : L → ℕ) (thread : ℕ) where
+  -- one of its own entries, among all of these
+  pub own_split : (before : List L) (x : L) (behind : List L) → by x ≡ thread → made_by by thread (before ++ x ∷ behind) ≡ made_by by thread before ++ x ∷ made_by by thread behind
+  own_split before x behind own =
+      filter-append (λ entry. by entry == thread) before (x ∷ behind)
+      ∙ ap (λ b. made_by by thread before ++ cond b (x ∷ made_by by thread behind) (made_by by thread behind)) (eq-eqb (by x) thread own)
+
   -- with all that stands before it, and behind it
   pub record StandsAt (before xs : List L) (mine : List (Noted L)) (n : Noted L) : Type 0 where
     pub middle : List L

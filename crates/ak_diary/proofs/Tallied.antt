@@ -1,28 +1,33 @@
 -- What a looper took and dispatched, turn after turn.
-use Rattle.std.proofs.Common.{◌≡◌, ◌⊎◌, ℕ, ◌+◌, ◌<◌, ◌≤◌, ◌==◌, Bool, true, false, List, [], ◌∷◌, ◌++◌, length, map, take, All, cond, refl, sym, ap, ◌∙◌, arith, append_assoc, append-nil, length-append, length-take, eq-eqb, ⊎_elim}
+use Rattle.std.proofs.Common.{◌≡◌, ◌⊎◌, ℕ, ◌+◌, ◌<◌, ◌≤◌, ◌==◌, Bool, true, false, List, [], ◌∷◌, ◌++◌, length, map, take, All, cond, Some, refl, sym, ap, ◌∙◌, subst, arith, append-nil, length-append, length-take, eq-eqb, ⊎_elim}
 use Rattle.std.proofs.lemmas.Grind.{flat_map-append}
-use Rattle.std.proofs.lemmas.List.{map-append, take-append-le}
+use Rattle.std.proofs.lemmas.List.{map-append}
 use Rattle.std.proofs.lemmas.List.Folds.{list_any-append}
-use Rattle.std.specs.Prelude.{◌||◌}
+use Rattle.std.specs.Prelude.{◌||◌, slice_get}
 use Rattle.ak_turn.specs.Noted.{Noted, entry_of}
 use Rattle.ak_flatten.specs.declared.item.Taken.{Taken}
 use Rattle.ak_port.specs.declared.port_entry.PortEntry.{PortEntry}
 use Rattle.ak_port.specs.PortMachine.{handed_out, pending_items, state_of}
 use Rattle.ak_port.specs.TakerLaws.{handed_at, handed_by}
 use Rattle.ak_action.specs.declared.answer.Answer.{Answer}
+use Rattle.ak_action.specs.declared.answer.AnswerWord.{AnswerWord}
 use Rattle.ak_action.specs.declared.answer.Want.{Want}
 use Rattle.ak_action.specs.declared.state.DeskState.{DeskState}
+use Rattle.ak_desk.specs.declared.entry.DeskEvent.TheVariants as desk_event
+use Rattle.ak_desk.specs.declared.entry.EntryRoute.{EntryRoute}
+use Rattle.ak_desk.specs.declared.entry.EntryRoute.TheVariants as went
 use Rattle.ak_desk.specs.declared.made.Made.{Made}
 use Rattle.ak_desk.specs.Desk.{dispatched_entry, given_up_entry}
+use Rattle.ak_desk.specs.Dispatch.{entry_route}
 use Rattle.ak_desk.specs.Entry.{EntryData}
-use Rattle.ak_desk.specs.Machine.{counted, dispatches}
-use Rattle.ak_desk.proofs.Surface.{counted_push}
+use Rattle.ak_desk.specs.Machine.{counted, counted_all, dispatches, paired}
+use Rattle.ak_desk.specs.Place.{routed_of}
+use Rattle.ak_desk.proofs.Surface.{counted_push, paired_routed}
 use Rattle.ak_diary.specs.Diary.{Works, begun, went_on}
-use Rattle.ak_diary.specs.Laws.{dispatched_item, dispatched_items}
 use Rattle.ak_diary.specs.Looper.{LooperFacts, calls_for_closing, desk_list, dispatched_in, in_hand, is_closing, taken_in}
 use Rattle.ak_diary.specs.Step.{Step, at_port, at_desk, desk_entries, desk_entry, port_entries, port_entry}
 use Rattle.ak_diary.specs.Turns.{Carried, ComesTo, GivenUp, IsDispatch, IsTake, LeavesAll, lacked_if}
-use Rattle.ak_diary.proofs.Lists.{more_than, no_more_than, same_last, take_one_more}
+use Rattle.ak_diary.proofs.Lists.{drop_get, get_front, more_than, no_more_than, same_last}
 use Rattle.ak_diary.proofs.Quiet.{IsQuiet, all_serving, are_quiet, handed-append, leaves_all_quiet, quiet_at_no_desk, quiet_hand_nothing, settles_quiet}
 
 -- ---- what steps add
@@ -40,32 +45,75 @@ pub own_step : {A : Type 0} (looper : ℕ) (n : A) (ns : List A) → cond (loope
 own_step looper n ns = ap (λ b. cond b (n ∷ []) [] ++ ns) (eq-eqb looper looper refl)
 
 -- ---- dispatched messages
-pub dispatched-append : (xs ys : List EntryData) → dispatched_items (xs ++ ys) ≡ dispatched_items xs ++ dispatched_items ys
-dispatched-append [] ys = refl
-dispatched-append (x ∷ xs) ys =
-    ap (λ k. dispatched_item x.plain.event x.item ++ k) (dispatched-append xs ys) ∙ sym (append_assoc (dispatched_item x.plain.event x.item) (dispatched_items xs) (dispatched_items ys))
-
--- an entry that dispatches that one
-record DispatchesIt (taken : Taken) (entry : EntryData) : Type 0 where
-  pub item_is : dispatched_item entry.plain.event entry.item ≡ taken ∷ []
-  pub counts : (k : ℕ) → counted k entry.plain.event ≡ k + 1
+-- an entry that dispatches that one: it tells the position, and is paired with the message where there was memory to begin with it
+pub record DispatchesIt (taken : Taken) (entry : EntryData) : Type 0 where
+  pub route : EntryRoute
+  pub words : List AnswerWord
+  pub quit : Bool
+  pub event_is : entry.plain.event ≡ desk_event.Dispatched taken.position route words quit
+  pub item_is : entry.item ≡ paired route taken.item
 
 carried_it : (opening : DeskState) (taken : Taken) (asked : List Want) (heard : List Answer) (made : Made) (n : Noted EntryData) → Carried opening taken asked heard made n → DispatchesIt taken n.entry
 carried_it opening taken asked heard made n c =
     let d = c.dispatched in
+    let r = (routed_of c.before taken.item).route in
     let e = dispatched_entry n.before c.clock taken.position taken.item c.before d.words d.quit in
     let is : n.entry ≡ e = same_last n.before n.entry e d.grown in
-    record { item_is = ap (λ (x : EntryData). dispatched_item x.plain.event x.item) is; counts = λ k. ap (λ (x : EntryData). counted k x.plain.event) is }
+    record {
+      route = entry_route c.before r;
+      words = d.words;
+      quit = d.quit;
+      event_is = ap (λ (x : EntryData). x.plain.event) is;
+      item_is = ap (λ (x : EntryData). x.item) is ∙ sym (paired_routed c.before r taken.item);
+    }
 
 given_up_it : (opening : DeskState) (taken : Taken) (asked : List Want) (heard : List Answer) (made : Made) (n : Noted EntryData) → GivenUp opening taken asked heard made n → DispatchesIt taken n.entry
 given_up_it opening taken asked heard made n c =
-    let e = given_up_entry n.before c.clock taken.position taken.item in
+    let e = given_up_entry n.before c.clock taken.position in
     let is : n.entry ≡ e = same_last n.before n.entry e c.given_up.grown in
-    record { item_is = ap (λ (x : EntryData). dispatched_item x.plain.event x.item) is; counts = λ k. ap (λ (x : EntryData). counted k x.plain.event) is }
+    record { route = went.NoMemory; words = []; quit = false; event_is = ap (λ (x : EntryData). x.plain.event) is; item_is = ap (λ (x : EntryData). x.item) is }
 
-comes_to_it : (opening : DeskState) (taken : Taken) (asked : List Want) (heard : List Answer) (made : Made) (n : Noted EntryData) → ComesTo opening taken asked heard made n → DispatchesIt taken n.entry
+pub comes_to_it : (opening : DeskState) (taken : Taken) (asked : List Want) (heard : List Answer) (made : Made) (n : Noted EntryData) → ComesTo opening taken asked heard made n → DispatchesIt taken n.entry
 comes_to_it opening taken asked heard made n c =
     ⊎_elim (λ (t : Carried opening taken asked heard made n). carried_it opening taken asked heard made n t) (λ (t : GivenUp opening taken asked heard made n). given_up_it opening taken asked heard made n t) c
+
+-- ---- entries that dispatch messages one after another
+-- the entry dispatches the message at that place
+pub record IsOf (taken : List Taken) (n : ℕ) (entry : EntryData) : Type 0 where
+  pub one : Taken
+  pub there : slice_get taken n ≡ Some one
+  pub is : DispatchesIt one entry
+
+-- the entries dispatch the messages from that place on, each the next one
+abbrev pub ArePaired : List Taken → ℕ → List EntryData → Type 0
+ArePaired taken n [] = Unit {0}
+ArePaired taken n (entry ∷ entries) = IsOf taken n entry × ArePaired taken (n + 1) entries
+
+paired_counted : (taken : List Taken) (n : ℕ) (entries : List EntryData) → ArePaired taken n entries → counted_all n entries ≡ n + length entries
+paired_counted taken n [] paired = omega arith
+paired_counted taken n (x ∷ entries) (first, rest) =
+    let more : counted n x.plain.event ≡ n + 1 = ap (counted n) first.is.event_is in
+    let on : counted_all (counted n x.plain.event) entries ≡ counted_all (n + 1) entries = ap (λ (k : ℕ). counted_all k entries) more in
+    omega (arith, on, paired_counted taken (n + 1) entries rest)
+
+-- also where more are taken
+paired_more : (taken more : List Taken) (n : ℕ) (entries : List EntryData) → ArePaired taken n entries → ArePaired (taken ++ more) n entries
+paired_more taken more n [] paired = tt
+paired_more taken more n (x ∷ entries) (first, rest) =
+    (record { one = first.one; there = get_front taken more n first.one first.there; is = first.is }, paired_more taken more (n + 1) entries rest)
+
+-- with the next one
+paired_push : (taken : List Taken) (n : ℕ) (entries : List EntryData) (entry : EntryData) (place : ℕ) → place ≡ n + length entries → IsOf taken place entry → ArePaired taken n entries
+    → ArePaired taken n (entries ++ entry ∷ [])
+paired_push taken n [] entry place is it paired =
+    let here : place ≡ n = omega (arith, is) in
+    (subst (λ (k : ℕ). IsOf taken k entry) here it, tt)
+paired_push taken n (x ∷ entries) entry place is it (first, rest) = (first, paired_push taken (n + 1) entries entry place (omega (arith, is)) it rest)
+
+-- one of them
+pub paired_at : (taken : List Taken) (n : ℕ) (before : List EntryData) (entry : EntryData) (behind : List EntryData) → ArePaired taken n (before ++ entry ∷ behind) → (place : ℕ) × IsOf taken place entry
+paired_at taken n [] entry behind (first, rest) = (n, first)
+paired_at taken n (x ∷ before) entry behind (first, rest) = paired_at taken (n + 1) before entry behind rest
 
 -- ---- how it stands
 -- what it dispatched are the first of those that it took; there is one more at most, and nothing calls for its closing while there is
@@ -73,7 +121,7 @@ pub record IsTallied (l : LooperFacts) (work : List Step) : Type 0 where
   pub most : dispatched_in l work ≤ length (taken_in l work)
   pub one : length (taken_in l work) ≤ dispatched_in l work + 1
   pub not_closing : dispatched_in l work < length (taken_in l work) → is_closing work ≡ false
-  pub items : dispatched_items (desk_list l work) ≡ take (dispatched_in l work) (taken_in l work)
+  pub pairs : ArePaired (taken_in l work) 0 (desk_list l work)
 
 -- by what a turn adds
 module _ (l : LooperFacts) (work turn : List Step) where
@@ -94,9 +142,9 @@ module _ (l : LooperFacts) (work turn : List Step) where
         most = omega (arith, same, long, so.most);
         one = omega (arith, same, long, few, t.none_more);
         not_closing = λ _. t.not_closing;
-        items =
-            ap dispatched_items t.entries_are ∙ so.items ∙ sym (take-append-le (dispatched_in l work) (taken_in l work) t.handed so.most)
-            ∙ ap (take (dispatched_in l work)) (sym t.taken_is) ∙ ap (λ (n : ℕ). take n (taken_in l (work ++ turn))) (sym same);
+        pairs =
+            subst (λ (ts : List Taken). ArePaired ts 0 (desk_list l (work ++ turn))) (sym t.taken_is)
+            (subst (λ (es : List EntryData). ArePaired (taken_in l work ++ t.handed) 0 es) (sym t.entries_are) (paired_more (taken_in l work) t.handed 0 (desk_list l work) so.pairs));
       }
 
   record DispatchesOne : Type 0 where
@@ -110,20 +158,18 @@ module _ (l : LooperFacts) (work turn : List Step) where
 
   dispatched_on : DispatchesOne → IsTallied l work → IsTallied l (work ++ turn)
   dispatched_on d so =
-      let more : dispatched_in l (work ++ turn) ≡ dispatched_in l work + 1 = ap dispatches d.entries_are ∙ counted_push 0 (desk_list l work) d.entry ∙ d.is.counts (dispatched_in l work) in
+      let more : dispatched_in l (work ++ turn) ≡ dispatched_in l work + 1 = ap dispatches d.entries_are ∙ counted_push 0 (desk_list l work) d.entry ∙ ap (counted (dispatched_in l work)) d.is.event_is in
       let long : length (taken_in l (work ++ turn)) ≡ length (taken_in l work) = ap (λ k. length k) d.taken_is in
       let some = more_than (dispatched_in l work) (taken_in l work) d.taken d.others d.oldest in
-      let last : dispatched_items (d.entry ∷ []) ≡ d.taken ∷ [] = ap (λ k. k ++ []) d.is.item_is in
+      let counts : dispatched_in l work ≡ 0 + length (desk_list l work) = paired_counted (taken_in l work) 0 (desk_list l work) so.pairs in
+      let next : IsOf (taken_in l work) (dispatched_in l work) d.entry = record { one = d.taken; there = drop_get (dispatched_in l work) (taken_in l work) d.taken d.others d.oldest; is = d.is } in
       record {
         most = omega (arith, more, long, some);
         one = omega (arith, more, long, so.one);
         not_closing = λ some. absurd (omega (arith, some, more, long, so.one));
-        items =
-            ap dispatched_items d.entries_are ∙ dispatched-append (desk_list l work) (d.entry ∷ [])
-            ∙ (λ i. so.items i ++ last i)
-            ∙ sym (take_one_more (dispatched_in l work) (taken_in l work) d.taken d.others d.oldest)
-            ∙ ap (take (dispatched_in l work + 1)) (sym d.taken_is)
-            ∙ ap (λ (n : ℕ). take n (taken_in l (work ++ turn))) (sym more);
+        pairs =
+            subst (λ (ts : List Taken). ArePaired ts 0 (desk_list l (work ++ turn))) (sym d.taken_is)
+            (subst (λ (es : List EntryData). ArePaired (taken_in l work) 0 es) (sym d.entries_are) (paired_push (taken_in l work) 0 (desk_list l work) d.entry (dispatched_in l work) counts next so.pairs));
       }
 
   -- ---- a take
@@ -190,7 +236,7 @@ module _ (l : LooperFacts) (work turn : List Step) where
   turned t so = ⊎_elim (λ (k : IsTake l work turn). took_on (takes_one k) so) (λ (k : IsDispatch l work turn). dispatched_on (dispatches_one k) so) t
 
 pub tallied : (l : LooperFacts) (work : List Step) → Works l work → IsTallied l work
-tallied l _ begun = record { most = omega arith; one = omega arith; not_closing = λ _. refl; items = refl }
+tallied l _ begun = record { most = omega arith; one = omega arith; not_closing = λ _. refl; pairs = tt }
 tallied l _ (went_on so_far turn works t) = turned l so_far turn t (tallied l so_far works)
 
 -- ---- the end

@@ -7,7 +7,7 @@ use Rattle.ak_port.specs.declared.port_entry.PortEntry.{PortEntry}
 use Rattle.ak_port.specs.declared.port_entry.PortEvent.TheVariants as port_event
 use Rattle.ak_port.specs.PortCalls as ports
 use Rattle.ak_port.specs.PortMachine.{IsPort, state_of, written_in}
-use Rattle.ak_port.specs.TakerLaws.{HasEnded}
+use Rattle.ak_port.specs.TakerLaws.{HasEnded, handed_at}
 use Rattle.ak_action.specs.declared.answer.AnswerWord.{AnswerWord}
 use Rattle.ak_action.specs.declared.state.DeskState.{DeskState}
 use Rattle.ak_desk.specs.declared.entry.DeskEvent.{DeskEvent}
@@ -17,26 +17,29 @@ use Rattle.ak_desk.specs.declared.entry.EntryRoute.TheVariants as went
 use Rattle.ak_desk.specs.Dispatch.{entry_route}
 use Rattle.ak_desk.specs.Entry.{EntryData}
 use Rattle.ak_desk.specs.Laws.{HasOneReply}
-use Rattle.ak_desk.specs.Machine.{Dispatches, IsHistory, dispatches}
+use Rattle.ak_desk.specs.Machine.{Dispatches, IsHistory, dispatches, paired}
 use Rattle.ak_desk.specs.Place.{routed_of}
 use Rattle.ak_desk.specs.Shared as desks
 use Rattle.ak_desk.specs.Shared.{LeadsOn}
 use Rattle.ak_diary.specs.Diary.{IsDiary}
-use Rattle.ak_diary.specs.Looper.{LooperFacts, in_hand, thread_of}
+use Rattle.ak_diary.specs.Looper.{LooperFacts, in_hand, taken_in, thread_of}
 use Rattle.ak_diary.specs.Step.{Step, desk_entries, port_entries}
 use Rattle.ak_diary.specs.Turns.{left_at}
 
 -- ---- what is spoken of
--- the message of a dispatch, with its position; an edit is of none
-abbrev pub dispatched_item : DeskEvent → Option ItemData → List Taken
-dispatched_item (desk_event.Dispatched position route words quit) (Some item) = record { position = position; item = item } ∷ []
-dispatched_item (desk_event.Dispatched position route words quit) None = []
-dispatched_item (desk_event.Edited edit answer) item = []
+-- the message of a dispatch: of those that the port accepted, the one at the position that the entry tells; an edit is of none
+abbrev pub listed : Option Taken → List Taken
+listed None = []
+listed (Some taken) = taken ∷ []
 
--- the messages that the entries of a desk's list dispatched, in order
-abbrev pub dispatched_items : List EntryData → List Taken
-dispatched_items [] = []
-dispatched_items (entry ∷ entries) = dispatched_item entry.plain.event entry.item ++ dispatched_items entries
+abbrev pub dispatched_item : List Taken → DeskEvent → List Taken
+dispatched_item accepted (desk_event.Dispatched position route words quit) = listed (slice_get accepted position)
+dispatched_item accepted (desk_event.Edited edit answer) = []
+
+-- the messages that the entries of a desk's list dispatched, in order, where the port accepted these
+abbrev pub dispatched_items : List Taken → List EntryData → List Taken
+dispatched_items accepted [] = []
+dispatched_items accepted (entry ∷ entries) = dispatched_item accepted entry.plain.event ++ dispatched_items accepted entries
 
 -- the messages that the looper left: what it had in hand at its end, and then the rest of its port
 abbrev pub left_in : (l : LooperFacts) (steps : List Step) → IsDiary l steps → List Taken
@@ -68,14 +71,16 @@ pub record TakesRestOnce (rest : Noted PortEntry) (count : ℕ) (port : List Por
 
 pub record IsAccountedFor (l : LooperFacts) (steps : List Step) (diary : IsDiary l steps) (port : List PortEntry) (desk : List EntryData) : Type 0 where
   -- the messages that the looper dispatched, followed by those that it left, are exactly those that its port accepted, in order and each once
-  pub accepted : written_in port ≡ dispatched_items desk ++ left_in l steps diary
+  pub accepted : written_in port ≡ dispatched_items (written_in port) desk ++ left_in l steps diary
   -- so the two lists tell which they are
-  pub dispatched : dispatched_items desk ≡ take (dispatches desk) (written_in port)
+  pub dispatched : dispatched_items (written_in port) desk ≡ take (dispatches desk) (written_in port)
   pub left : left_in l steps diary ≡ drop (dispatches desk) (written_in port)
-  pub many : length (dispatched_items desk) ≡ dispatches desk
+  pub many : length (dispatched_items (written_in port) desk) ≡ dispatches desk
   pub most : dispatches desk ≤ length (written_in port)
   -- it took the rest once
   pub rest : TakesRestOnce diary.ends.noted diary.ends.count port
+  -- so what its port accepted are the messages that it took one at a time, and then that rest
+  pub took : written_in port ≡ taken_in l diary.work ++ handed_at diary.ends.noted
   -- and had nothing in hand then: all that it had taken before, it had dispatched
   pub none_in_hand : in_hand l diary.work ≡ []
   pub taken_before : (state_of diary.ends.noted.before).taken ≡ dispatches desk
@@ -98,12 +103,13 @@ pub record WasGivenUp (meets : DeskState) (r : EntryRoute) (words : List AnswerW
   pub unchanged : leaves ≡ meets
 
 -- by the looper's own thread; of the message that its port accepted at that position, which is how many were dispatched before; with the
--- handlers as the list up to there makes them, and as it makes them with this entry; and exactly one reply goes with it
+-- handlers as the list up to there makes them, and as it makes them with this entry; and exactly one reply goes with it. The entry is
+-- paired with that message; with none where it was given up
 pub record IsDispatchedSo (l : LooperFacts) (port : List PortEntry) (before : List EntryData) (entry : EntryData) (position : ℕ) (r : EntryRoute) (words : List AnswerWord) (quit : Bool) : Type 0 where
   pub by : entry.plain.by.0 ≡ thread_of l
   pub position_is : position ≡ dispatches before
   pub item : ItemData
-  pub item_is : entry.item ≡ Some item
+  pub item_is : entry.item ≡ paired r item
   pub accepted : slice_get (written_in port) position ≡ Some (record { position = position; item = item })
   pub meets : DeskState
   pub leaves : DeskState

@@ -179,7 +179,7 @@ pub record GivenUp (opening : DeskState) (taken : Taken) (asked : List Want) (he
   pub clock : Clock
   pub later : Clock
   pub state : DeskState
-  pub given_up : HasGivenUp clock later taken.position taken.item opening state n.before (n.before ++ n.entry ∷ []) made
+  pub given_up : HasGivenUp clock later taken.position opening state n.before (n.before ++ n.entry ∷ []) made
   pub asked_none : asked ≡ []
   pub heard_none : heard ≡ []
 

@@ -22,7 +22,7 @@ use Rattle.ak_port.specs.declared.reply_entry.ReplyEntry.{ReplyEntry}
 use Rattle.ak_port.specs.PortCalls as ports
 use Rattle.ak_port.specs.PortCalls.{PortData}
 use Rattle.ak_port.specs.PortMachine.{IsPort}
-use Rattle.ak_port.specs.Reply.{IsLegal}
+use Rattle.ak_port.specs.Reply.{HasFlatText, IsLegal}
 use Rattle.ak_port.specs.ReplySeats as books
 use Rattle.ak_port.specs.ReplySeats.{ReplySeat}
 use Rattle.ak_action.specs.declared.state.DeskState.{DeskState}
@@ -391,6 +391,7 @@ module _ (heads : List AppHead) (main : RosterSeat) (at_book : ReplySeat) (js la
     histories = record {
       roster = subst (IsHistory heads) (sym g.h_roster) (history heads main at_book js later roster book h all g);
       book = subst IsLegal (sym g.h_book) g.of_book.legal;
+      texts = subst (λ (entries : List ReplyEntry). All (λ (entry : ReplyEntry). HasFlatText entry.event) entries) (sym g.h_book) g.of_book.texts;
       ports = all_ports later h.ports.items h.desks.items g.kept;
       desks = all_desks later h.ports.items h.desks.items g.kept;
       each = as_many_desks later h.ports.items h.desks.items g.kept ∙ sym (as_many_ports later h.ports.items h.desks.items g.kept);

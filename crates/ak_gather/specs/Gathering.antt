@@ -14,7 +14,7 @@ use Rattle.ak_roster.specs.Machine.{IsHistory}
 use Rattle.ak_roster.specs.Roster.{AreKept, IsAtRest, RosterData, objects_of, plain_entries, state}
 use Rattle.ak_port.specs.declared.port_entry.PortEntry.{PortEntry}
 use Rattle.ak_port.specs.declared.reply_entry.ReplyEntry.{ReplyEntry}
-use Rattle.ak_port.specs.Reply.{IsLegal}
+use Rattle.ak_port.specs.Reply.{HasFlatText, IsLegal}
 use Rattle.ak_port.specs.PortCalls as ports
 use Rattle.ak_port.specs.PortCalls.{PortData, PortSeat}
 use Rattle.ak_port.specs.ReplySeats as books
@@ -209,6 +209,7 @@ pub record IsPortOf (seat : PortSeat) (port : PortData) : Type 0 where
 
 pub record IsBookOf (seat : ReplySeat) (book : List ReplyEntry) : Type 0 where
   pub legal : IsLegal book
+  pub texts : All (λ (entry : ReplyEntry). HasFlatText entry.event) book
   pub known : KnowsAll books.maker_of seat book
   pub named : (names : List ℕ) → seat.names ≡ Some names → All (λ (entry : ReplyEntry). Contains names (books.maker_of entry)) book
   pub ends : seat.thread ≡ main_thread → EndsByOthers books.maker_of seat.front book

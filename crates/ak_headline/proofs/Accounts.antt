@@ -46,13 +46,13 @@ pub record Account (h : Histories) (short : List ℕ) (n k : ℕ) : Type 0 where
   pub steps : List Step
   pub left : List Taken
   pub told : IsToldBy h (looper_thread k) steps
-  pub tally : Tally n (desk_list h k) left steps
-  pub accepted : writes_at h n k ≡ sent_on_in n (desk_list h k) + (kept_in n (desk_list h k) + owing_in n left)
+  pub tally : Tally n (written_in (port_list h k)) (desk_list h k) left steps
+  pub accepted : writes_at h n k ≡ sent_on_in n (desk_list h k) + (kept_in n (written_in (port_list h k)) (desk_list h k) + owing_in n left)
   pub up : SendsUp n k (desk_list h k) steps
   pub sends : SendsSo n k (desk_list h k) steps
   pub off : (entry : EntryData) → Contains (desk_list h k) entry → owes_entry n entry ≡ true → was_sent_on entry ≡ true → IsOff h n k entry
   pub legal : (taker : ℕ) × AreSteps taker unmade (port_list h k)
-  pub became : (at : ℕ) (other : ItemData) → IsAccepted h n k at other → RestsAt n (desk_list h k) left at ⊎ HasGone h n k at other
+  pub became : (at : ℕ) (other : ItemData) → IsAccepted h n k at other → RestsAt n (written_in (port_list h k)) (desk_list h k) left at ⊎ HasGone h n k at other
   pub paid : (text : List ℕ) (x : Noted ReplyEntry) → Contains (book_entries steps) x → x.entry.event ≡ slot.Filled n text → IsPaid h short n k left text
 
 -- ---- what all of them come to
@@ -63,7 +63,7 @@ abbrev pub in_book_by : Histories → ℕ → (ReplyEvent → Bool) → ℕ
 in_book_by h thread does = made_so books.maker_of (λ (entry : ReplyEntry). does entry.event) thread h.book
 
 abbrev pub rested_in : (h : Histories) (short : List ℕ) (n : ℕ) → ((k : ℕ) → Account h short n k) → ℕ → ℕ
-rested_in h short n accounts k = kept_in n (desk_list h k) + owing_in n (accounts k).left
+rested_in h short n accounts k = kept_in n (written_in (port_list h k)) (desk_list h k) + owing_in n (accounts k).left
 
 -- one thread opened the slot and took from it
 pub record HasAsked (h : Histories) (n : ℕ) : Type 0 where
@@ -112,11 +112,11 @@ module _ (h : Histories) (k : ℕ) (none : length h.ports.items ≤ k) where
       at_ports = λ looper. noted_none ports.by_number (port_list h looper) count few (port_makers looper);
       book_seen = All-nil (StartsWith h.book);
     };
-    tally = subst (λ (desk : List EntryData). Tally n desk [] []) (sym (no_desk each))
+    tally = subst (λ (desk : List EntryData). Tally n (written_in (port_list h k)) desk [] []) (sym (no_desk each))
         (record { asks = 0; sent = refl; opened = omega arith; took = refl; filled = omega arith; settled = inl refl });
     accepted =
         ap (how_many (λ (entry : PortEntry). writes_owing n entry.event)) no_port
-        ∙ ap (λ (desk : List EntryData). sent_on_in n desk + (kept_in n desk + owing_in n [])) (sym (no_desk each));
+        ∙ ap (λ (desk : List EntryData). sent_on_in n desk + (kept_in n (written_in (port_list h k)) desk + owing_in n [])) (sym (no_desk each));
     up = λ looper least none_taken. refl;
     sends = subst (λ (desk : List EntryData). SendsSo n k desk []) (sym (no_desk each)) (sends_nothing n k (λ looper. ⊥) 0 [] (add_none (λ looper. ⊥) n));
     off = λ entry there owed sent_on. absurd (none_in entry (subst (λ (desk : List EntryData). Contains desk entry) (no_desk each) there));

@@ -83,7 +83,7 @@ module _ (n : ℕ) where
   session_adds steps diary = all_add IsSessionAct (λ so_far act does. act_adds SessionMayEnterPort SessionMayEnterRoster (idle_session n) act does.does) steps diary
 
 -- such a diary tallies, without a desk
-tally_of : (n : ℕ) (steps : List Step) → Adds NoLooper n 0 0 steps → Tally n [] [] steps
+tally_of : (n : ℕ) (steps : List Step) → Adds NoLooper n 0 0 steps → Tally n [] [] [] steps
 tally_of n steps a = record { asks = a.asks; sent = a.sent_are; opened = a.opened; took = a.took; filled = a.most; settled = a.settled }
 
 pub main_tallies : MainTallies

@@ -31,7 +31,7 @@ told_by h thread steps done = record { at_book = done.at_book; at_ports = done.a
 -- it asked and took, and neither sent on nor filled; where it saw the book without an entry it had opened a slot; no steps are told of a number past them
 pub record Client (h : Histories) (n count k : ℕ) : Type 0 where
   pub steps : List Step
-  pub tally : Tally n [] [] steps
+  pub tally : Tally n [] [] [] steps
   pub sends : SendsSo n 0 [] steps
   pub looks : Idle steps
   pub told : k < count → IsToldBy h k steps

@@ -1,5 +1,5 @@
 -- How many things of a list meet a test, and which.
-use Rattle.std.proofs.Common.{◌≡◌, ℕ, zero, suc, ◌+◌, ◌≤◌, Bool, true, false, cond, List, [], ◌∷◌, ◌++◌, length, map, filter, Contains, Some, slice_get, length-append, refl, sym, ap, ◌∙◌, arith}
+use Rattle.std.proofs.Common.{◌≡◌, ℕ, zero, suc, ◌+◌, ◌≤◌, Bool, true, false, cond, List, [], ◌∷◌, ◌++◌, length, map, filter, Contains, Some, slice_get, length-append, append_assoc, refl, sym, ap, ◌∙◌, arith}
 use Rattle.std.proofs.lemmas.List.Elements.{filter-append}
 use Rattle.ak_headline.specs.Tally.{how_many}
 
@@ -27,6 +27,18 @@ module _ {X : Type 0} where
   how_many_parts test a b parts [] = omega arith
   how_many_parts test a b parts (x ∷ xs) =
       omega (arith, how_many-cons test x xs, how_many-cons a x xs, how_many-cons b x xs, parts x, how_many_parts test a b parts xs)
+
+  -- two tests that are the same of each thing that is there
+  same_from : (a b : X → Bool) (before xs : List X) → ((front : List X) (x : X) (behind : List X) → before ++ xs ≡ front ++ x ∷ behind → a x ≡ b x) → how_many a xs ≡ how_many b xs
+  same_from a b before [] same = refl
+  same_from a b before (x ∷ xs) same =
+      let here : one_if (a x) ≡ one_if (b x) = ap one_if (same before x xs refl) in
+      let rest : how_many a xs ≡ how_many b xs =
+      same_from a b (before ++ x ∷ []) xs (λ front y behind is. same front y behind (sym (append_assoc before (x ∷ []) xs) ∙ is)) in
+      omega (arith, how_many-cons a x xs, how_many-cons b x xs, here, rest)
+
+  pub same_many : (a b : X → Bool) (xs : List X) → ((front : List X) (x : X) (behind : List X) → xs ≡ front ++ x ∷ behind → a x ≡ b x) → how_many a xs ≡ how_many b xs
+  same_many a b xs same = same_from a b [] xs same
 
   -- ---- tests one after the other
   filter_if : (test : X → Bool) (b : Bool) (x : X) (xs : List X) → filter test (cond b (x ∷ xs) xs) ≡ cond b (cond (test x) (x ∷ filter test xs) (filter test xs)) (filter test xs)

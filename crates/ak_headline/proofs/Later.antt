@@ -29,13 +29,13 @@ dispatch_keeps : (s : DeskState) (item : ItemData) (words : List AnswerWord) (qu
 dispatch_keeps s item words quit t d = ap (λ (x : DeskState). x.looper) (sym d.state_is) ∙ looper_stays s (routed_of s item).message (routed_of s item).route d.answers d.memory
 
 step_keeps : (s : DeskState) (r : EntryRoute) (item : Option ItemData) (words : List AnswerWord) (quit : Bool) (t : DeskState) → DispatchStep s r item words quit t → t.looper ≡ s.looper
-step_keeps s went.NoMemory None words quit t d = absurd d
+step_keeps s went.NoMemory None words quit t d = ap (λ (x : DeskState). x.looper) d.1.1
 step_keeps s (went.To token) None words quit t d = absurd d
 step_keeps s went.Skipped None words quit t d = absurd d
 step_keeps s went.Dropped None words quit t d = absurd d
 step_keeps s went.NotUnderstood None words quit t d = absurd d
 step_keeps s (went.Forward looper) None words quit t d = absurd d
-step_keeps s went.NoMemory (Some item) words quit t d = ap (λ (x : DeskState). x.looper) d.1.1
+step_keeps s went.NoMemory (Some item) words quit t d = absurd d
 step_keeps s (went.To token) (Some item) words quit t d = dispatch_keeps s item words quit t d.1
 step_keeps s went.Skipped (Some item) words quit t d = dispatch_keeps s item words quit t d.1
 step_keeps s went.Dropped (Some item) words quit t d = dispatch_keeps s item words quit t d.1

@@ -8,6 +8,7 @@ pub mod Counts
 pub mod Filling
 pub mod LastTurn
 pub mod Later
+pub mod Listed
 pub mod Lists
 pub mod Loopers
 pub mod LoopersSeeing

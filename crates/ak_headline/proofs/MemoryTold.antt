@@ -25,9 +25,10 @@ use Rattle.ak_desk.specs.declared.made.Made.{Made}
 use Rattle.ak_desk.specs.Desk.{DeskData, dispatched_entry, given_up_entry}
 use Rattle.ak_desk.specs.Dispatch.{entry_route, ran_out}
 use Rattle.ak_desk.specs.Entry.{EntryData}
-use Rattle.ak_desk.specs.Machine.{IsHistory, dispatches, gives_up}
+use Rattle.ak_desk.specs.Machine.{IsHistory, dispatches, gives_up, paired}
 use Rattle.ak_desk.specs.Place.{routed_of}
 use Rattle.ak_desk.specs.Shared.{by_number}
+use Rattle.ak_desk.proofs.Surface.{paired_routed}
 use Rattle.ak_diary.specs.declared.histories.Histories.{Histories}
 use Rattle.ak_diary.specs.Diary.{Works, begun, went_on}
 use Rattle.ak_diary.specs.Laws.{EachIsDispatchedByRule, IsDispatchedSo, WasGivenUp, WentByRule}
@@ -81,7 +82,7 @@ module _ (opening : DeskState) (taken : Taken) (asked : List Want) (heard : List
 
   given_up_so : GivenUp opening taken asked heard made x → ComesSo taken made x
   given_up_so c =
-      let is : x.entry ≡ given_up_entry x.before c.clock taken.position taken.item = same_last x.before x.entry _ c.given_up.grown in
+      let is : x.entry ≡ given_up_entry x.before c.clock taken.position = same_last x.before x.entry _ c.given_up.grown in
       record {
         route = went.NoMemory;
         words = [];
@@ -243,7 +244,7 @@ went_so opening l port before entry position r words quit is none so =
     absurd (false≢true (sym told.0 ∙ ap (λ (k : EntryRoute). gives_up (event.Dispatched position k words quit)) given_up.route))) so.goes in
     record {
       item = so.item;
-      item_is = so.item_is;
+      item_is = so.item_is ∙ ap (λ (k : EntryRoute). paired k so.item) goes.route ∙ paired_routed so.meets (routed_of so.meets so.item).route so.item;
       meets = so.meets;
       leaves = so.leaves;
       leads_there = subst (λ (s : DeskState). IsHistory s before so.meets) is so.leads_there;

@@ -12,7 +12,7 @@ use Rattle.ak_port.specs.declared.reply_entry.ReplyEvent.{ReplyEvent}
 use Rattle.ak_port.specs.Reply.{IsLegal, IsSettled, fills, takes}
 use Rattle.ak_desk.specs.Laws.{ForwardTellsReply, StateIsOne}
 use Rattle.ak_diary.specs.declared.histories.Histories.{Histories}
-use Rattle.ak_diary.specs.Laws.{AcceptedIsDispatchedThenLeft, EachIsDispatchedByRule, left_in}
+use Rattle.ak_diary.specs.Laws.{AcceptedIsDispatchedThenLeft, EachIsDispatchedByRule}
 use Rattle.ak_diary.specs.Step.{Step, book_sights}
 use Rattle.ak_headline.specs.Answers.{GotOneReply, IsAccepted, WasWithdrawn, cancels, doing, opens}
 use Rattle.ak_headline.specs.Diaries.{LoopersPay, LoopersSendSo, LoopersSendUp, LoopersTally, MainAsksSo, MainTallies, SessionsAskSo, SessionsTally}
@@ -26,10 +26,10 @@ use Rattle.ak_headline.proofs.LoopersSeeing.{all_due, diary_looks}
 use Rattle.ak_headline.proofs.Once.{opened_once, settled_counts}
 use Rattle.ak_headline.proofs.OneReply as replies
 use Rattle.ak_headline.proofs.OneReply.{got_one_reply, made_by_whom}
+use Rattle.ak_headline.proofs.Replies.{port_owing}
 use Rattle.ak_headline.proofs.Seeing.{Found, Idle, IsSightless, Looks, main_looks, many, nothing_due, session_looks}
 use Rattle.ak_headline.proofs.Shares.{IsClientOrLooper}
 use Rattle.ak_headline.proofs.Sums.{total, total_less, total_most, total_none, total_same, total_some, total_sum}
-use Rattle.ak_headline.proofs.Written.{accepted_owing}
 
 -- ---- from the accounts of all threads
 module _ (h : Histories) (short : List ℕ) (n : ℕ) (accounts : (k : ℕ) → Account h short n k) (count : ℕ) (few_clients : count ≤ looper_thread 0) (clients : (k : ℕ) → Client h n count k)
@@ -263,17 +263,16 @@ module _ (all : AcceptedIsDispatchedThenLeft) (law : EachIsDispatchedByRule) (on
     -- ---- a looper
     module _ (k : ℕ) (lt : k < length h.ports.items) (has : HasLooper heads short h k) where
       abbrev its_due : ℕ → ℕ
-      its_due = all_due has.facts has.steps (port_list h k) (desk_list h k) has.diary
+      its_due = all_due all has.facts has.steps (port_list h k) (desk_list h k) has.diary
 
       looper_told : IsToldBy h (looper_thread k) has.steps
       looper_told = told_by h (looper_thread k) has.steps (subst (λ (number : ℕ). HasDone h (looper_thread number) has.steps) has.number_is has.done)
 
       looper_looks : Looks its_due has.steps
-      looper_looks = diary_looks has.facts has.steps (port_list h k) (desk_list h k) has.diary
+      looper_looks = diary_looks all has.facts has.steps (port_list h k) (desk_list h k) has.diary
 
       accepted : (n : ℕ) → writes_at h n k ≡ sent_on_in n (desk_list h k) + its_due n
-      accepted n =
-          accepted_owing n (port_list h k) (desk_list h k) (left_in has.facts has.steps has.diary.legal) (all has.facts has.steps (port_list h k) (desk_list h k) has.diary).accepted
+      accepted n = port_owing all law one forward pay heads short h k has n
 
       fills_less : (n : ℕ) → suc (many (fills n) has.steps) ≤ its_due n → suc (in_book_by h (looper_thread k) (fills n) + sent_on_in n (desk_list h k)) ≤ writes_at h n k
       fills_less n less = omega (arith, less, its n (fills n) (looper_thread k) has.steps looper_told, accepted n)

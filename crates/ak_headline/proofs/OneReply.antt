@@ -31,10 +31,10 @@ use Rattle.ak_headline.proofs.Accounts.{Account, IsEachOnce, account_none, each_
 use Rattle.ak_headline.proofs.Asked.{TheAsk, came, least, same, the_ask, went_on}
 use Rattle.ak_headline.proofs.Clients.{Client, client, told_by}
 use Rattle.ak_headline.proofs.Counts.{filter_both, first_meets, found_of, none_of, one_among, one_of, there_counts}
-use Rattle.ak_headline.proofs.Replies.{HasGone, IsPaid, became, off, paid}
+use Rattle.ak_headline.proofs.Replies.{HasGone, IsPaid, became, off, paid, port_owing}
 use Rattle.ak_headline.proofs.Resting.{RestsAt, rests_counts, rests_once}
 use Rattle.ak_headline.proofs.Shares.{IsClientOrLooper, client_or_looper}
-use Rattle.ak_headline.proofs.Written.{accepted_owing, written_owing}
+use Rattle.ak_headline.proofs.Written.{written_owing}
 
 form_of_fill : (n : ℕ) (e : ReplyEvent) → fills n e ≡ true → (text : List ℕ) × (e ≡ slot.Filled n text)
 form_of_fill n (slot.Opened m) is = absurd (cc is)
@@ -95,25 +95,25 @@ module _ (h : Histories) (short : List ℕ) (n : ℕ) (accounts : (k : ℕ) → 
   at_no_port : (number at : ℕ) (other : ItemData) → IsAccepted h n number at other → length h.ports.items ≤ number → ⊥
   at_no_port number at other is past = let none = ap (λ (port : List PortEntry). slice_get (written_in port) at) (sym (no_port h number past)) ∙ is.accepted in absurd (cc none)
 
-  at_looper : (number at : ℕ) → number ≡ looper → RestsAt n (desk_list h number) (accounts number).left at → at ≡ was_paid.position
+  at_looper : (number at : ℕ) → number ≡ looper → RestsAt n (written_in (port_list h number)) (desk_list h number) (accounts number).left at → at ≡ was_paid.position
   at_looper number at same rests =
-      rests_once n (desk_list h looper) account.left at was_paid.position once.few (subst (λ (k : ℕ). RestsAt n (desk_list h k) (accounts k).left at) same rests) was_paid.rests
+      rests_once n (written_in (port_list h looper)) (desk_list h looper) account.left at was_paid.position once.few (subst (λ (k : ℕ). RestsAt n (written_in (port_list h k)) (desk_list h k) (accounts k).left at) same rests) was_paid.rests
 
-  where_it_rests : (number at : ℕ) (other : ItemData) → IsAccepted h n number at other → RestsAt n (desk_list h number) (accounts number).left at → (number ≡ looper) × (at ≡ was_paid.position)
+  where_it_rests : (number at : ℕ) (other : ItemData) → IsAccepted h n number at other → RestsAt n (written_in (port_list h number)) (desk_list h number) (accounts number).left at → (number ≡ looper) × (at ≡ was_paid.position)
   where_it_rests number at other is rests =
       let within : number < length h.ports.items =
       ⊎_elim (λ (lt : number < length h.ports.items). lt) (λ (past : length h.ports.items ≤ number). absurd (at_no_port number at other is past)) (cases_lt number (length h.ports.items)) in
-      let same = once.alone number within (rests_counts n (desk_list h number) (accounts number).left at rests) in
+      let same = once.alone number within (rests_counts n (written_in (port_list h number)) (desk_list h number) (accounts number).left at rests) in
       (same, at_looper number at same rests)
 
   others : (number at : ℕ) (other : ItemData) → IsAccepted h n number at other → ((number ≡ looper) × (at ≡ was_paid.position)) ⊎ WasSentOn h number at other
   others number at other is =
-      ⊎_elim (λ (rests : RestsAt n (desk_list h number) (accounts number).left at). inl (where_it_rests number at other is rests)) (λ (gone : HasGone h n number at other). inr gone.was)
+      ⊎_elim (λ (rests : RestsAt n (written_in (port_list h number)) (desk_list h number) (accounts number).left at). inl (where_it_rests number at other is rests)) (λ (gone : HasGone h n number at other). inr gone.was)
       ((accounts number).became at other is)
 
   goes_on : (number at : ℕ) (other : ItemData) → IsAccepted h n number at other → ((number ≡ looper) × (at ≡ was_paid.position)) ⊎ WentOn h n number at other
   goes_on number at other is =
-      ⊎_elim (λ (rests : RestsAt n (desk_list h number) (accounts number).left at). inl (where_it_rests number at other is rests))
+      ⊎_elim (λ (rests : RestsAt n (written_in (port_list h number)) (desk_list h number) (accounts number).left at). inl (where_it_rests number at other is rests))
       (λ (gone : HasGone h n number at other). inr (went_on h short n accounts number at other is gone)) ((accounts number).became at other is)
 
   -- the ask
@@ -166,7 +166,7 @@ module _ (all : AcceptedIsDispatchedThenLeft) (law : EachIsDispatchedByRule) (on
           left = left;
           told = told_by h (looper_thread k) has.steps (subst (λ (number : ℕ). HasDone h (looper_thread number) has.steps) has.number_is has.done);
           tally = tally l has.steps (port_list h k) (desk_list h k) has.diary n;
-          accepted = accepted_owing n (port_list h k) (desk_list h k) left (all l has.steps (port_list h k) (desk_list h k) has.diary).accepted;
+          accepted = port_owing all law one forward pay heads short h k has n;
           up = subst (λ (number : ℕ). SendsUp n number (desk_list h k) has.steps) has.number_is (up l has.steps (port_list h k) (desk_list h k) has.diary n);
           sends = subst (λ (number : ℕ). SendsSo n number (desk_list h k) has.steps) has.number_is (so l has.steps (port_list h k) (desk_list h k) has.diary n);
           off = off all law one forward pay heads short h k has n;

@@ -18,7 +18,7 @@ use Rattle.ak_desk.specs.Replies.{none_reply}
 use Rattle.ak_diary.specs.Looper.{LooperFacts, closed_by, is_own}
 use Rattle.ak_diary.specs.Step.{Step, at_book, book_sights, lacked, saw_book, saw_port, saw_roster}
 use Rattle.ak_diary.specs.Turns as turns
-use Rattle.ak_diary.specs.Turns.{Closes, ClosesIf, Fills, LeavesAll, LeavesOne, LeavesRoster, Pays, RepliesBack, Settles, Shuts, ShutsAll, TriesBack, WritesText, is_no_reply}
+use Rattle.ak_diary.specs.Turns.{ClosesIf, Fills, LeavesAll, LeavesOne, LeavesRoster, Pays, RepliesBack, Settles, Shuts, ShutsAll, TriesBack, WritesText, is_no_reply}
 use Rattle.ak_diary.specs.Wants as wants
 use Rattle.ak_diary.specs.Wants.{Through}
 use Rattle.ak_headline.specs.Answers.{owes}

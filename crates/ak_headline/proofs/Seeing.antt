@@ -28,7 +28,7 @@ use Rattle.ak_diary.specs.Step.{Step, at_book, at_desk, at_port, at_roster, book
 use Rattle.ak_diary.specs.Turns as turns
 use Rattle.ak_diary.specs.Turns.{ClosesIf, Fills, LeavesAll, LeavesOne, LeavesRoster, Pays, RepliesBack, Settles, Shuts, ShutsAll, TriesBack, WritesText, is_no_reply}
 use Rattle.ak_diary.specs.Wants as wants
-use Rattle.ak_diary.specs.Wants.{AsksInVain, AsksSo, Converses, EntersPort, ForwardsSo, IsRefusedBy, LooksUp, Opens, OpensFor, PostsSo, Serves, ServesAll, ServesFind, Through, ThroughDoor, Withdraws}
+use Rattle.ak_diary.specs.Wants.{AsksInVain, AsksSo, Converses, EntersPort, ForwardsSo, IsRefusedBy, LooksUp, OpensFor, PostsSo, Serves, ServesAll, ServesFind, Through, ThroughDoor, Withdraws}
 use Rattle.ak_headline.specs.Answers.{cancels, opens, owes}
 use Rattle.ak_headline.specs.Main.{AreActs, IsAct, IsActBy, IsMainDiary, IsSessionAct, IsSessionDiary, asks, asks_in_vain, begun, edits, enters_port, enters_roster, finds_gone, finds_shut, went_on}
 use Rattle.ak_headline.specs.Tally.{at_slot, how_many, owing_in}

@@ -12,13 +12,14 @@ use Rattle.ak_port.specs.declared.port_entry.PortEvent.{PortEvent}
 use Rattle.ak_port.specs.declared.port_entry.PortEvent.TheVariants as event
 use Rattle.ak_port.specs.PortMachine.{AreSteps, unmade, written_in, written_item}
 use Rattle.ak_diary.specs.Step.{Step, at_book, at_port}
+use Rattle.ak_diary.proofs.Surface.{get_parts, position_is}
 use Rattle.ak_headline.specs.Answers.{opens, owes}
 use Rattle.ak_headline.specs.Sends.{HasAsk}
 use Rattle.ak_headline.specs.Tally.{at_slot, how_many, writes_owing}
 use Rattle.ak_headline.proofs.Asking.{at_place, first_if, first_in, later_if}
 use Rattle.ak_headline.proofs.Counts.{same_place, there_counts}
 use Rattle.ak_headline.proofs.Resting.{get_middle}
-use Rattle.ak_headline.proofs.Written.{get_parts, get_second, position_is}
+use Rattle.ak_headline.proofs.Written.{get_second}
 
 -- ---- a list in two parts around one of its things
 module _ {X : Type 0} where

@@ -146,8 +146,8 @@ module _ (later : ForwardIsLater) (law : ResolvingOnlyPops) (l : LooperFacts) (n
     middle_sends : Sends [] middle
     middle_sends = sends_nothing n l.number Below 0 middle (told.middle_adds later l number_is n so_far turn d d.made.no_memory)
 
-    its_owed : owes_entry n entry ≡ owes n d.taken.item.duty
-    its_owed = entry_is_of l.desk d.taken d.asked d.heard d.made d.noted n d.comes
+    its_owed : was_sent_on entry ≡ true → owes_entry n entry ≡ owes n d.taken.item.duty
+    its_owed is = entry_is_of l.desk d.taken d.asked d.heard d.made d.noted n d.comes is
 
     on_so : (w : WroteOn Below n d.taken.item entry.plain.event d.served) → was_sent_on entry ≡ true → owes_entry n entry ≡ true → SendsOn n l.number entry w.looper w.x
     on_so w is owed = record {
@@ -155,7 +155,7 @@ module _ (later : ForwardIsLater) (law : ResolvingOnlyPops) (l : LooperFacts) (n
       sent_on = is;
       to_it = w.to_it;
       item = d.taken.item;
-      item_is = entry_has_item l.desk d.taken d.asked d.heard d.made d.noted d.comes;
+      item_is = entry_has_item l.desk d.taken d.asked d.heard d.made d.noted d.comes is;
       popped = w.popped;
       more = w.more law;
       position = w.position;
@@ -165,7 +165,7 @@ module _ (later : ForwardIsLater) (law : ResolvingOnlyPops) (l : LooperFacts) (n
 
     served_on : WroteOn Below n d.taken.item entry.plain.event d.served → was_sent_on entry ≡ true → Sends (entry ∷ []) d.served
     served_on w is =
-        let same_owed : owes_entry n entry ≡ writes_owing n w.x.entry.event = its_owed ∙ sym (ap (writes_owing n) w.written_is) in
+        let same_owed : owes_entry n entry ≡ writes_owing n w.x.entry.event = its_owed is ∙ sym (ap (writes_owing n) w.written_is) in
         sends_as n l.number (entry ∷ []) (entry ∷ []) (w.door ++ at_port w.looper w.x ∷ []) d.served refl w.is
         (sends_both n l.number [] (entry ∷ []) w.door (at_port w.looper w.x ∷ []) (sends_nothing n l.number Below 0 w.door w.door_adds)
         (sends_one n l.number entry w.looper w.x same_owed (on_so w is)))

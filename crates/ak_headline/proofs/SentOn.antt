@@ -1,6 +1,7 @@
 -- What a dispatched message comes to: it was sent on, to a later looper, and nothing is replied; or there is a reply, and no item was written that owes what it owes.
 use Rattle.std.proofs.Common.{◌≡◌, ℕ, ◌+◌, ◌≤◌, Bool, true, false, List, [], ◌∷◌, ◌++◌, Option, None, Some, refl, sym, ap, ◌∙◌, subst, append-nil, ⊎_elim}
-use Rattle.std.specs.Prelude.{option_map}
+use Rattle.std.specs.Prelude.{option_map, slice_get}
+use Rattle.std.proofs.lemmas.Bool.{false≢true}
 use Rattle.ak_base.specs.declared.error.KitError.TheVariants as error
 use Rattle.ak_message.specs.Message.{MessageData}
 use Rattle.ak_flatten.specs.Item.{ItemData}
@@ -32,10 +33,11 @@ use Rattle.ak_diary.specs.Looper.{LooperFacts}
 use Rattle.ak_diary.specs.Step.{Step, at_port}
 use Rattle.ak_diary.specs.Turns.{Carried, ComesTo, GivenUp}
 use Rattle.ak_diary.specs.Wants as wants
-use Rattle.ak_diary.specs.Wants.{EntersPort, ForwardsSo, Serves, ServesAll, Through, ThroughDoor, forwarded_item}
+use Rattle.ak_diary.specs.Wants.{EntersPort, ForwardsSo, ServesAll, Through, ThroughDoor, forwarded_item}
+use Rattle.ak_diary.proofs.Surface.{DispatchesIt, comes_to_it}
 use Rattle.ak_headline.specs.Answers.{owes}
 use Rattle.ak_headline.specs.Sends.{sent_to}
-use Rattle.ak_headline.specs.Tally.{owes_entry, sent_on_event, was_sent_on, writes_owing}
+use Rattle.ak_headline.specs.Tally.{owes_at, owes_entry, owes_event, owes_listed, sent_on_event, was_sent_on, writes_owing}
 use Rattle.ak_headline.proofs.Counting.{Adds, add_as, add_before, add_empty, add_sent_on, bit}
 use Rattle.ak_headline.proofs.Later.{pops_more}
 use Rattle.ak_headline.proofs.Lists.{same_last}
@@ -162,22 +164,33 @@ module _ (Below : ℕ → Type 0) (n : ℕ) where
 
     given_up_goes : ServesAll l so_far taken.item asked heard served → GivenUp l.desk taken asked heard made x → Goes taken.item x.entry.plain.event made.reply served
     given_up_goes serves c =
-        let is : x.entry ≡ given_up_entry x.before c.clock taken.position taken.item = same_last x.before x.entry _ c.given_up.grown in
+        let is : x.entry ≡ given_up_entry x.before c.clock taken.position = same_last x.before x.entry _ c.given_up.grown in
         stays (ap was_sent_on is) (record { message = none_reply; is = ap (λ (k : Made). k.reply) c.given_up.made_is }) (add_empty Below n served (nothing_served c.asked_none c.heard_none serves))
 
     pub comes_goes : GoesLater → ServesAll l so_far taken.item asked heard served → ComesTo l.desk taken asked heard made x → Goes taken.item x.entry.plain.event made.reply served
     comes_goes later serves comes =
         ⊎_elim (λ (c : Carried l.desk taken asked heard made x). carried_goes later serves c) (λ (c : GivenUp l.desk taken asked heard made x). given_up_goes serves c) comes
 
-pub entry_has_item : (opening : DeskState) (taken : Taken) (asked : List Want) (heard : List Answer) (made : Made) (x : Noted EntryData) → ComesTo opening taken asked heard made x → x.entry.item ≡ Some taken.item
-entry_has_item opening taken asked heard made x comes =
+-- ---- its entry
+-- where the message was sent on, the entry has it
+pub entry_has_item : (opening : DeskState) (taken : Taken) (asked : List Want) (heard : List Answer) (made : Made) (x : Noted EntryData) → ComesTo opening taken asked heard made x → was_sent_on x.entry ≡ true → x.entry.item ≡ Some taken.item
+entry_has_item opening taken asked heard made x comes sent =
     ⊎_elim
     (λ (c : Carried opening taken asked heard made x). ap (λ (e : EntryData). e.item) (same_last x.before x.entry (dispatched_entry x.before c.clock taken.position taken.item c.before c.dispatched.words c.dispatched.quit) c.dispatched.grown))
-    (λ (c : GivenUp opening taken asked heard made x). ap (λ (e : EntryData). e.item) (same_last x.before x.entry (given_up_entry x.before c.clock taken.position taken.item) c.given_up.grown)) comes
+    (λ (c : GivenUp opening taken asked heard made x).
+    let is : x.entry ≡ given_up_entry x.before c.clock taken.position = same_last x.before x.entry _ c.given_up.grown in
+    absurd (false≢true (sym (ap was_sent_on is) ∙ sent))) comes
 
--- its entry is that of the item
-pub entry_is_of : (opening : DeskState) (taken : Taken) (asked : List Want) (heard : List Answer) (made : Made) (x : Noted EntryData) (n : ℕ) → ComesTo opening taken asked heard made x → owes_entry n x.entry ≡ owes n taken.item.duty
-entry_is_of opening taken asked heard made x n comes =
-    ⊎_elim
-    (λ (c : Carried opening taken asked heard made x). ap (owes_entry n) (same_last x.before x.entry (dispatched_entry x.before c.clock taken.position taken.item c.before c.dispatched.words c.dispatched.quit) c.dispatched.grown))
-    (λ (c : GivenUp opening taken asked heard made x). ap (owes_entry n) (same_last x.before x.entry (given_up_entry x.before c.clock taken.position taken.item) c.given_up.grown)) comes
+-- and owes what the message owes
+pub entry_is_of : (opening : DeskState) (taken : Taken) (asked : List Want) (heard : List Answer) (made : Made) (x : Noted EntryData) (n : ℕ) → ComesTo opening taken asked heard made x → was_sent_on x.entry ≡ true
+    → owes_entry n x.entry ≡ owes n taken.item.duty
+entry_is_of opening taken asked heard made x n comes sent =
+    let it : DispatchesIt taken x.entry = comes_to_it opening taken asked heard made x comes in
+    (λ i. owes_event n (it.event_is i) (entry_has_item opening taken asked heard made x comes sent i))
+
+-- by its position, each entry owes what its message owes
+pub place_is_of : (opening : DeskState) (taken : Taken) (asked : List Want) (heard : List Answer) (made : Made) (x : Noted EntryData) (n : ℕ) (accepted : List Taken) → slice_get accepted taken.position ≡ Some taken
+    → ComesTo opening taken asked heard made x → owes_at n accepted x.entry.plain.event ≡ owes n taken.item.duty
+place_is_of opening taken asked heard made x n accepted listed comes =
+    let it : DispatchesIt taken x.entry = comes_to_it opening taken asked heard made x comes in
+    ap (owes_at n accepted) it.event_is ∙ ap (owes_listed n) listed

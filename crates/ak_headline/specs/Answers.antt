@@ -21,7 +21,7 @@ use Rattle.ak_desk.specs.declared.entry.EntryRoute.TheVariants as went
 use Rattle.ak_desk.specs.Desk.{DeskData}
 use Rattle.ak_desk.specs.Dispatch.{fitting}
 use Rattle.ak_desk.specs.Entry.{EntryData}
-use Rattle.ak_desk.specs.Machine.{IsHistory, StepReplies, dispatches}
+use Rattle.ak_desk.specs.Machine.{IsHistory, StepReplies, dispatches, paired}
 use Rattle.ak_diary.specs.declared.histories.Histories.{Histories}
 use Rattle.ak_diary.specs.Wants.{forwarded_item}
 use Rattle.ak_headline.specs.Run.{desk_list, port_list}
@@ -39,8 +39,9 @@ pub record IsAccepted (h : Histories) (n looper position : ℕ) (item : ItemData
   pub owed : item.duty ≡ duty.Slot n
 
 -- ---- what became of an item
--- The looper's desk has the dispatch of the item at that position. By the rules, for the handlers that the list before it leads to, that is
--- the reply that goes with it, and no other; none where it was sent on
+-- The looper's port accepted the item at that position, and its desk has the dispatch of that position, which is paired with the item, or with
+-- none where there was no memory to begin with it. By the rules, for the handlers that the list before it leads to, that is the reply that goes
+-- with it, and no other; none where it was sent on
 pub record IsDispatchOf (h : Histories) (looper position : ℕ) (item : ItemData) (reply : Option MessageData) : Type 0 where
   pub before : List EntryData
   pub entry : EntryData
@@ -50,7 +51,8 @@ pub record IsDispatchOf (h : Histories) (looper position : ℕ) (item : ItemData
   pub words : List AnswerWord
   pub quit : Bool
   pub event_is : entry.plain.event ≡ desk_event.Dispatched position route words quit
-  pub item_is : entry.item ≡ Some item
+  pub item_is : entry.item ≡ paired route item
+  pub item_at : slice_get (written_in (port_list h looper)) position ≡ Some (record { position = position; item = item })
   pub opening : DeskState
   pub opened : option_map (λ (desk : DeskData). desk.opening) (slice_get h.desks.items looper) ≡ Some opening
   pub meets : DeskState

@@ -1,14 +1,15 @@
 -- A run that ended: its lists, and the diaries of all threads that made them.
-use Rattle.std.specs.Prelude.{◌≡◌, ◌<◌, ◌≤◌, ◌==◌, ◌⊎◌, ℕ, List, [], length, All, Any, Some, option_map, slice_get, unwrap_or, true, AllPairs}
+use Rattle.std.specs.Prelude.{◌≡◌, ◌≢◌, ◌<◌, ◌≤◌, ◌==◌, ◌⊎◌, ◌+◌, ℕ, List, [], ◌∷◌, ◌++◌, length, All, Any, Some, option_map, slice_get, unwrap_or, true, AllPairs}
 use Rattle.std.specs.List.{list_any}
 use Rattle.ak_base.specs.Thread.{looper_thread, main_thread}
 use Rattle.ak_base.specs.declared.app_word.AppWord.{AppWord}
 use Rattle.ak_turn.specs.Entries.{StartsWith}
-use Rattle.ak_turn.specs.Noted.{noted}
+use Rattle.ak_turn.specs.Noted.{Noted, noted}
 use Rattle.ak_roster.specs.declared.head.AppHead.{AppHead}
 use Rattle.ak_roster.specs.declared.entry.RosterEntry.{RosterEntry}
 use Rattle.ak_roster.specs.declared.entry.RosterEvent.TheVariants as roster_event
 use Rattle.ak_roster.specs.declared.entry.LaunchOutcome.TheVariants as launch
+use Rattle.ak_roster.specs.Kept.{count_of}
 use Rattle.ak_roster.specs.Machine.{loopers_at, state_of}
 use Rattle.ak_port.specs.declared.port_entry.PortEntry.{PortEntry}
 use Rattle.ak_port.specs.declared.reply_entry.ReplyEntry.{ReplyEntry}
@@ -16,12 +17,13 @@ use Rattle.ak_port.specs.PortCalls as ports
 use Rattle.ak_port.specs.PortCalls.{PortData}
 use Rattle.ak_port.specs.ReplySeats as books
 use Rattle.ak_desk.specs.Desk.{DeskData}
+use Rattle.ak_desk.specs.Desk as desks
 use Rattle.ak_desk.specs.Entry.{EntryData}
 use Rattle.ak_diary.specs.declared.histories.Histories.{Histories}
 use Rattle.ak_diary.specs.Histories.{AreHistories}
 use Rattle.ak_diary.specs.Laws.{HasDiary}
 use Rattle.ak_diary.specs.Looper.{LooperFacts, thread_of, is_of_team}
-use Rattle.ak_diary.specs.Step.{AreStamped, Step, book_entries, book_sights, port_entries, port_sights, ran_short, roster_entries, roster_sights, desk_entries}
+use Rattle.ak_diary.specs.Step.{AreStamped, Step, at_desk, book_entries, book_sights, port_entries, port_sights, ran_short, roster_entries, roster_sights, desk_entries}
 use Rattle.ak_headline.specs.Main.{IsMainDiary, IsSessionDiary}
 
 -- ---- the lists of a run
@@ -84,6 +86,33 @@ pub record HasSession (h : Histories) (number : ℕ) : Type 0 where
   pub diary : IsSessionDiary steps
   pub done : HasDone h number steps
 
+-- ---- the edits of main
+-- how many loopers these entries at the roster started; they are numbered on from 0
+abbrev pub started_by : List AppHead → List (Noted RosterEntry) → ℕ
+started_by heads [] = 0
+started_by heads (n ∷ notes) = count_of heads n.entry.event + started_by heads notes
+
+-- main edits the handlers of those loopers alone that its own launches had started
+abbrev pub EditsStarted : List AppHead → List Step → Type 0
+EditsStarted heads steps =
+    (before : List Step) (looper : ℕ) (n : Noted EntryData) (behind : List Step) → steps ≡ before ++ at_desk looper n ∷ behind
+    → looper < started_by heads (roster_entries before)
+
+-- ---- behind a session
+-- behind each entry that main made past that time stands none of the thread
+module _ {L : Type 0} (by stamp : L → ℕ) where
+  abbrev pub StandsBehind : ℕ → ℕ → List L → Type 0
+  StandsBehind time thread entries =
+      (before : List L) (entry : L) (behind : List L) → entries ≡ before ++ entry ∷ behind
+      → by entry ≡ main_thread → time < stamp entry → All (λ (e : L). by e ≢ thread) behind
+
+-- each entry that main made past that time stands, in the list of its object, behind all that the session of that number made there
+pub record MainIsBehind (h : Histories) (time number : ℕ) : Type 0 where
+  pub at_roster : StandsBehind roster_maker (λ (entry : RosterEntry). entry.stamp) time number h.roster.items
+  pub at_book : StandsBehind books.maker_of (λ (entry : ReplyEntry). entry.stamp) time number h.book
+  pub at_ports : (looper : ℕ) → StandsBehind ports.by_number ports.stamp_number time number (port_list h looper)
+  pub at_desks : (looper : ℕ) → StandsBehind desk_maker desks.stamp_number time number (desk_list h looper)
+
 -- ---- the run
 -- a thread of the run: main, or that of a looper
 abbrev pub IsOfRun : Histories → ℕ → Type 0
@@ -98,9 +127,9 @@ abbrev pub ActsIn : Histories → ℕ → ℕ → Type 0
 ActsIn h sessions thread = IsOfRun h thread ⊎ IsSession sessions thread
 
 -- Each list is one that its object's machine allows; there are a port and a desk for each looper that was started, and no others. Each
--- looper has its diary, and so have main, whose stamps are due from 0 on, and each session, whose numbers are below those of the loopers' threads;
--- no other thread made an entry at the roster, at the reply book, at a port or at a desk. Those that found no memory are loopers of the run, in
--- order, and each once
+-- looper has its diary, and so have main, whose stamps are due from 0 on and who edits the handlers of started loopers alone, and each session,
+-- whose numbers are below those of the loopers' threads; no other thread made an entry at the roster, at the reply book, at a port or at a desk.
+-- Those that found no memory are loopers of the run, in order, and each once
 pub record IsRunWith (sessions : ℕ) (heads : List AppHead) (short : List ℕ) (h : Histories) : Type 0 where
   pub histories : AreHistories heads h
   pub all : length h.ports.items ≡ length (state_of heads h.roster.items).loopers
@@ -111,6 +140,7 @@ pub record IsRunWith (sessions : ℕ) (heads : List AppHead) (short : List ℕ) 
   pub main_diary : IsMainDiary main
   pub main_stamped : AreStamped 0 main
   pub main_done : HasDone h main_thread main
+  pub main_edits : EditsStarted heads main
   pub few_sessions : sessions < looper_thread 0
   pub each_session : (number : ℕ) → IsSession sessions number → HasSession h number
   pub roster_makers : All (λ (entry : RosterEntry). ActsIn h sessions entry.by.0) h.roster.items

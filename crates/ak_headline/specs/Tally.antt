@@ -1,5 +1,5 @@
 -- How often a thread's diary speaks of a slot.
-use Rattle.std.specs.Prelude.{◌≡◌, ◌+◌, ◌≤◌, ◌==◌, ◌&&◌, ◌⊎◌, not, ℕ, Bool, true, false, List, [], ◌∷◌, ◌++◌, Any, Contains, filter, length, Option, Some}
+use Rattle.std.specs.Prelude.{◌≡◌, ◌+◌, ◌≤◌, ◌==◌, ◌&&◌, ◌⊎◌, not, ℕ, Bool, true, false, List, [], ◌∷◌, ◌++◌, Any, Contains, filter, length, Option, None, Some, slice_get}
 use Rattle.ak_base.specs.declared.error.KitError.TheVariants as error
 use Rattle.ak_message.specs.Message.{MessageData}
 use Rattle.ak_flatten.specs.declared.item.Taken.{Taken}
@@ -21,7 +21,7 @@ use Rattle.ak_desk.specs.declared.entry.EntryRoute.{EntryRoute}
 use Rattle.ak_desk.specs.declared.entry.EntryRoute.TheVariants as went
 use Rattle.ak_desk.specs.Dispatch.{fitting}
 use Rattle.ak_desk.specs.Entry.{EntryData}
-use Rattle.ak_desk.specs.Machine.{IsHistory, StepReplies, dispatches}
+use Rattle.ak_desk.specs.Machine.{IsHistory, StepReplies, dispatches, paired}
 use Rattle.ak_diary.specs.Step.{Step, at_book, at_port, book_entries, book_sights, ran_short}
 use Rattle.ak_headline.specs.Answers.{cancels, opens, owes}
 
@@ -56,6 +56,15 @@ owes_event n _ _ = false
 abbrev pub owes_entry : ℕ → EntryData → Bool
 owes_entry n entry = owes_event n entry.plain.event entry.item
 
+-- the message of a dispatch, by its position among those that the port accepted: so it is told of one that was given up, too
+abbrev pub owes_listed : ℕ → Option Taken → Bool
+owes_listed n (Some taken) = owes n taken.item.duty
+owes_listed n None = false
+
+abbrev pub owes_at : ℕ → List Taken → DeskEvent → Bool
+owes_at n accepted (desk_event.Dispatched position route words quit) = owes_listed n (slice_get accepted position)
+owes_at n accepted (desk_event.Edited edit answer) = false
+
 -- a dispatch whose message was sent on, and written
 abbrev pub sent_on_event : DeskEvent → Bool
 sent_on_event (desk_event.Dispatched position (went.Forward looper) (word.Error error.Ok ∷ []) quit) = true
@@ -64,26 +73,26 @@ sent_on_event _ = false
 abbrev pub was_sent_on : EntryData → Bool
 was_sent_on entry = sent_on_event entry.plain.event
 
--- how many of those that owe the slot were sent on, how many were not, and how many of these items owe it
+-- how many of those that owe the slot were sent on, how many were not, where the port accepted these, and how many of these items owe it
 abbrev pub sent_on_in : ℕ → List EntryData → ℕ
 sent_on_in n entries = how_many (λ (entry : EntryData). owes_entry n entry && was_sent_on entry) entries
 
-abbrev pub kept_in : ℕ → List EntryData → ℕ
-kept_in n entries = how_many (λ (entry : EntryData). owes_entry n entry && not (was_sent_on entry)) entries
+abbrev pub kept_in : ℕ → List Taken → List EntryData → ℕ
+kept_in n accepted entries = how_many (λ (entry : EntryData). owes_at n accepted entry.plain.event && not (was_sent_on entry)) entries
 
 abbrev pub owing_in : ℕ → List Taken → ℕ
 owing_in n items = how_many (λ (taken : Taken). owes n taken.item.duty) items
 
--- ---- a diary, of a thread whose desk has these entries, and which left these items
+-- ---- a diary, of a thread whose port accepted these items, whose desk has these entries, and which left those items
 -- Each ask that was written opened the slot, and took from it. Each item that owes the slot was sent on, or its slot was filled or found to
 -- be settled
-pub record Tally (n : ℕ) (entries : List EntryData) (left : List Taken) (steps : List Step) : Type 0 where
+pub record Tally (n : ℕ) (accepted : List Taken) (entries : List EntryData) (left : List Taken) (steps : List Step) : Type 0 where
   pub asks : ℕ
   pub sent : how_many (sends n) steps ≡ asks + sent_on_in n entries
   pub opened : asks + how_many (at_slot (cancels n)) steps ≤ how_many (at_slot (opens n)) steps
   pub took : how_many (at_slot (takes n)) steps ≡ asks
-  pub filled : how_many (at_slot (fills n)) steps ≤ kept_in n entries + owing_in n left
-  pub settled : (how_many (at_slot (fills n)) steps ≡ kept_in n entries + owing_in n left) ⊎ Any (IsSettled n) (book_sights steps)
+  pub filled : how_many (at_slot (fills n)) steps ≤ kept_in n accepted entries + owing_in n left
+  pub settled : (how_many (at_slot (fills n)) steps ≡ kept_in n accepted entries + owing_in n left) ⊎ Any (IsSettled n) (book_sights steps)
 
 -- where the thread takes nothing from the slot, it writes no item that owes it to a looper up to that number
 abbrev pub SendsUp : ℕ → ℕ → List EntryData → List Step → Type 0
@@ -92,12 +101,12 @@ SendsUp n number entries steps = (looper : ℕ) → looper ≤ number → how_ma
 -- ---- what was paid
 -- The slot was filled with that text for a dispatch, or for an item that was left. Where there was no memory for the text of a dispatch, none
 -- was dispatched behind it; others' edits may stand there
-pub record PaidForDispatch (opening : DeskState) (n : ℕ) (entries : List EntryData) (short : Bool) (text : List ℕ) : Type 0 where
+pub record PaidForDispatch (opening : DeskState) (n : ℕ) (accepted : List Taken) (entries : List EntryData) (short : Bool) (text : List ℕ) : Type 0 where
   pub before : List EntryData
   pub entry : EntryData
   pub behind : List EntryData
   pub there : entries ≡ before ++ entry ∷ behind
-  pub owed : owes_entry n entry ≡ true
+  pub owed : owes_at n accepted entry.plain.event ≡ true
   pub kept : was_sent_on entry ≡ false
   pub position : ℕ
   pub route : EntryRoute
@@ -105,7 +114,8 @@ pub record PaidForDispatch (opening : DeskState) (n : ℕ) (entries : List Entry
   pub quit : Bool
   pub event_is : entry.plain.event ≡ desk_event.Dispatched position route words quit
   pub item : ItemData
-  pub item_is : entry.item ≡ Some item
+  pub item_is : entry.item ≡ paired route item
+  pub item_at : slice_get accepted position ≡ Some (record { position = position; item = item })
   pub meets : DeskState
   pub leads_there : IsHistory opening before meets
   pub reply : MessageData
@@ -119,7 +129,7 @@ pub record PaidForLeft (n : ℕ) (left : List Taken) (text : List ℕ) : Type 0 
   pub text_is : text ≡ none_text
 
 -- each slot that the thread filled it filled so
-abbrev pub PaysByRule : DeskState → List EntryData → List Taken → List Step → Type 0
-PaysByRule opening entries left steps =
+abbrev pub PaysByRule : DeskState → List Taken → List EntryData → List Taken → List Step → Type 0
+PaysByRule opening accepted entries left steps =
     (n : ℕ) (text : List ℕ) (x : Noted ReplyEntry) → Contains (book_entries steps) x → x.entry.event ≡ slot.Filled n text
-    → PaidForDispatch opening n entries (ran_short steps) text ⊎ PaidForLeft n left text
+    → PaidForDispatch opening n accepted entries (ran_short steps) text ⊎ PaidForLeft n left text

@@ -19,6 +19,7 @@ pub fn loopers_tally()
     ensures { diaries.LoopersTally }
 {
     ak_route::forwards_are_to_later_loopers();
+    ak_diary::accepted_is_dispatched_then_left();
 }
 
 /// What a looper writes with a slot from which it takes nothing goes to a looper of a greater number.
@@ -26,6 +27,7 @@ pub fn loopers_send_up()
     ensures { diaries.LoopersSendUp }
 {
     ak_route::forwards_are_to_later_loopers();
+    ak_diary::accepted_is_dispatched_then_left();
 }
 
 /// What a looper fills a slot with is the text of the reply that the rules make for the item that owes it, with the
@@ -34,7 +36,9 @@ pub fn loopers_send_up()
 /// left.
 pub fn loopers_pay()
     ensures { diaries.LoopersPay }
-{}
+{
+    ak_diary::accepted_is_dispatched_then_left();
+}
 
 /// Each item that a looper wrote for which someone waits it asked, or sent on for a dispatch of its desk, as it was but
 /// for its target and what is popped of it; and each dispatch that was sent on has such a write.

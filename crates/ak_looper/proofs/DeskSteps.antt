@@ -171,9 +171,9 @@ module _ (l : LooperFacts) (start : ℕ) (so_far : List Step) (r r' : Reach) (cl
       → Stands l start so_far r → GoesOn l start so_far (CarriesOut l so_far opening taken made entries d'.entries) r'
   given_up_so opening entries d d' opens same thread h stands =
       let now = r.hands.clock in
-      let n : Noted EntryData = note d.entries (given_up_entry d.entries now taken.position taken.item) in
-      let list : HasGivenUp now clock taken.position taken.item d.opening d.state n.before (n.before ++ n.entry ∷ []) made =
-      subst (λ (x : List EntryData). HasGivenUp now clock taken.position taken.item d.opening d.state d.entries x made) h.grown h in
+      let n : Noted EntryData = note d.entries (given_up_entry d.entries now taken.position) in
+      let list : HasGivenUp now clock taken.position d.opening d.state n.before (n.before ++ n.entry ∷ []) made =
+      subst (λ (x : List EntryData). HasGivenUp now clock taken.position d.opening d.state d.entries x made) h.grown h in
       let comes : GivenUp d.opening taken [] [] made n = record { clock = now; later = clock; state = d.state; given_up = list; asked_none = refl; heard_none = refl } in
       from_same opening d.opening entries d'.entries d.entries opens same
       (entered d.opening [] [] n d'.entries thread (inr comes) h.grown refl refl (ap (λ (c : Clock). c.time) h.clocked) (stays l start so_far (ServesAll l so_far taken.item [] []) r stands refl))

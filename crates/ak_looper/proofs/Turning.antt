@@ -75,7 +75,7 @@ carried_tells opening taken asked heard made n c =
 given_up_tells : (opening : DeskState) (taken : Taken) (asked : List Want) (heard : List Answer) (made : Made) (n : Noted EntryData) → GivenUp opening taken asked heard made n → EntryTells made n
 given_up_tells opening taken asked heard made n c =
     let d = c.given_up in
-    let entry = same_last n.before n.entry (given_up_entry n.before c.clock taken.position taken.item) d.grown in
+    let entry = same_last n.before n.entry (given_up_entry n.before c.clock taken.position) d.grown in
     let what = ap (λ (e : EntryData). e.plain.event) entry in
     let memory : made.no_memory ≡ true = ap (λ (m : Made). m.no_memory) d.made_is in
     record {

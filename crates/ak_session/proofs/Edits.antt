@@ -18,7 +18,7 @@ use Rattle.ak_desk.specs.declared.entry.Edit.{Edit}
 use Rattle.ak_desk.specs.Desk.{entry_with, stamp_number}
 use Rattle.ak_desk.specs.Entry.{EntryData}
 use Rattle.ak_desk.specs.Shared as desks
-use Rattle.ak_desk.specs.Shared.{DeskSeat, by_number}
+use Rattle.ak_desk.specs.Shared.{by_number}
 use Rattle.ak_diary.specs.Step.{Step, at_desk, book_entries, book_entry, book_sight, book_sights, desk_entries, desk_entry, port_entries, port_entry, port_sight, port_sights}
 use Rattle.ak_looper.specs.declared.door.Door.{Door}
 use Rattle.ak_looper.specs.Side.{IsOnSide}

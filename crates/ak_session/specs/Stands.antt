@@ -4,6 +4,7 @@ use Rattle.ak_turn.specs.Called.{KeepsSeat}
 use Rattle.ak_turn.specs.Noted.{noted}
 use Rattle.ak_roster.specs.declared.head.AppHead.{AppHead}
 use Rattle.ak_port.specs.declared.port_entry.PortEntry.{PortEntry}
+use Rattle.ak_desk.specs.Entry.{EntryData}
 use Rattle.ak_desk.specs.Shared as desks
 use Rattle.ak_diary.specs.Looper.{doors_got}
 use Rattle.ak_diary.specs.Step.{Step, at_port, at_desk, saw_port, AreStamped, desk_entries, time_of}
@@ -24,6 +25,10 @@ numbers_of s = map (λ (door : ℕ × Door). door.0) s.doors.items
 -- what its seat at that looper's port has seen; nothing where it has no door there
 abbrev pub front_at : Session → ℕ → List PortEntry
 front_at s looper = unwrap_or (option_map (λ (door : ℕ × Door). door.1.port_seat.front) (find (λ (door : ℕ × Door). door.0 == looper) s.doors.items)) []
+
+-- what its seat at that looper's desk has seen; nothing where it has no door there
+abbrev pub desk_front_at : Session → ℕ → List EntryData
+desk_front_at s looper = unwrap_or (option_map (λ (door : ℕ × Door). door.1.desk_seat.front) (find (λ (door : ℕ × Door). door.0 == looper) s.doors.items)) []
 
 -- the door at that place is that looper's
 abbrev pub IsWay : ℕ → ℕ → Session → Type 0

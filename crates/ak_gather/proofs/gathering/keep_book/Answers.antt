@@ -11,6 +11,7 @@ returns g c =
     let list = c.keep-kept.ensures ∙ turn.list in
     record {
       legal = c.slots.ensures.legal;
+      texts = c.slots.ensures.texts;
       known = knows_all maker_of c.args.seat c.lock-turn.new.seat c.keep-kept.result turn.seen turn.known list;
       named = λ names at. named_all maker_of c.args.seat c.lock-turn.new.seat c.keep-kept.result turn.seen turn.known list names at;
       ends = λ main. ends_at_turn maker_of c.args.seat c.lock-turn.new.seat c.keep-kept.result main turn.seen list;

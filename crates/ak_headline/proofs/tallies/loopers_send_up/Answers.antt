@@ -3,4 +3,4 @@ use Rattle.ak_headline.proofs.LoopersTold.{loopers_send_up}
 use Rattle.ak_headline.proofs.tallies.loopers_send_up.Goals as goal
 
 pub returns : goal.returns
-returns c = loopers_send_up c.forwards_are_to_later_loopers.ensures.routed
+returns c = loopers_send_up c.forwards_are_to_later_loopers.ensures.routed c.accepted_is_dispatched_then_left.ensures
