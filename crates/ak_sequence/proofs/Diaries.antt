@@ -120,7 +120,7 @@ module _ (h : Histories) (thread : ℕ) (done : List Step) (has : HasDone h thre
   same_at name = filter_swap (is_at name) (is_by thread) (entries_of h) ∙ ap (filter (is_by thread)) (at_object h name) ∙ diary_at name
 
 -- ---- stamps of a diary
-past_due : (time last stamp : ℕ) → stamp ≡ 1 + max time last → time < stamp
+pub past_due : (time last stamp : ℕ) → stamp ≡ 1 + max time last → time < stamp
 past_due time last stamp is = omega arith
 
 pub diary_rises : (time : ℕ) (done : List Step) → AreStamped time done → Rise stamp_of time (entries_in done)
@@ -152,7 +152,7 @@ past_kept : (t : Entry → Bool) (last : ℕ) (xs : List Entry) → Past last xs
 past_kept t last [] h = tt
 past_kept t last (x ∷ xs) h = past_if last x (filter t xs) (t x) h.0 (past_kept t last xs h.1)
 
-at_itself : (name : ObjectName) → is_same name name ≡ true
+pub at_itself : (name : ObjectName) → is_same name name ≡ true
 at_itself object.Roster = refl
 at_itself object.Book = refl
 at_itself (object.Port looper) = eq-eqb looper looper refl

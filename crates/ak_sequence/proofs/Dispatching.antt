@@ -20,9 +20,10 @@ use Rattle.ak_desk.specs.declared.made.Made.{Made}
 use Rattle.ak_desk.specs.Desk.{dispatched_entry, given_up_entry}
 use Rattle.ak_desk.specs.Dispatch.{entry_route, fitting, ran_out}
 use Rattle.ak_desk.specs.Entry.{EntryData}
-use Rattle.ak_desk.specs.Machine.{IsHistory, Replies, StepReplies}
+use Rattle.ak_desk.specs.Machine.{IsHistory, Replies, StepReplies, paired}
 use Rattle.ak_desk.specs.Place.{routed_of}
 use Rattle.ak_desk.specs.Replies.{none_reply}
+use Rattle.ak_desk.proofs.Surface.{paired_routed}
 use Rattle.ak_diary.specs.Looper.{LooperFacts, thread_of}
 use Rattle.ak_diary.specs.Step.{at_desk}
 use Rattle.ak_diary.specs.Turns.{Carried, ComesTo, GivenUp}
@@ -37,15 +38,15 @@ pub record HasCome (opening : DeskState) (taken : Taken) (made : Made) (x : Note
   pub words : List AnswerWord
   pub quit : Bool
   pub event_is : x.entry.plain.event ≡ desk_event.Dispatched taken.position route words quit
-  pub item_is : x.entry.item ≡ Some taken.item
+  pub item_is : x.entry.item ≡ paired route taken.item
   pub meets : DeskState
   pub leads_there : IsHistory opening x.before meets
   pub reply : Option MessageData
-  pub replies : StepReplies meets route (Some taken.item) words reply
+  pub replies : StepReplies meets route (paired route taken.item) words reply
   pub made_is : made.reply ≡ option_map fitting reply
   pub lacks_is : lacks_memory route words ≡ made.no_memory
 
-replies_there : (s : DeskState) (r : Route) (item : ItemData) (words : List AnswerWord) (reply : Option MessageData) → Replies s item words reply → StepReplies s (entry_route s r) (Some item) words reply
+replies_there : (s : DeskState) (r : Route) (item : ItemData) (words : List AnswerWord) (reply : Option MessageData) → Replies s item words reply → StepReplies s (entry_route s r) (paired (entry_route s r) item) words reply
 replies_there s (route.Deliver token t) item words reply h = h
 replies_there s route.Skipped item words reply h = h
 replies_there s route.Dropped item words reply h = h
@@ -70,7 +71,7 @@ module _ (opening : DeskState) (taken : Taken) (asked : List Want) (heard : List
         words = d.words;
         quit = d.quit;
         event_is = ap (λ (e : EntryData). e.plain.event) is;
-        item_is = ap (λ (e : EntryData). e.item) is;
+        item_is = ap (λ (e : EntryData). e.item) is ∙ sym (paired_routed c.before (routed_of c.before taken.item).route taken.item);
         meets = c.before;
         leads_there = d.history;
         reply = d.reply;
@@ -81,7 +82,7 @@ module _ (opening : DeskState) (taken : Taken) (asked : List Want) (heard : List
 
   given_up_comes : GivenUp opening taken asked heard made x → HasCome opening taken made x
   given_up_comes c =
-      let is : x.entry ≡ given_up_entry x.before c.clock taken.position taken.item = same_last x.before x.entry _ c.given_up.grown in
+      let is : x.entry ≡ given_up_entry x.before c.clock taken.position = same_last x.before x.entry _ c.given_up.grown in
       record {
         route = went.NoMemory;
         words = [];

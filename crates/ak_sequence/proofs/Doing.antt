@@ -21,7 +21,7 @@ use Rattle.ak_desk.specs.declared.entry.DeskEvent.TheVariants as desk_event
 use Rattle.ak_desk.specs.declared.entry.EntryRoute.{EntryRoute}
 use Rattle.ak_desk.specs.Dispatch.{fitting}
 use Rattle.ak_desk.specs.Entry.{EntryData}
-use Rattle.ak_desk.specs.Machine.{IsHistory, StepReplies}
+use Rattle.ak_desk.specs.Machine.{IsHistory, StepReplies, paired}
 use Rattle.ak_diary.specs.Step.{Step, at_roster, at_book, at_port, at_desk, saw_roster, saw_book, saw_port, lacked}
 use Rattle.ak_diary.specs.Wants.{forwarded_item}
 use Rattle.ak_world.specs.World.{Held, Work, held, lacks_memory, no_work, owed_for, settled}
@@ -110,7 +110,7 @@ module _ (short : List ℕ) (openings : ℕ → DeskState) (thread : ℕ) where
     pub others : List Held
     pub oldest : d.work.hand ≡ first ∷ others
     pub position_is : position ≡ first.taken.position
-    pub item_is : n.entry.item ≡ Some first.taken.item
+    pub item_is : n.entry.item ≡ paired route first.taken.item
     pub owes_none : d.work.owed ≡ None
     pub meets : DeskState
     pub leads : IsHistory (openings number) n.before meets

@@ -44,12 +44,16 @@ module _ {X : Type 0} where
   There z [] = ⊥
   There z (x ∷ xs) = (x ≡ z) ⊎ There z xs
 
--- the looper is started by an entry that is to come, and each entry of its own has a later stamp
+-- the entry is the looper's own, or one at its desk
+abbrev pub ActsFor : ℕ → Entry → Type 0
+ActsFor looper e = (is_by (looper_thread looper) e ≡ true) ⊎ (is_at (object.Desk looper) e ≡ true)
+
+-- the looper is started by an entry that is to come, and each entry that is its own or at its desk has a later stamp
 pub record Waits (heads : List AppHead) (looper : ℕ) (entries : List Entry) (rest : List RosterEntry) : Type 0 where
   pub start : RosterEntry
   pub there : There start rest
   pub starts : (s : RosterState) → IsLegal heads s start.by.0 start.event → looper < length (after heads s start.by.0 start.event).loopers
-  pub later : All (λ (e : Entry). is_by (looper_thread looper) e ≡ true → start.stamp < stamp_of e) entries
+  pub later : All (λ (e : Entry). ActsFor looper e → start.stamp < stamp_of e) entries
 
 abbrev pub IsKnown : List AppHead → ℕ → Objects → List Entry → List RosterEntry → Type 0
 IsKnown heads looper o entries rest = (looper < length o.roster.loopers) ⊎ Waits heads looper entries rest
@@ -80,24 +84,27 @@ above_there e (x ∷ xs) z above there =
 
 module _ (heads : List AppHead) (loopers : ℕ) where
   abbrev pub IsAmong : Entry → Type 0
-  IsAmong e = (looper : ℕ) → thread_of e ≡ looper_thread looper → looper < loopers
+  IsAmong e = (looper : ℕ) → ActsFor looper e → looper < loopers
 
   module _ (e : Entry) (es : List Entry) (o : Objects) (r : Rests) (same : (name : ObjectName) → filter (is_at name) (e ∷ es) ≡ rest_at r name) (up : Up is_earlier (e ∷ es)) (among : All IsAmong (e ∷ es))
       (known : (looper : ℕ) → looper < loopers → IsKnown heads looper o (e ∷ es) r.roster) where
-    its_start_is_past : (looper : ℕ) → thread_of e ≡ looper_thread looper → Waits heads looper (e ∷ es) r.roster → ⊥
-    its_start_is_past looper by waits =
-        let later : waits.start.stamp < stamp_of e = All-head (λ (x : Entry). is_by (looper_thread looper) x ≡ true → waits.start.stamp < stamp_of x) e es waits.later (eq-eqb (thread_of e) (looper_thread looper) by) in
+    its_start_is_past : (looper : ℕ) → ActsFor looper e → Waits heads looper (e ∷ es) r.roster → ⊥
+    its_start_is_past looper acts waits =
+        let later : waits.start.stamp < stamp_of e = All-head (λ (x : Entry). ActsFor looper x → waits.start.stamp < stamp_of x) e es waits.later acts in
         let above : Above is_earlier e (filter (is_at object.Roster) (e ∷ es)) = above_kept is_earlier (is_at object.Roster) e (e ∷ es) (le-ltb (stamp_of e) (stamp_of e) (omega arith), up.0) in
         let not_earlier : is_earlier (roster_entry waits.start) e ≡ false = above_there e r.roster waits.start (subst (Above is_earlier e) (same object.Roster) above) waits.there in
         let le : stamp_of e ≤ waits.start.stamp = ltb-false waits.start.stamp (stamp_of e) not_earlier in
         absurd (omega arith)
 
-    may : MayAct o (thread_of e)
-    may looper by =
+    begun : (looper : ℕ) → ActsFor looper e → looper < length o.roster.loopers
+    begun looper acts =
         ⊎_elim
         (λ (lt : looper < length o.roster.loopers). lt)
-        (λ (waits : Waits heads looper (e ∷ es) r.roster). absurd (its_start_is_past looper by waits))
-        (known looper (All-head IsAmong e es among looper by))
+        (λ (waits : Waits heads looper (e ∷ es) r.roster). absurd (its_start_is_past looper acts waits))
+        (known looper (All-head IsAmong e es among looper acts))
+
+    may : MayAct o (thread_of e)
+    may looper by = begun looper (inl (eq-eqb (thread_of e) (looper_thread looper) by))
 
     -- behind an entry elsewhere
     known_still : (looper : ℕ) → looper < loopers → IsKnown heads looper o es r.roster
@@ -108,7 +115,7 @@ module _ (heads : List AppHead) (loopers : ℕ) where
           start = waits.start;
           there = waits.there;
           starts = waits.starts;
-          later = All-tail (λ (x : Entry). is_by (looper_thread looper) x ≡ true → waits.start.stamp < stamp_of x) e es waits.later;
+          later = All-tail (λ (x : Entry). ActsFor looper x → waits.start.stamp < stamp_of x) e es waits.later;
         }))
         (known looper lt)
 
@@ -126,7 +133,7 @@ module _ (heads : List AppHead) (loopers : ℕ) where
           start = waits.start;
           there = behind;
           starts = waits.starts;
-          later = All-tail (λ (z : Entry). is_by (looper_thread looper) z ≡ true → waits.start.stamp < stamp_of z) e es waits.later;
+          later = All-tail (λ (z : Entry). ActsFor looper z → waits.start.stamp < stamp_of z) e es waits.later;
         }))
         (subst (There waits.start) is waits.there))
         (known looper lt)
@@ -256,6 +263,7 @@ module _ (heads : List AppHead) (loopers : ℕ) where
             there = p.is;
             is = p.first;
             may = subst (λ (z : Entry). MayAct o (thread_of z)) p.first may_now;
+            started = begun e es o r same up among known number (inr (ap (is_same (object.Desk number)) is ∙ eq-eqb number number refl));
             leaves = goes.1.0;
             step = goes.1.1.0;
             behind = goes_on o1 r1 (record { roster = can.roster; book = can.book; ports = can.ports; desks = each }) now up.1 tail_among (known_still e es o r same up among known);

@@ -27,6 +27,7 @@ use Rattle.ak_sequence.proofs.AtThePort.{port_went}
 use Rattle.ak_sequence.proofs.Doing.{Does, DoesAtDesk, DoesAtPort}
 use Rattle.ak_sequence.proofs.Ending.{Ends, all_left, book_ends, desk_ends, port_ends, roster_ends}
 use Rattle.ak_sequence.proofs.Nexts.{Elsewhere, NextOf, book_next, desk_next, next_of, port_next, roster_next}
+use Rattle.ak_sequence.proofs.ItsItem.{item_of}
 use Rattle.ak_sequence.proofs.Kept.{first_kept, first_left}
 use Rattle.ak_sequence.proofs.Passing.{Passes, PassesBook, PassesDesk, PassesOne, PassesPort, PassesRoster, Rests, book_step, book_then, desk_step, desk_then, passes_book, passes_desk, passes_port, passes_roster, port_step, port_then, roster_step, roster_then}
 use Rattle.ak_sequence.proofs.Standing.{Stands, roster_went}
@@ -190,7 +191,7 @@ module _ (heads : List AppHead) (short : List ℕ) (openings : ℕ → DeskState
         let w' : World = record { objects = desk_then w.objects number p.x p.leaves; works = went.works } in
         let r' : Rests = record r { desks = put number p.more r.desks } in
         let done' : Dones = desk_done openings w.objects done leads number p.x in
-        let step : WorldStep heads short w e w' = subst (λ (z : Entry). WorldStep heads short w z w') (sym p.is) (record { item = p.x.item; object = desk_step heads w.objects number p.x p.leaves p.may p.step; works = went.does }) in
+        let step : WorldStep heads short w e w' = subst (λ (z : Entry). WorldStep heads short w z w') (sym p.is) (record { item = p.x.item; object = desk_step heads w.objects number p.x p.leaves p.may p.started (item_of short w sound number p.x.plain.event p.x.item went.works went.does) p.step; works = went.does }) in
         walked thread by w' r' done' step p.behind (desk_leads openings w.objects done leads number p.x p.leaves p.step) (desk_ends heads openings h w.objects r ends number p.x p.more p.leaves p.there p.step)
         (own_tie thread by w' r' done' still noted.notes went.own)
         (λ other ne acts. let was = ties other acts in

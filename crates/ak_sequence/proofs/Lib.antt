@@ -15,6 +15,8 @@ pub mod Entries
 pub mod Diaries
 pub mod Runs
 pub mod GoingOn
+pub mod AtDesks
+pub mod Started
 pub mod Beginning
 pub mod Popped
 pub mod Served
@@ -51,3 +53,4 @@ pub mod Tracked
 pub mod LastItem
 pub mod ItsItem
 pub mod OneWorld
+pub mod Behind

@@ -18,7 +18,7 @@ use Rattle.ak_diary.specs.Diary.{IsDiary, Works, begun, went_on}
 use Rattle.ak_diary.specs.Looper.{LooperFacts, in_hand, thread_of}
 use Rattle.ak_diary.specs.Step.{Step, at_book, at_desk, at_port, lacked, ran_short}
 use Rattle.ak_diary.specs.Turns as turns
-use Rattle.ak_diary.specs.Turns.{Fills, IsDispatch, IsEnd, IsTake, LeavesAll, LeavesOne, lacked_if, left_at}
+use Rattle.ak_diary.specs.Turns.{IsDispatch, IsEnd, IsTake, LeavesAll, LeavesOne, lacked_if, left_at}
 use Rattle.ak_headline.specs.Headline.{MissesNone}
 use Rattle.ak_headline.proofs.Surface.{is_short, short_left, short_right}
 use Rattle.ak_world.specs.World.{Held, Owed, held, owed_for, settled}

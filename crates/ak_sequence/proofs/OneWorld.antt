@@ -18,7 +18,7 @@ use Rattle.ak_desk.specs.declared.entry.DeskEvent.{DeskEvent}
 use Rattle.ak_desk.specs.declared.entry.DeskEvent.TheVariants as desk_event
 use Rattle.ak_desk.specs.declared.entry.EntryRoute.{EntryRoute}
 use Rattle.ak_desk.specs.Laws.{EntryTellsReply, HasOneReply}
-use Rattle.ak_desk.specs.Machine.{DispatchStep, StepReplies, counted}
+use Rattle.ak_desk.specs.Machine.{DispatchStep, StepReplies, counted, paired}
 use Rattle.ak_journal.specs.declared.entry.Entry.{Entry}
 use Rattle.ak_journal.specs.declared.entry.Event.{Event}
 use Rattle.ak_journal.specs.declared.entry.Event.TheVariants as event
@@ -191,7 +191,7 @@ module _ (tells : EntryTellsReply) (heads : List AppHead) (short : List ℕ) (w 
       let hands : p.first ∷ p.others ≡ q.first ∷ q.others = sym p.oldest ∙ q.oldest in
       let first : p.first ≡ q.first = cc in
       let others : p.others ≡ q.others = cc in
-      let item : i ≡ j = p.item_is ∙ ap (λ (h : Held). Some h.taken.item) first ∙ sym q.item_is in
+      let item : i ≡ j = p.item_is ∙ ap (λ (h : Held). paired route h.taken.item) first ∙ sym q.item_is in
       let also : DispatchStep s route i words quit n.leaves = subst (λ (k : Option ItemData). DispatchStep s route k words quit n.leaves) (sym item) n.step.event.1 in
       let told = tells s route i words quit quit m.leaves n.leaves m.step.event.1 also in
       let replies : StepReplies s route i words q.reply = subst (λ (k : Option ItemData). StepReplies s route k words q.reply) (sym item) q.replies in

@@ -1,5 +1,5 @@
 -- How a list passes over the objects: each entry is the first of what is to come at its object, and a step of that object.
-use Rattle.std.proofs.Common.{◌≡◌, ℕ, ◌==◌, Bool, true, false, cond, List, [], ◌∷◌, map, None, refl, sym, subst, eqb-true}
+use Rattle.std.proofs.Common.{◌≡◌, ℕ, ◌<◌, ◌==◌, Bool, true, false, cond, List, [], ◌∷◌, map, length, None, refl, sym, subst, eqb-true}
 use Rattle.ak_base.specs.Thread.{looper_thread}
 use Rattle.ak_roster.specs.declared.head.AppHead.{AppHead}
 use Rattle.ak_roster.specs.declared.entry.RosterEntry.{RosterEntry}
@@ -15,7 +15,7 @@ use Rattle.ak_journal.specs.declared.entry.Entry.{Entry}
 use Rattle.ak_journal.specs.declared.entry.ObjectName.{ObjectName}
 use Rattle.ak_journal.specs.declared.entry.ObjectName.TheVariants as object
 use Rattle.ak_world.specs.Merged.{book_entry, desk_entry, port_entry, roster_entry}
-use Rattle.ak_world.specs.World.{MayAct, ObjectStep, Objects, ObjectsRun, put}
+use Rattle.ak_world.specs.World.{IsItem, MayAct, ObjectStep, Objects, put}
 
 -- ---- things by numbers
 -- what holds at one number, and as before at each other, holds at all
@@ -99,6 +99,7 @@ module _ (heads : List AppHead) (o : Objects) (r : Rests) (e : Entry) (Behind : 
     pub there : r.desks number ≡ x ∷ more
     pub is : e ≡ desk_named number x
     pub may : MayAct o x.plain.by.0
+    pub started : number < length o.roster.loopers
     pub leaves : DeskState
     pub step : DeskStep number (o.desks number).dispatched (o.desks number).state x leaves
     pub behind : Behind (desk_then o number x leaves) (record r { desks = put number more r.desks })
@@ -114,7 +115,7 @@ abbrev pub Passes : List AppHead → Objects → Rests → List Entry → Type 0
 Passes heads o r [] = (name : ObjectName) → rest_at r name ≡ []
 Passes heads o r (e ∷ es) = PassesOne heads o r e (λ (o' : Objects) (r' : Rests). Passes heads o' r' es)
 
--- ---- such a list is a run of the objects
+-- ---- each is a step of its object
 module _ (heads : List AppHead) (o : Objects) where
   pub roster_step : (x : RosterEntry) → MayAct o x.by.0 → IsLegal heads o.roster x.by.0 x.event → ObjectStep heads o (roster_entry x) None (roster_then heads o x)
   roster_step x may step = record { may = may; moves = record { legal = step; after = refl } }
@@ -125,26 +126,7 @@ module _ (heads : List AppHead) (o : Objects) where
   pub port_step : (number : ℕ) (x : PortEntry) → MayAct o x.by.0 → PortStep (looper_thread number) (o.ports number) x → ObjectStep heads o (port_named number x) None (port_then o number x)
   port_step number x may step = record { may = may; moves = record { step = step; after = refl } }
 
-  pub desk_step : (number : ℕ) (x : EntryData) (leaves : DeskState) → MayAct o x.plain.by.0 → DeskStep number (o.desks number).dispatched (o.desks number).state x leaves
+  pub desk_step : (number : ℕ) (x : EntryData) (leaves : DeskState) → MayAct o x.plain.by.0 → number < length o.roster.loopers → IsItem (o.ports number) x.plain.event x.item
+      → DeskStep number (o.desks number).dispatched (o.desks number).state x leaves
       → ObjectStep heads o (desk_named number x) x.item (desk_then o number x leaves)
-  desk_step number x leaves may step = record { may = may; moves = record { leaves = leaves; step = step; after = refl } }
-
-module _ (heads : List AppHead) (e : Entry) (es : List Entry) (o : Objects) (r : Rests) (runs : (o' : Objects) (r' : Rests) → Passes heads o' r' es → (last : Objects) × ObjectsRun heads o' es last) where
-  one_runs : PassesOne heads o r e (λ (o' : Objects) (r' : Rests). Passes heads o' r' es) → (last : Objects) × ObjectsRun heads o (e ∷ es) last
-  one_runs (passes_roster p) =
-      let rest = runs (roster_then heads o p.x) (record r { roster = p.more }) p.behind in
-      (rest.0, (None, roster_then heads o p.x, subst (λ (z : Entry). ObjectStep heads o z None (roster_then heads o p.x)) (sym p.is) (roster_step heads o p.x p.may p.step), rest.1))
-  one_runs (passes_book p) =
-      let rest = runs (book_then o p.x) (record r { book = p.more }) p.behind in
-      (rest.0, (None, book_then o p.x, subst (λ (z : Entry). ObjectStep heads o z None (book_then o p.x)) (sym p.is) (book_step heads o p.x p.may p.step), rest.1))
-  one_runs (passes_port p) =
-      let rest = runs (port_then o p.number p.x) (record r { ports = put p.number p.more r.ports }) p.behind in
-      (rest.0, (None, port_then o p.number p.x, subst (λ (z : Entry). ObjectStep heads o z None (port_then o p.number p.x)) (sym p.is) (port_step heads o p.number p.x p.may p.step), rest.1))
-  one_runs (passes_desk p) =
-      let o1 = desk_then o p.number p.x p.leaves in
-      let rest = runs o1 (record r { desks = put p.number p.more r.desks }) p.behind in
-      (rest.0, (p.x.item, o1, subst (λ (z : Entry). ObjectStep heads o z p.x.item o1) (sym p.is) (desk_step heads o p.number p.x p.leaves p.may p.step), rest.1))
-
-pub passes_run : (heads : List AppHead) (es : List Entry) (o : Objects) (r : Rests) → Passes heads o r es → (last : Objects) × ObjectsRun heads o es last
-passes_run heads [] o r passes = (o, refl)
-passes_run heads (e ∷ es) o r passes = one_runs heads e es o r (passes_run heads es) passes
+  desk_step number x leaves may started item_is step = record { may = may; moves = record { started = started; item_is = item_is; leaves = leaves; step = step; after = refl } }

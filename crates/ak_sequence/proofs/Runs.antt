@@ -81,7 +81,7 @@ at_most_one (x ∷ rest) h = h x rest refl
 
 -- ---- what holds of the entries at each object holds of all
 module _ (P : Entry → Type 0) where
-  rest_if : (b : Bool) (x : Entry) (xs : List Entry) → All P (cond b (x ∷ xs) xs) → All P xs
+  pub rest_if : (b : Bool) (x : Entry) (xs : List Entry) → All P (cond b (x ∷ xs) xs) → All P xs
   rest_if true x xs all = All-tail P x xs all
   rest_if false x xs all = all
 

@@ -1,5 +1,5 @@
 -- What holds of the list of all entries.
-use Rattle.std.specs.Prelude.{Some, slice_get, ◌≡◌, ◌<◌, ◌≤◌, ◌==◌, ◌&&◌, ℕ, Bool, true, false, List, [], ◌∷◌, map, filter, length, All}
+use Rattle.std.specs.Prelude.{Some, slice_get, ◌≡◌, ◌≢◌, ◌<◌, ◌≤◌, ◌==◌, ◌&&◌, ℕ, Bool, true, false, List, [], ◌∷◌, ◌++◌, map, filter, length, All}
 use Rattle.std.specs.List.{flat_map}
 use Rattle.ak_base.specs.Thread.{looper_thread, main_thread}
 use Rattle.ak_turn.specs.Stamps.{Rise}
@@ -14,7 +14,7 @@ use Rattle.ak_desk.specs.Desk.{DeskData}
 use Rattle.ak_desk.specs.Entry.{EntryData}
 use Rattle.ak_diary.specs.declared.histories.Histories.{Histories}
 use Rattle.ak_diary.specs.Step.{Step, at_roster, at_book, at_port, at_desk, saw_roster, saw_book, saw_port, lacked, roster_stamp}
-use Rattle.ak_headline.specs.Run.{ActsIn, IsRunWith, IsSession, desk_list, port_list}
+use Rattle.ak_headline.specs.Run.{ActsIn, IsRunWith, IsSession, MainIsBehind, desk_list, port_list}
 use Rattle.ak_journal.specs.declared.entry.Entry.{Entry}
 use Rattle.ak_journal.specs.declared.entry.ObjectName.{ObjectName}
 use Rattle.ak_journal.specs.declared.entry.ObjectName.TheVariants as object
@@ -101,6 +101,18 @@ abbrev pub MergedHasEachDiary : Type 0
 MergedHasEachDiary =
     (sessions : ℕ) (heads : List AppHead) (short : List ℕ) (h : Histories) (run : IsRunWith sessions heads short h)
     → (entries : List Entry) → IsMerged h entries → HasEachDiary sessions heads short h run entries
+
+-- ---- behind a session
+-- behind an entry that main made past that time stands none of the session's at the same object
+abbrev pub IsBehind : ℕ → ℕ → List Entry → Type 0
+IsBehind time number entries =
+    (before : List Entry) (entry : Entry) (behind : List Entry) → entries ≡ before ++ entry ∷ behind
+    → thread_of entry ≡ main_thread → time < stamp_of entry → All (λ (e : Entry). thread_of e ≡ number → e.object ≢ entry.object) behind
+
+abbrev pub MergedIsBehind : Type 0
+MergedIsBehind =
+    (sessions : ℕ) (heads : List AppHead) (short : List ℕ) (h : Histories) → IsRunWith sessions heads short h
+    → (entries : List Entry) → IsMerged h entries → (time number : ℕ) → MainIsBehind h time number → IsBehind time number entries
 
 -- ---- the list is a run of the objects
 -- the desk of each looper is opened so

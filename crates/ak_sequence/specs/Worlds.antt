@@ -13,7 +13,7 @@ use Rattle.ak_action.specs.declared.answer.AnswerWord.{AnswerWord}
 use Rattle.ak_action.specs.declared.state.DeskState.{DeskState}
 use Rattle.ak_desk.specs.declared.entry.DeskEvent.TheVariants as desk_event
 use Rattle.ak_desk.specs.declared.entry.EntryRoute.{EntryRoute}
-use Rattle.ak_desk.specs.Machine.{Replays, dispatches}
+use Rattle.ak_desk.specs.Machine.{Replays, dispatches, paired}
 use Rattle.ak_diary.specs.declared.histories.Histories.{Histories}
 use Rattle.ak_headline.specs.Run.{IsRunWith, desk_list, port_list}
 use Rattle.ak_journal.specs.declared.entry.Entry.{Entry}
@@ -21,7 +21,7 @@ use Rattle.ak_journal.specs.declared.entry.Event.TheVariants as event
 use Rattle.ak_journal.specs.declared.entry.ObjectName.TheVariants as object
 use Rattle.ak_world.specs.Merged.{IsMerged, thread_of}
 use Rattle.ak_world.specs.World.{Objects, World, WorldRun, WorldStep, first_world}
-use Rattle.ak_sequence.specs.Laws.{AreOpened}
+use Rattle.ak_sequence.specs.Laws.{AreOpened, HasEachDiary, HasEachHistory}
 use Rattle.ak_sequence.specs.Places.{IsSound}
 
 -- ---- of a run, the merged list is a run of worlds, from that in which nothing is launched
@@ -116,12 +116,13 @@ IsDispatchedAfterWritten entries =
     (before : List Entry) (entry : Entry) (behind : List Entry) → entries ≡ before ++ entry ∷ behind
     → (looper position : ℕ) → DispatchesAt looper position entry → (item : ItemData) × Any (WritesAt looper position item) before
 
--- and what is dispatched is the item that the port accepted at that position, before
+-- and what is dispatched is the item that the port accepted at that position, before; the step is paired with it, or with none where the
+-- dispatch was given up
 abbrev pub EachIsOfItsItem : Type 0
 EachIsOfItsItem =
     (heads : List AppHead) (short : List ℕ) (openings : ℕ → DeskState) (before : List Entry) (w : World) → WorldRun heads short (first_world openings) before w
-    → (entry : Entry) (w' : World) (step : WorldStep heads short w entry w') (looper position : ℕ) → DispatchesAt looper position entry
-    → (item : ItemData) × (step.item ≡ Some item) × (slice_get (w.objects.ports looper).written position ≡ Some item) × Any (WritesAt looper position item) before
+    → (entry : Entry) (w' : World) (step : WorldStep heads short w entry w') (looper position : ℕ) (at : DispatchesAt looper position entry)
+    → (item : ItemData) × (step.item ≡ paired at.route item) × (slice_get (w.objects.ports looper).written position ≡ Some item) × Any (WritesAt looper position item) before
 
 -- nothing is taken from a slot before it was filled
 abbrev pub IsTakenAfterFilled : List Entry → Type 0
@@ -174,3 +175,30 @@ abbrev pub IsNoneDispatchedBehindTheRest : List Entry → Type 0
 IsNoneDispatchedBehindTheRest entries =
     (before : List Entry) (entry : Entry) (behind : List Entry) → entries ≡ before ++ entry ∷ behind
     → (looper : ℕ) → RestsAt looper entry → All (λ (e : Entry). (position : ℕ) → ¬ (DispatchesAt looper position e)) behind
+
+-- ---- a run as one sequence
+-- This is the list of all entries of the run. Of each object and of each thread it has just what is theirs, in order. From where nothing is
+-- launched, with each desk as it was opened, it leads from world to world, to one in which the objects are as the run left them; and what the laws
+-- say of such lists holds of it
+pub record IsSequence (sessions : ℕ) (heads : List AppHead) (short : List ℕ) (h : Histories) (run : IsRunWith sessions heads short h) (entries : List Entry) : Type 0 where
+  pub merged : IsMerged h entries
+  pub histories : HasEachHistory h entries
+  pub diaries : HasEachDiary sessions heads short h run entries
+  pub openings : ℕ → DeskState
+  pub opened : AreOpened h openings
+  pub last : World
+  pub left : AreLeft heads openings h last.objects
+  pub worlds : WorldRun heads short (first_world openings) entries last
+  pub sound : IsSound last
+  pub written_first : IsDispatchedAfterWritten entries
+  pub filled_first : IsTakenAfterFilled entries
+  pub filled_behind : IsFilledBehindTheLast entries
+  pub written_in_order : IsWrittenInOrder entries
+  pub dispatched_in_order : IsDispatchedInOrder entries
+  pub none_when_shut : IsNoneWrittenWhenShut entries
+  pub none_behind_the_rest : IsNoneDispatchedBehindTheRest entries
+
+abbrev pub RunsAreSequences : Type 0
+RunsAreSequences =
+    (sessions : ℕ) (heads : List AppHead) (short : List ℕ) (h : Histories) (run : IsRunWith sessions heads short h)
+    → (entries : List Entry) × IsSequence sessions heads short h run entries

@@ -3,6 +3,13 @@
 ghost use Rattle.ak_sequence.specs.Laws as law;
 ghost use Rattle.ak_sequence.specs.Worlds as worlds;
 
+use crate::worlds::{
+    a_slot_is_filled_behind_its_last_item, items_are_dispatched_in_order,
+    items_are_written_in_order, nothing_is_dispatched_before_it_is_written,
+    nothing_is_dispatched_behind_the_rest, nothing_is_taken_before_it_is_filled,
+    nothing_is_written_to_a_shut_port, worlds_are_sound,
+};
+
 /// Of all histories there is a merged list; and two lists that are merged of the same histories are the same list.
 pub fn merged_is_one()
     ensures one { law.MergedIsOne }
@@ -27,10 +34,13 @@ pub fn merged_has_each_diary()
 {}
 
 /// Of a run, a merged list is a run of the objects: each entry, one after the other, is a step of its object by that object's
-/// own rules, from where nothing is launched; and a looper acts only behind the launch that started it.
+/// own rules, from where nothing is launched; a looper acts only behind the launch that started it, and a desk is one of a
+/// looper that was started; and a dispatch is of the item that the port accepted at its position.
 pub fn merged_runs_objects()
     ensures { law.MergedRunsObjects }
-{}
+{
+    merged_runs_worlds();
+}
 
 /// Of a run, a merged list is a run of worlds: from where nothing is launched each entry, one after the other, is a step of
 /// its object by that object's own rules; and what the loopers have in hand, have left and owe allows it, and goes on by it;
@@ -40,4 +50,31 @@ pub fn merged_runs_worlds()
 {
     ak_desk::the_list_tells_the_handlers();
     ak_headline::no_fill_is_missing();
+}
+
+/// Of a run in which main made what it made past a time behind a session, at each object, no entry of that session stands
+/// behind such a one of main's at the same object, in a merged list.
+pub fn main_stays_behind_sessions()
+    ensures { law.MergedIsBehind }
+{
+    merged_has_each_history();
+}
+
+/// Each run is one sequence: of its histories there is the merged list; it has each history and each diary; it is a run of
+/// worlds; and what holds of all runs of worlds holds of it.
+pub fn runs_are_sequences()
+    ensures { worlds.RunsAreSequences }
+{
+    merged_is_one();
+    merged_has_each_history();
+    merged_has_each_diary();
+    merged_runs_worlds();
+    worlds_are_sound();
+    nothing_is_dispatched_before_it_is_written();
+    nothing_is_taken_before_it_is_filled();
+    a_slot_is_filled_behind_its_last_item();
+    items_are_written_in_order();
+    items_are_dispatched_in_order();
+    nothing_is_written_to_a_shut_port();
+    nothing_is_dispatched_behind_the_rest();
 }

@@ -7,8 +7,8 @@ mod laws;
 mod worlds;
 
 pub use laws::{
-    merged_has_each_diary, merged_has_each_history, merged_is_one, merged_runs_objects,
-    merged_runs_worlds, stamps_rise,
+    main_stays_behind_sessions, merged_has_each_diary, merged_has_each_history, merged_is_one,
+    merged_runs_objects, merged_runs_worlds, runs_are_sequences, stamps_rise,
 };
 pub use worlds::{
     a_shut_port_stays_shut, a_slot_is_filled_behind_its_last_item, a_step_leads_to_one_world,

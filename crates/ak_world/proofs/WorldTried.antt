@@ -1,5 +1,5 @@
 -- The steps of a world, tried: an ask of a looper that was started, from the making of its port to the filling of the slot, is a run of worlds; and entries that may not come are no step.
-use Rattle.std.proofs.Common.{◌≡◌, ◌∙◌, ℕ, ◌==◌, Bool, true, false, cond, List, [], ◌∷◌, ◌++◌, length, All, None, Some, refl, sym, ap, inl, ⊎_elim, arith}
+use Rattle.std.proofs.Common.{◌≡◌, ◌≢◌, ◌∙◌, ℕ, ◌<◌, ◌==◌, Bool, true, false, cond, List, [], ◌∷◌, ◌++◌, length, All, None, Some, refl, sym, ap, inl, ⊎_elim, arith}
 use Rattle.std.proofs.lemmas.List.Elements.{All-head, All-nil}
 use Rattle.ak_base.specs.declared.thread.ThreadId.{ThreadId}
 use Rattle.ak_message.specs.Message.{MessageData}
@@ -18,14 +18,35 @@ use Rattle.ak_action.specs.declared.answer.AnswerWord.{AnswerWord}
 use Rattle.ak_action.specs.declared.state.DeskState.{DeskState}
 use Rattle.ak_desk.specs.declared.entry.DeskEvent.{DeskEvent}
 use Rattle.ak_desk.specs.declared.entry.DeskEvent.TheVariants as desk_event
+use Rattle.ak_desk.specs.declared.entry.Edit.{Edit}
+use Rattle.ak_desk.specs.declared.entry.EditAnswer.{EditAnswer}
 use Rattle.ak_desk.specs.declared.entry.EntryRoute.{EntryRoute}
 use Rattle.ak_desk.specs.declared.entry.EntryRoute.TheVariants as went
 use Rattle.ak_desk.specs.Dispatch.{fitting}
-use Rattle.ak_desk.specs.Machine.{EventStep, StepReplies}
+use Rattle.ak_desk.specs.Machine.{EventStep, StepReplies, paired}
 use Rattle.ak_journal.specs.declared.entry.Entry.{Entry}
 use Rattle.ak_journal.specs.declared.entry.Event.TheVariants as event
 use Rattle.ak_journal.specs.declared.entry.ObjectName.TheVariants as object
-use Rattle.ak_world.specs.World.{Held, IsUnwritten, MayAct, Objects, PaysLeft, PaysOwed, World, WorldRun, WorldStep, first_objects, handed, held, lacks_memory, no_work, put}
+use Rattle.ak_world.specs.World.{Held, IsUnwritten, MayAct, ObjectStep, Objects, PaysLeft, PaysOwed, World, WorldRun, WorldStep, first_objects, handed, held, lacks_memory, no_work, put}
+
+-- ---- what an entry of a dispatch is paired with
+-- with the item, where there was memory to begin with it
+paired_with : (route : EntryRoute) (words : List AnswerWord) (item : ItemData) → lacks_memory route words ≡ false → Some item ≡ paired route item
+paired_with (went.To token) words item lacks_none = refl
+paired_with went.Skipped words item lacks_none = refl
+paired_with went.Dropped words item lacks_none = refl
+paired_with went.NotUnderstood words item lacks_none = refl
+paired_with (went.Forward looper) words item lacks_none = refl
+paired_with went.NoMemory words item lacks_none = let clash : true ≡ false = lacks_none in absurd (cc clash)
+
+-- so with no other
+paired_alone : (route : EntryRoute) (a b : ItemData) → Some a ≡ paired route b → a ≡ b
+paired_alone (went.To token) a b is = cc is
+paired_alone went.Skipped a b is = cc is
+paired_alone went.Dropped a b is = cc is
+paired_alone went.NotUnderstood a b is = cc is
+paired_alone (went.Forward looper) a b is = cc is
+paired_alone went.NoMemory a b is = absurd (cc is)
 
 -- one looper was started
 module _ (heads : List AppHead) (short : List ℕ) (roster : RosterState) (started : length roster.loopers ≡ 1) (openings : ℕ → DeskState) (item : ItemData) where
@@ -129,16 +150,22 @@ module _ (heads : List AppHead) (short : List ℕ) (roster : RosterState) (start
 
     -- and memory does not run out
     module _ (goes : EventStep 0 (openings 0) dispatched (Some asked) leaves) (replies : StepReplies (openings 0) route (Some asked) words (Some reply)) (lacks_none : lacks_memory route words ≡ false) where
+      has_its_item : Some asked ≡ paired route asked
+      has_its_item = paired_with route words asked lacks_none
+
+      one_started : 0 < length roster.loopers
+      one_started = omega (arith, started)
+
       step5 : WorldStep heads short world4 (at_desk 5 looper_id dispatched) world5
       step5 = record {
         item = Some asked;
-        object = record { may = looper_may world4.objects refl; moves = record { leaves = leaves; step = record { by = refl; event = goes }; after = refl } };
+        object = record { may = looper_may world4.objects refl; moves = record { started = one_started; item_is = (asked, refl, has_its_item); leaves = leaves; step = record { by = refl; event = goes }; after = refl } };
         works = record {
           first = first;
           others = [];
           oldest = refl;
           position_is = refl;
-          item_is = refl;
+          item_is = has_its_item;
           owes_none = refl;
           reply = Some reply;
           replies = replies;
@@ -163,7 +190,20 @@ module _ (heads : List AppHead) (short : List ℕ) (roster : RosterState) (start
       an_ask_runs : WorldRun heads short world0 told world6
       an_ask_runs = (world1, step1, (world2, step2, (world3, step3, (world4, step4, (world5, step5, (world6, step6, refl))))))
 
-  -- ---- what may not come
+    -- ---- what may not come
+    -- a dispatch of another item than the one that the port accepted at its position
+    not_of_another : (other : ItemData) → other ≢ asked → (o : Objects) → ObjectStep heads world4.objects (at_desk 5 looper_id dispatched) (Some other) o → ⊥
+    not_of_another other ne o step =
+        let it = step.moves.item_is in
+        let accepted : Some asked ≡ Some it.0 = it.1 in
+        let same : asked ≡ it.0 = cc accepted in
+        ne (paired_alone route other it.0 it.2 ∙ sym same)
+
+  -- an edit at the desk of a looper that was not started
+  not_edited : (stamp : ℕ) (by : ThreadId) (edit : Edit) (answer : EditAnswer) (w : World)
+      → WorldStep heads short world0 (record { stamp = stamp; by = by; object = object.Desk 1; event = event.Desk (desk_event.Edited edit answer) }) w → ⊥
+  not_edited stamp by edit answer w step = let there : 1 < length roster.loopers = step.object.moves.started in absurd (omega (arith, there, started))
+
   -- a slot that was written is not cancelled
   written_not_cancelled : (w : World) → WorldStep heads short world3 (at_book 4 main_id (slot.Cancelled 0)) w → ⊥
   written_not_cancelled w step = All-head (λ (i : ItemData). i.duty ≡ duty.Slot 0 → ⊥) asked [] (step.works.0 0) refl

@@ -1,5 +1,5 @@
 -- A world: all objects of a run at one moment, and what each looper's thread has to do. Each entry makes one world of another.
-use Rattle.std.specs.Prelude.{◌≡◌, ◌≢◌, ◌<◌, ◌≤◌, ◌⊎◌, ◌==◌, ℕ, Bool, true, List, [], ◌∷◌, ◌++◌, length, map, take, All, Contains, Option, None, Some, slice_get, if◌then◌else◌}
+use Rattle.std.specs.Prelude.{◌≡◌, ◌≢◌, ◌<◌, ◌⊎◌, ◌==◌, ℕ, Bool, true, List, [], ◌∷◌, ◌++◌, length, map, take, All, Contains, Option, None, Some, slice_get, if◌then◌else◌}
 use Rattle.ak_base.specs.Thread.{looper_thread}
 use Rattle.ak_message.specs.Message.{MessageData}
 use Rattle.ak_flatten.specs.declared.item.Duty.{Duty}
@@ -28,7 +28,7 @@ use Rattle.ak_desk.specs.declared.entry.EntryRoute.{EntryRoute}
 use Rattle.ak_desk.specs.declared.entry.EntryRoute.TheVariants as went
 use Rattle.ak_desk.specs.Dispatch.{fitting, ran_out}
 use Rattle.ak_desk.specs.Entry.{EntryData}
-use Rattle.ak_desk.specs.Machine.{DeskStep, StepReplies, counted}
+use Rattle.ak_desk.specs.Machine.{DeskStep, StepReplies, counted, paired}
 use Rattle.ak_diary.specs.Wants.{forwarded_item}
 use Rattle.ak_journal.specs.declared.entry.Entry.{Entry}
 use Rattle.ak_journal.specs.declared.entry.Event.{Event}
@@ -78,8 +78,17 @@ pub record PortMove (o : Objects) (looper : ℕ) (entry : PortEntry) (o' : Objec
   pub step : ports.PortStep (looper_thread looper) (o.ports looper) entry
   pub after : o' ≡ record o { ports = put looper (ports.state_after (o.ports looper) entry.event) o.ports }
 
--- a dispatch is by the looper's own thread, and of that item; an edit is of none
+-- a dispatch is of the item that the port accepted at its position, and is paired with it; with none where there was no memory to begin with
+-- it. What an edit is paired with, the desk's own rules say
+abbrev pub IsItem : PortState → DeskEvent → Option ItemData → Type 0
+IsItem port (desk_event.Dispatched position route words quit) item =
+    (accepted : ItemData) × (slice_get port.written position ≡ Some accepted) × (item ≡ paired route accepted)
+IsItem port (desk_event.Edited edit answer) item = Unit {0}
+
+-- the desk is that of a looper that was started; a dispatch is by the looper's own thread, and of its item; an edit is of none
 pub record DeskMove (o : Objects) (looper : ℕ) (entry : EntryData) (o' : Objects) : Type 0 where
+  pub started : looper < length o.roster.loopers
+  pub item_is : IsItem (o.ports looper) entry.plain.event entry.item
   pub leaves : DeskState
   pub step : DeskStep looper (o.desks looper).dispatched (o.desks looper).state entry leaves
   pub after : o' ≡ record o { desks = put looper (record { state = leaves; dispatched = counted (o.desks looper).dispatched entry.plain.event }) o.desks }
@@ -97,7 +106,7 @@ module _ (heads : List AppHead) where
 abbrev pub MayAct : Objects → ℕ → Type 0
 MayAct o thread = (looper : ℕ) → thread ≡ looper_thread looper → looper < length o.roster.loopers
 
--- an entry; where it is of a dispatch, of that item
+-- an entry, and what it is paired with where it is one of a desk
 pub record ObjectStep (heads : List AppHead) (o : Objects) (entry : Entry) (item : Option ItemData) (o' : Objects) : Type 0 where
   pub may : MayAct o (thread_of entry)
   pub moves : Moves heads o entry item entry.object entry.event o'
@@ -241,7 +250,7 @@ pub record Dispatches (short : List ℕ) (w : World) (looper position : ℕ) (ro
   pub others : List Held
   pub oldest : (w.works looper).hand ≡ first ∷ others
   pub position_is : position ≡ first.taken.position
-  pub item_is : item ≡ Some first.taken.item
+  pub item_is : item ≡ paired route first.taken.item
   pub owes_none : (w.works looper).owed ≡ None
   pub reply : Option MessageData
   pub replies : StepReplies (w.objects.desks looper).state route item words reply
