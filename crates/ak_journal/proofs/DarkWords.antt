@@ -4,7 +4,6 @@ use Rattle.std.specs.Prelude.{codes, map}
 use Rattle.std.specs.List.{AllByRecursion}
 use Rattle.std.specs.Fmt.{decimal}
 use Rattle.ak_base.specs.Error.{name_of}
-use Rattle.ak_base.specs.declared.app_word.AppWord.{AppWord}
 use Rattle.ak_base.specs.declared.error.KitError.{KitError}
 use Rattle.ak_base.specs.declared.error.KitError.TheVariants as e
 use Rattle.ak_message.specs.declared.address.Address.{Address}
@@ -43,12 +42,12 @@ use Rattle.ak_journal.specs.declared.entry.ObjectName.TheVariants as object
 use Rattle.ak_journal.specs.BookLine.{book_words}
 use Rattle.ak_journal.specs.DeskLine.{answer_text, desk_words, edit_answer_text, edit_words, quit_words, route_words}
 use Rattle.ak_journal.specs.Line.{entry_words, event_words, object_words}
-use Rattle.ak_journal.specs.Parts.{duty_text, flat_text, mark_text, thread_text, token_text, word_text}
-use Rattle.ak_journal.specs.Legible.{IsLegible, IsLegibleAnswer, IsLegibleAt, IsLegibleBook, IsLegibleDesk, IsLegibleEdit, IsLegibleItem, IsLegiblePort, IsLegibleRoster, IsLegibleWord}
+use Rattle.ak_journal.specs.Parts.{duty_text, flat_text, mark_text, thread_text, token_text}
+use Rattle.ak_journal.specs.Legible.{IsLegible, IsLegibleAnswer, IsLegibleAt, IsLegibleBook, IsLegibleDesk, IsLegibleEdit, IsLegibleItem, IsLegiblePort, IsLegibleRoster}
 use Rattle.ak_journal.specs.PortLine.{item_words, port_words}
 use Rattle.ak_journal.specs.RosterLine.{find_words, launch_words, roster_words}
 use Rattle.ak_journal.proofs.Dark.{AreDark, IsDark, are_dark_append, dark_append, dark_cons, decimal_dark, flat_dark, word_dark}
-use Rattle.ak_journal.proofs.Named.{named_takes}
+use Rattle.ak_journal.proofs.Named.{launched_dark, looked_up_dark}
 
 -- a word that is written out
 legible_word : (text : List ℕ) → IsDark text → AreDark (text ∷ [])
@@ -67,9 +66,6 @@ thread_dark n = by_main (eqb n 0) (ltb n 10000) where
   by_main true session = record { all = refl }
   by_main false true = keyed (codes "s") n (record { all = refl })
   by_main false false = keyed (codes "l") (n - 10000) (record { all = refl })
-
-app_dark : (app : AppWord) → IsLegibleWord app → IsDark (word_text app)
-app_dark app legible = (named_takes (word_text app) app legible).dark
 
 target_dark : (t : Target) → IsDark (target_text t)
 target_dark target.Preferred = record { all = refl }
@@ -124,8 +120,8 @@ find_dark (find.Team team) = counted (codes "team") team (record { all = refl })
 find_dark find.NoTeam = legible_word (codes "no-team") (record { all = refl })
 
 roster_dark : (what : RosterEvent) → IsLegibleRoster what → AreDark (roster_words what)
-roster_dark (roster.Launch app outcome) legible = (record { all = refl }, (app_dark app legible.0, launch_dark outcome))
-roster_dark (roster.Find app outcome) legible = (record { all = refl }, (app_dark app legible.0, find_dark outcome))
+roster_dark (roster.Launch app outcome) legible = (record { all = refl }, (launched_dark app legible.0, launch_dark outcome))
+roster_dark (roster.Find app outcome) legible = (record { all = refl }, (looked_up_dark app legible.0, find_dark outcome))
 roster_dark (roster.Gone team) legible = counted (codes "gone") team (record { all = refl })
 roster_dark (roster.Door looper) legible = counted (codes "door") looper (record { all = refl })
 

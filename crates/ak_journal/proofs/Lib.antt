@@ -10,3 +10,4 @@ pub mod RosterAgain
 pub mod DeskAgain
 pub mod EntryAgain
 pub mod EntryLaws
+pub mod PlainLaw

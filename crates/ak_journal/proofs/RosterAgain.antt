@@ -9,6 +9,7 @@ use Rattle.ak_roster.specs.declared.entry.RosterEvent.TheVariants as event
 use Rattle.ak_journal.specs.Legible.{FitsFind, FitsLaunch, IsLegibleRoster}
 use Rattle.ak_journal.specs.ReadRoster.{find_outcome, launch_outcome, roster_event}
 use Rattle.ak_journal.specs.RosterLine.{find_words, launch_words, roster_words}
+use Rattle.ak_journal.proofs.Named.{launched_read, looked_up_read}
 use Rattle.ak_journal.proofs.Numbers.{u32_again}
 
 launch_again : (outcome : LaunchOutcome) → FitsLaunch outcome → launch_outcome (launch_words outcome) ≡ Some outcome
@@ -22,7 +23,7 @@ find_again (find.Team team) fits = rw (u32_again team fits) refl
 find_again find.NoTeam fits = refl
 
 pub roster_again : (what : RosterEvent) → IsLegibleRoster what → roster_event (roster_words what) ≡ Some what
-roster_again (event.Launch word outcome) legible = rw (legible.0, launch_again outcome legible.1) refl
-roster_again (event.Find word outcome) legible = rw (legible.0, find_again outcome legible.1) refl
+roster_again (event.Launch word outcome) legible = rw (launched_read word legible.0, launch_again outcome legible.1) refl
+roster_again (event.Find word outcome) legible = rw (looked_up_read word legible.0, find_again outcome legible.1) refl
 roster_again (event.Gone team) legible = rw (u32_again team legible) refl
 roster_again (event.Door looper) legible = rw (u32_again looper legible) refl

@@ -1,8 +1,8 @@
 -- Which entries are read back from their lines: those whose event is one of their object's, with words, names and flat texts of their forms.
-use Rattle.std.specs.Prelude.{◌≡◌, ℕ, ◌^◌, ◌<◌, ◌≤◌, Bool, true, false, List, length, count_by, Option, Some, None}
+use Rattle.std.specs.Prelude.{◌≡◌, ℕ, ◌^◌, ◌<◌, ◌≤◌, Bool, true, false, IsTrue, List, length, count_by, Option, Some, None}
 use Rattle.std.specs.List.{AllByRecursion}
 use Rattle.ak_base.specs.Word.{is_word}
-use Rattle.ak_base.specs.declared.app_word.AppWord.{AppWord}
+use Rattle.ak_input.specs.Written.{is_launched, is_looked_up}
 use Rattle.ak_message.specs.Whole.{FitsAddress, FitsTarget}
 use Rattle.ak_flatten.specs.Item.{ItemData, IsItem}
 use Rattle.ak_flatten.specs.Laws.{AreBytes, first_fault}
@@ -36,8 +36,6 @@ use Rattle.ak_journal.specs.declared.entry.Event.{Event}
 use Rattle.ak_journal.specs.declared.entry.Event.TheVariants as event
 use Rattle.ak_journal.specs.declared.entry.ObjectName.{ObjectName}
 use Rattle.ak_journal.specs.declared.entry.ObjectName.TheVariants as object
-use Rattle.ak_journal.specs.Named.{named_by}
-use Rattle.ak_journal.specs.Parts.{word_text}
 
 -- ---- parts
 abbrev pub Fits32 : ℕ → Type 0
@@ -49,10 +47,6 @@ Fits64 n = n < 2 ^ 64
 -- the flat text of a message
 abbrev pub IsFlat : List ℕ → Type 0
 IsFlat flat = AreBytes flat × (first_fault flat ≡ None)
-
--- its text names what it is
-abbrev pub IsLegibleWord : AppWord → Type 0
-IsLegibleWord word = named_by (word_text word) ≡ Some word
 
 abbrev pub FitsDuty : Duty → Type 0
 FitsDuty duty.None = Unit {0}
@@ -102,8 +96,8 @@ FitsFind (find.Team team) = Fits32 team
 FitsFind find.NoTeam = Unit {0}
 
 abbrev pub IsLegibleRoster : RosterEvent → Type 0
-IsLegibleRoster (roster.Launch word outcome) = IsLegibleWord word × FitsLaunch outcome
-IsLegibleRoster (roster.Find word outcome) = IsLegibleWord word × FitsFind outcome
+IsLegibleRoster (roster.Launch word outcome) = IsTrue (is_launched word) × FitsLaunch outcome
+IsLegibleRoster (roster.Find word outcome) = IsTrue (is_looked_up word) × FitsFind outcome
 IsLegibleRoster (roster.Gone team) = Fits32 team
 IsLegibleRoster (roster.Door looper) = Fits32 looper
 

@@ -4,8 +4,9 @@ pub mod DeskLine
 pub mod BookLine
 pub mod RosterLine
 pub mod Line
-pub mod Named
 pub mod Legible
+pub mod Plain
+pub mod Typed
 pub mod Parting
 pub mod ReadParts
 pub mod ReadPort

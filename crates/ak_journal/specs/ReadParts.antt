@@ -10,8 +10,7 @@ use Rattle.ak_base.specs.Thread.{main_thread, looper_thread}
 use Rattle.ak_base.specs.declared.app_word.AppWord.{AppWord}
 use Rattle.ak_base.specs.declared.thread.ThreadId.{ThreadId}
 use Rattle.ak_input.specs.Payload.{uint_within}
-use Rattle.ak_input.specs.Written.{number_within}
-use Rattle.ak_journal.specs.Named.{named_by}
+use Rattle.ak_input.specs.Written.{app_word_of, launch_word_of, number_within}
 use Rattle.ak_journal.specs.Parting.{texts}
 
 -- ---- as contracts see what is read
@@ -84,8 +83,13 @@ abbrev pub thread_at : List (List ℕ) → Option (ThreadId × List (List ℕ))
 thread_at words = first_of words >>= λ word. thread_of word.0 >>= λ thread. Some (thread, word.1)
 
 -- ---- applications, and flat texts
-abbrev pub app_word_at : List (List ℕ) → Option (AppWord × List (List ℕ))
-app_word_at words = first_of words >>= λ word. named_by word.0 >>= λ app. Some (app, word.1)
+-- what is launched: a path or a signature
+abbrev pub launch_word_at : List (List ℕ) → Option (AppWord × List (List ℕ))
+launch_word_at words = first_of words >>= λ word. launch_word_of word.0 >>= λ app. Some (app, word.1)
+
+-- what is looked up: a team by its number, a signature or a name
+abbrev pub find_word_at : List (List ℕ) → Option (AppWord × List (List ℕ))
+find_word_at words = first_of words >>= λ word. app_word_of word.0 >>= λ app. Some (app, word.1)
 
 abbrev pub flat_of : List ℕ → Option (List ℕ)
 flat_of word = result_ok (decode_of word)

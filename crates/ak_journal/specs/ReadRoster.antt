@@ -8,7 +8,7 @@ use Rattle.ak_roster.specs.declared.entry.LaunchOutcome.{LaunchOutcome}
 use Rattle.ak_roster.specs.declared.entry.LaunchOutcome.TheVariants as launch
 use Rattle.ak_roster.specs.declared.entry.RosterEvent.{RosterEvent}
 use Rattle.ak_roster.specs.declared.entry.RosterEvent.TheVariants as event
-use Rattle.ak_journal.specs.ReadParts.{app_word_at, first_of, first_u32, u32_at}
+use Rattle.ak_journal.specs.ReadParts.{find_word_at, first_of, first_u32, launch_word_at, u32_at}
 
 -- ---- outcomes
 abbrev pub started_of : List (List ℕ) → Option LaunchOutcome
@@ -43,10 +43,10 @@ find_outcome words = first_of words >>= λ key. find_by key.0 key.1
 
 -- ---- events
 abbrev pub launched_of : List (List ℕ) → Option RosterEvent
-launched_of words = app_word_at words >>= λ word. launch_outcome word.1 >>= λ outcome. Some (event.Launch word.0 outcome)
+launched_of words = launch_word_at words >>= λ word. launch_outcome word.1 >>= λ outcome. Some (event.Launch word.0 outcome)
 
 abbrev pub found_of : List (List ℕ) → Option RosterEvent
-found_of words = app_word_at words >>= λ word. find_outcome word.1 >>= λ outcome. Some (event.Find word.0 outcome)
+found_of words = find_word_at words >>= λ word. find_outcome word.1 >>= λ outcome. Some (event.Find word.0 outcome)
 
 abbrev pub gone_of : List (List ℕ) → Option RosterEvent
 gone_of words = first_u32 words >>= λ team. Some (event.Gone team)

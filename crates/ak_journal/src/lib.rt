@@ -9,6 +9,6 @@ mod printing;
 mod reading;
 
 pub use entry::{Entry, Event, ObjectName};
-pub use laws::{entries_are_lines, lines_tell_entries};
+pub use laws::{entries_are_lines, lines_tell_entries, plain_is_legible};
 pub use printing::print_entry;
 pub use reading::read_entry;

@@ -3,6 +3,7 @@
 ghost use Rattle.std.specs.Prelude.{◌≡◌, ◌++◌, OnOk, OnErr};
 ghost use Rattle.ak_journal.specs.Line.{entry_line, event_words, object_words};
 ghost use Rattle.ak_journal.specs.Parts.{behind_blanks};
+ghost use Rattle.ak_journal.specs.Typed.{IsTyped, IsTypedEvent, IsTypedObject};
 
 mod book;
 mod desk;
@@ -28,6 +29,7 @@ const LINE: usize = 256;
 pub fn print_entry(alloc: Global, entry: &Entry, out: &mut Bytes) -> Result<(), NoMemory>
     ensures ok { OnOk result (out.new ≡ out.old ++ entry_line entry.now) }
     ensures err { OnErr result (out.new ≡ out.old) }
+    ensures typed { OnOk result (IsTyped entry.now) }
 {
     let mut line = Bytes::with_capacity(alloc, LINE)?;
     put_entry(alloc, &mut line, entry)?;
@@ -36,7 +38,8 @@ pub fn print_entry(alloc: Global, entry: &Entry, out: &mut Bytes) -> Result<(), 
 
 // What was there may have grown by a part of the line where memory ran out. So it is with all that follow.
 pub(crate) fn put_entry(alloc: Global, out: &mut Bytes, entry: &Entry) -> Result<(), NoMemory>
-    ensures { OnOk result (out.new ≡ out.old ++ entry_line entry.now) }
+    ensures line { OnOk result (out.new ≡ out.old ++ entry_line entry.now) }
+    ensures typed { OnOk result (IsTyped entry.now) }
 {
     print_uint(entry.stamp, out)?;
     put_thread(out, entry.by)?;
@@ -45,7 +48,8 @@ pub(crate) fn put_entry(alloc: Global, out: &mut Bytes, entry: &Entry) -> Result
 }
 
 fn put_object(out: &mut Bytes, object: ObjectName) -> Result<(), NoMemory>
-    ensures { OnOk result (out.new ≡ out.old ++ behind_blanks (object_words object)) }
+    ensures line { OnOk result (out.new ≡ out.old ++ behind_blanks (object_words object)) }
+    ensures typed { OnOk result (IsTypedObject object) }
 {
     match object {
         ObjectName::Port(looper) => put_counted(out, b"port", u64::from(looper)),
@@ -56,7 +60,8 @@ fn put_object(out: &mut Bytes, object: ObjectName) -> Result<(), NoMemory>
 }
 
 fn put_event(alloc: Global, out: &mut Bytes, event: &Event) -> Result<(), NoMemory>
-    ensures { OnOk result (out.new ≡ out.old ++ behind_blanks (event_words event.now)) }
+    ensures line { OnOk result (out.new ≡ out.old ++ behind_blanks (event_words event.now)) }
+    ensures typed { OnOk result (IsTypedEvent event.now) }
 {
     match event {
         Event::Port(event) => put_port(alloc, out, event),

@@ -57,7 +57,7 @@ fn lines_of_desks_come_back(rt: HostRuntime) {
     }
 }
 
-const BOOK_AND_ROSTER: [&str; 14] = [
+const BOOK_AND_ROSTER: [&str; 15] = [
     "5 m book opened 0",
     "9 l0 book filled 0 414b4d3152504c59000000024c4f4e4706726573756c74010004000000034c4f4e47056572726f7201000400000000",
     "9 s4 book cancelled 18446744073709551615",
@@ -69,6 +69,7 @@ const BOOK_AND_ROSTER: [&str; 14] = [
     "4 m roster find demo team 1",
     "7 m roster find 12 no-team",
     "1 m roster find 007 no-team",
+    "7 m roster find application/x-vnd.gen team 3",
     "11 m roster gone 1",
     "7 s8000 roster door 4",
     "7 l4294957295 roster door 4",
@@ -81,7 +82,7 @@ fn lines_of_the_book_and_the_roster_come_back(rt: HostRuntime) {
     }
 }
 
-const NONE: [&str; 30] = [
+const NONE: [&str; 33] = [
     "",
     "7",
     "7 m",
@@ -106,6 +107,9 @@ const NONE: [&str; 30] = [
     "1 m port 0 full extra",
     "1 m roster find a/b no-team",
     "1 m roster launch /a/ not-found",
+    "1 m roster launch 7 not-found",
+    "1 m roster launch demo not-found",
+    "1 m roster find /boot/demo no-team",
     "7 m desk 0 edited prefer 3 B_NO_MEMORY",
     "7 m book filled 4 00",
     "2 m port 0 written 0 p 0 prog none 1 414b4d315f52545200000000",

@@ -6,6 +6,9 @@ ghost use Rattle.ak_base.specs.Error.{name_of};
 ghost use Rattle.ak_print.specs.Told as told;
 ghost use Rattle.ak_journal.specs.DeskLine.{answer_text, desk_words, edit_answer_text, edit_words, quit_words, route_words};
 ghost use Rattle.ak_journal.specs.Parts.{behind_blanks};
+ghost use Rattle.ak_journal.specs.Legible.{Fits64, FitsRoute, FitsToken};
+ghost use Rattle.ak_journal.specs.Typed.{IsTypedAnswer, IsTypedDesk, IsTypedEdit, IsTypedEditAnswer};
+ghost use Rattle.std.specs.List.{AllByRecursion};
 
 use super::parts::{put_counted, put_flat, put_keyed, put_token, put_word};
 use ak_action::AnswerWord;
@@ -15,7 +18,8 @@ use ak_handler::HandlerFault;
 use std::alloc::Global;
 
 pub(crate) fn put_desk(alloc: Global, out: &mut Bytes, event: &DeskEvent) -> Result<(), NoMemory>
-    ensures { OnOk result (out.new ≡ out.old ++ behind_blanks (desk_words event.now)) }
+    ensures line { OnOk result (out.new ≡ out.old ++ behind_blanks (desk_words event.now)) }
+    ensures typed { OnOk result (IsTypedDesk event.now) }
 {
     match event {
         DeskEvent::Dispatched {
@@ -37,7 +41,8 @@ fn put_dispatched(
     quit: bool,
     answers: &[AnswerWord],
 ) -> Result<(), NoMemory>
-    ensures { OnOk result (out.new ≡ out.old ++ behind_blanks (codes "dispatched" ∷ decimal position ∷ (route_words route ++ quit_words quit ++ map answer_text answers.now))) }
+    ensures line { OnOk result (out.new ≡ out.old ++ behind_blanks (codes "dispatched" ∷ decimal position ∷ (route_words route ++ quit_words quit ++ map answer_text answers.now))) }
+    ensures typed { OnOk result (Fits64 position × FitsRoute route × AllByRecursion IsTypedAnswer answers.now) }
 {
     put_counted(out, b"dispatched", position)?;
     put_route(out, route)?;
@@ -46,7 +51,8 @@ fn put_dispatched(
 }
 
 fn put_route(out: &mut Bytes, route: EntryRoute) -> Result<(), NoMemory>
-    ensures { OnOk result (out.new ≡ out.old ++ behind_blanks (route_words route)) }
+    ensures line { OnOk result (out.new ≡ out.old ++ behind_blanks (route_words route)) }
+    ensures typed { OnOk result (FitsRoute route) }
 {
     match route {
         EntryRoute::To(token) => put_counted(out, b"to", token),
@@ -65,7 +71,8 @@ fn put_quit(out: &mut Bytes, quit: bool) -> Result<(), NoMemory>
 }
 
 fn put_answers(alloc: Global, out: &mut Bytes, answers: &[AnswerWord]) -> Result<(), NoMemory>
-    ensures { OnOk result (out.new ≡ out.old ++ behind_blanks (map answer_text answers.now)) }
+    ensures line { OnOk result (out.new ≡ out.old ++ behind_blanks (map answer_text answers.now)) }
+    ensures typed { OnOk result (AllByRecursion IsTypedAnswer answers.now) }
 {
     for answer in answers {
         put_answer(alloc, out, answer)?;
@@ -74,7 +81,8 @@ fn put_answers(alloc: Global, out: &mut Bytes, answers: &[AnswerWord]) -> Result
 }
 
 fn put_answer(alloc: Global, out: &mut Bytes, answer: &AnswerWord) -> Result<(), NoMemory>
-    ensures { OnOk result (out.new ≡ out.old ++ 32 ∷ answer_text answer.now) }
+    ensures line { OnOk result (out.new ≡ out.old ++ 32 ∷ answer_text answer.now) }
+    ensures typed { OnOk result (IsTypedAnswer answer.now) }
 {
     match answer {
         AnswerWord::Error(error) => put_word(out, error.name().as_bytes()),
@@ -86,7 +94,8 @@ fn put_answer(alloc: Global, out: &mut Bytes, answer: &AnswerWord) -> Result<(),
 
 // ---- edits
 fn put_edited(out: &mut Bytes, edit: &Edit, answer: EditAnswer) -> Result<(), NoMemory>
-    ensures { OnOk result (out.new ≡ out.old ++ behind_blanks (codes "edited" ∷ (edit_words edit.now ++ edit_answer_text answer ∷ []))) }
+    ensures line { OnOk result (out.new ≡ out.old ++ behind_blanks (codes "edited" ∷ (edit_words edit.now ++ edit_answer_text answer ∷ []))) }
+    ensures typed { OnOk result (IsTypedEdit edit.now × IsTypedEditAnswer answer) }
 {
     put_word(out, b"edited")?;
     put_edit(out, edit)?;
@@ -94,7 +103,8 @@ fn put_edited(out: &mut Bytes, edit: &Edit, answer: EditAnswer) -> Result<(), No
 }
 
 fn put_edit(out: &mut Bytes, edit: &Edit) -> Result<(), NoMemory>
-    ensures { OnOk result (out.new ≡ out.old ++ behind_blanks (edit_words edit.now)) }
+    ensures line { OnOk result (out.new ≡ out.old ++ behind_blanks (edit_words edit.now)) }
+    ensures typed { OnOk result (IsTypedEdit edit.now) }
 {
     match edit {
         Edit::Add(name) => put_added(out, name.as_bytes()),
@@ -112,21 +122,24 @@ fn put_added(out: &mut Bytes, name: &[u8]) -> Result<(), NoMemory>
 }
 
 fn put_next(out: &mut Bytes, token: u64, next: Option<u64>) -> Result<(), NoMemory>
-    ensures { OnOk result (out.new ≡ out.old ++ behind_blanks (edit_words (Edit.Next token next))) }
+    ensures line { OnOk result (out.new ≡ out.old ++ behind_blanks (edit_words (Edit.Next token next))) }
+    ensures typed { OnOk result (Fits64 token × FitsToken next) }
 {
     put_counted(out, b"next", token)?;
     put_token(out, next)
 }
 
 fn put_prefer(out: &mut Bytes, token: Option<u64>) -> Result<(), NoMemory>
-    ensures { OnOk result (out.new ≡ out.old ++ behind_blanks (edit_words (Edit.Prefer token))) }
+    ensures line { OnOk result (out.new ≡ out.old ++ behind_blanks (edit_words (Edit.Prefer token))) }
+    ensures typed { OnOk result (FitsToken token) }
 {
     put_word(out, b"prefer")?;
     put_token(out, token)
 }
 
 fn put_edit_answer(out: &mut Bytes, answer: EditAnswer) -> Result<(), NoMemory>
-    ensures { OnOk result (out.new ≡ out.old ++ 32 ∷ edit_answer_text answer) }
+    ensures line { OnOk result (out.new ≡ out.old ++ 32 ∷ edit_answer_text answer) }
+    ensures typed { OnOk result (IsTypedEditAnswer answer) }
 {
     match answer {
         EditAnswer::Done => put_error(out, KitError::Ok),

@@ -3,6 +3,8 @@
 ghost use Rattle.std.specs.Prelude.{◌≡◌, [], ◌∷◌, ◌++◌, OnOk};
 ghost use Rattle.std.specs.Fmt.{decimal};
 ghost use Rattle.ak_journal.specs.Parts.{behind_blanks, flat_text, thread_text, token_text, word_text};
+ghost use Rattle.ak_flatten.specs.Laws.{AreBytes};
+ghost use Rattle.ak_journal.specs.Legible.{Fits32, FitsToken};
 
 use ak_base::{AppWord, Bytes, NoMemory, ThreadId, print_uint};
 use std::alloc::Global;
@@ -39,7 +41,8 @@ pub(crate) fn put_keyed(out: &mut Bytes, key: &[u8], number: u64) -> Result<(), 
 
 /// `m`, `s` and the number of a session, or `l` and the number of a looper.
 pub(crate) fn put_thread(out: &mut Bytes, thread: ThreadId) -> Result<(), NoMemory>
-    ensures { OnOk result (out.new ≡ out.old ++ 32 ∷ thread_text thread.0) }
+    ensures line { OnOk result (out.new ≡ out.old ++ 32 ∷ thread_text thread.0) }
+    ensures typed { OnOk result (Fits32 thread.0) }
 {
     let first = ThreadId::FIRST_LOOPER.0;
     if thread.0 == ThreadId::MAIN.0 {
@@ -70,7 +73,8 @@ pub(crate) fn put_flat(
     key: &[u8],
     flat: &[u8],
 ) -> Result<(), NoMemory>
-    ensures { OnOk result (out.new ≡ out.old ++ 32 ∷ (key.now ++ flat_text flat.now)) }
+    ensures line { OnOk result (out.new ≡ out.old ++ 32 ∷ (key.now ++ flat_text flat.now)) }
+    ensures typed { OnOk result (AreBytes flat.now) }
 {
     let digits = hex::encode(alloc, flat)?;
     put_word(out, key)?;
@@ -79,7 +83,8 @@ pub(crate) fn put_flat(
 
 /// A token, or `none`.
 pub(crate) fn put_token(out: &mut Bytes, token: Option<u64>) -> Result<(), NoMemory>
-    ensures { OnOk result (out.new ≡ out.old ++ 32 ∷ token_text token) }
+    ensures line { OnOk result (out.new ≡ out.old ++ 32 ∷ token_text token) }
+    ensures typed { OnOk result (FitsToken token) }
 {
     match token {
         Some(token) => put_number(out, token),

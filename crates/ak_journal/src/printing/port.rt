@@ -5,6 +5,8 @@ ghost use Rattle.std.specs.Fmt.{decimal};
 ghost use Rattle.ak_input.specs.MessageText.{address_text, target_text};
 ghost use Rattle.ak_journal.specs.Parts.{behind_blanks, duty_text, mark_text};
 ghost use Rattle.ak_journal.specs.PortLine.{item_words, port_words};
+ghost use Rattle.ak_journal.specs.Legible.{Fits32, Fits64, FitsDuty, IsLegibleItem, IsLegiblePort};
+ghost use Rattle.ak_message.specs.Whole.{FitsAddress, FitsTarget};
 
 use super::parts::{put_counted, put_flat, put_keyed, put_number, put_word};
 use ak_base::{Bytes, NoMemory, print_uint};
@@ -14,7 +16,8 @@ use ak_port::PortEvent;
 use std::alloc::Global;
 
 pub(crate) fn put_port(alloc: Global, out: &mut Bytes, event: &PortEvent) -> Result<(), NoMemory>
-    ensures { OnOk result (out.new ≡ out.old ++ behind_blanks (port_words event.now)) }
+    ensures line { OnOk result (out.new ≡ out.old ++ behind_blanks (port_words event.now)) }
+    ensures typed { OnOk result (IsLegiblePort event.now) }
 {
     match event {
         PortEvent::Made { capacity, life } => put_made(out, *capacity, *life),
@@ -29,14 +32,16 @@ pub(crate) fn put_port(alloc: Global, out: &mut Bytes, event: &PortEvent) -> Res
 }
 
 fn put_made(out: &mut Bytes, capacity: u32, life: u32) -> Result<(), NoMemory>
-    ensures { OnOk result (out.new ≡ out.old ++ behind_blanks (codes "made" ∷ decimal capacity ∷ decimal life ∷ [])) }
+    ensures line { OnOk result (out.new ≡ out.old ++ behind_blanks (codes "made" ∷ decimal capacity ∷ decimal life ∷ [])) }
+    ensures typed { OnOk result (Fits32 capacity × Fits32 life) }
 {
     put_counted(out, b"made", u64::from(capacity))?;
     put_number(out, u64::from(life))
 }
 
 fn put_written(alloc: Global, out: &mut Bytes, position: u64, item: &Item) -> Result<(), NoMemory>
-    ensures { OnOk result (out.new ≡ out.old ++ behind_blanks (codes "written" ∷ decimal position ∷ item_words item.now)) }
+    ensures line { OnOk result (out.new ≡ out.old ++ behind_blanks (codes "written" ∷ decimal position ∷ item_words item.now)) }
+    ensures typed { OnOk result (Fits64 position × IsLegibleItem item.now) }
 {
     put_counted(out, b"written", position)?;
     put_item(alloc, out, item)
@@ -44,7 +49,8 @@ fn put_written(alloc: Global, out: &mut Bytes, position: u64, item: &Item) -> Re
 
 // Its target, the sender's team, its mark, the duty, how much is popped, and the flat text.
 fn put_item(alloc: Global, out: &mut Bytes, item: &Item) -> Result<(), NoMemory>
-    ensures { OnOk result (out.new ≡ out.old ++ behind_blanks (item_words item.now)) }
+    ensures line { OnOk result (out.new ≡ out.old ++ behind_blanks (item_words item.now)) }
+    ensures typed { OnOk result (IsLegibleItem item.now) }
 {
     put_target(out, item.target())?;
     put_number(out, u64::from(item.team()))?;
@@ -55,7 +61,8 @@ fn put_item(alloc: Global, out: &mut Bytes, item: &Item) -> Result<(), NoMemory>
 }
 
 fn put_target(out: &mut Bytes, target: Target) -> Result<(), NoMemory>
-    ensures { OnOk result (out.new ≡ out.old ++ 32 ∷ target_text target) }
+    ensures line { OnOk result (out.new ≡ out.old ++ 32 ∷ target_text target) }
+    ensures typed { OnOk result (FitsTarget target) }
 {
     match target {
         Target::Preferred => put_word(out, b"p"),
@@ -74,7 +81,8 @@ fn put_mark(out: &mut Bytes, dropped: bool) -> Result<(), NoMemory>
 }
 
 fn put_duty(out: &mut Bytes, duty: Duty) -> Result<(), NoMemory>
-    ensures { OnOk result (out.new ≡ out.old ++ 32 ∷ duty_text duty) }
+    ensures line { OnOk result (out.new ≡ out.old ++ 32 ∷ duty_text duty) }
+    ensures typed { OnOk result (FitsDuty duty) }
 {
     match duty {
         Duty::None => put_word(out, b"none"),
@@ -85,7 +93,8 @@ fn put_duty(out: &mut Bytes, duty: Duty) -> Result<(), NoMemory>
 
 // The address to which the reply goes: the looper, a point, and its target.
 fn put_back(out: &mut Bytes, address: Address) -> Result<(), NoMemory>
-    ensures { OnOk result (out.new ≡ out.old ++ 32 ∷ (codes "back:" ++ address_text address)) }
+    ensures line { OnOk result (out.new ≡ out.old ++ 32 ∷ (codes "back:" ++ address_text address)) }
+    ensures typed { OnOk result (FitsAddress address) }
 {
     put_keyed(out, b"back:", u64::from(address.looper))?;
     out.push(b'.')?;

@@ -4,13 +4,16 @@ ghost use Rattle.std.specs.Prelude.{◌≡◌, [], ◌∷◌, ◌++◌, codes, O
 ghost use Rattle.std.specs.Fmt.{decimal};
 ghost use Rattle.ak_journal.specs.Parts.{behind_blanks, word_text};
 ghost use Rattle.ak_journal.specs.RosterLine.{find_words, launch_words, roster_words};
+ghost use Rattle.ak_journal.specs.Legible.{Fits32, FitsFind, FitsLaunch};
+ghost use Rattle.ak_journal.specs.Typed.{IsTypedRoster};
 
 use super::parts::{put_app_word, put_counted, put_number, put_word};
 use ak_base::{AppWord, Bytes, NoMemory};
 use ak_roster::{FindOutcome, LaunchOutcome, RosterEvent};
 
 pub(crate) fn put_roster(out: &mut Bytes, event: &RosterEvent) -> Result<(), NoMemory>
-    ensures { OnOk result (out.new ≡ out.old ++ behind_blanks (roster_words event.now)) }
+    ensures line { OnOk result (out.new ≡ out.old ++ behind_blanks (roster_words event.now)) }
+    ensures typed { OnOk result (IsTypedRoster event.now) }
 {
     match event {
         RosterEvent::Launch { word, outcome } => put_launch(out, word, *outcome),
@@ -21,7 +24,8 @@ pub(crate) fn put_roster(out: &mut Bytes, event: &RosterEvent) -> Result<(), NoM
 }
 
 fn put_launch(out: &mut Bytes, word: &AppWord, outcome: LaunchOutcome) -> Result<(), NoMemory>
-    ensures { OnOk result (out.new ≡ out.old ++ behind_blanks (codes "launch" ∷ word_text word.now ∷ launch_words outcome)) }
+    ensures line { OnOk result (out.new ≡ out.old ++ behind_blanks (codes "launch" ∷ word_text word.now ∷ launch_words outcome)) }
+    ensures typed { OnOk result (FitsLaunch outcome) }
 {
     put_word(out, b"launch")?;
     put_app_word(out, word)?;
@@ -38,7 +42,8 @@ fn put_launch(out: &mut Bytes, word: &AppWord, outcome: LaunchOutcome) -> Result
 }
 
 fn put_started(out: &mut Bytes, description: u32, team: u32, first: u32) -> Result<(), NoMemory>
-    ensures { OnOk result (out.new ≡ out.old ++ behind_blanks (launch_words (LaunchOutcome.Started description team first))) }
+    ensures line { OnOk result (out.new ≡ out.old ++ behind_blanks (launch_words (LaunchOutcome.Started description team first))) }
+    ensures typed { OnOk result (Fits32 description × Fits32 team × Fits32 first) }
 {
     put_counted(out, b"started", u64::from(description))?;
     put_number(out, u64::from(team))?;
@@ -46,7 +51,8 @@ fn put_started(out: &mut Bytes, description: u32, team: u32, first: u32) -> Resu
 }
 
 fn put_find(out: &mut Bytes, word: &AppWord, outcome: FindOutcome) -> Result<(), NoMemory>
-    ensures { OnOk result (out.new ≡ out.old ++ behind_blanks (codes "find" ∷ word_text word.now ∷ find_words outcome)) }
+    ensures line { OnOk result (out.new ≡ out.old ++ behind_blanks (codes "find" ∷ word_text word.now ∷ find_words outcome)) }
+    ensures typed { OnOk result (FitsFind outcome) }
 {
     put_word(out, b"find")?;
     put_app_word(out, word)?;

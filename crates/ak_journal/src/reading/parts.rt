@@ -2,18 +2,18 @@
 
 ghost use Rattle.std.specs.Prelude.{◌≡◌, ◌↔◌, None, option_map, IfOk, IfSome, IsTrue};
 ghost use Rattle.ak_flatten.specs.Laws.{AreBytes, first_fault};
+ghost use Rattle.ak_input.specs.Written.{is_launched, is_looked_up};
 ghost use Rattle.ak_journal.specs.Answers.{Gives};
 ghost use Rattle.ak_journal.specs.Parting.{texts};
-ghost use Rattle.ak_journal.specs.Legible.{Fits32, IsLegibleWord};
-ghost use Rattle.ak_journal.specs.Named.{named_by};
+ghost use Rattle.ak_journal.specs.Legible.{Fits32};
 ghost use Rattle.ak_journal.specs.ReadParts as reads;
 ghost use Rattle.ak_journal.specs.ReadParts.{read_and_rest};
 
 use super::fault::Unread;
 use super::words::{first_of, u32_of};
-use ak_base::{AppWord, Bytes, NoMemory, Text, ThreadId, is_path};
+use ak_base::{AppWord, Bytes, NoMemory, ThreadId};
 use ak_flatten::{UnflattenFault, unflatten};
-use ak_input::{read_app_word, read_number};
+use ak_input::{read_app_word, read_launch_word, read_number};
 use hex::FromHexError;
 use std::alloc::Global;
 
@@ -61,27 +61,35 @@ pub(crate) fn thread_at<'a, 'w>(words: &'w [&'a [u8]]) -> Option<(ThreadId, &'w 
 }
 
 // ---- applications
-fn named_by(alloc: Global, word: &[u8]) -> Result<Option<AppWord>, NoMemory>
-    ensures word { IfOk result (λ app. app ≡ named_by word.now) }
-    ensures legible { IfOk result (λ app. IfSome app IsLegibleWord) }
-{
-    if is_path(word) {
-        return Ok(Some(AppWord::Path(Text::from_word(alloc, word)?)));
-    }
-    read_app_word(alloc, word)
-}
-
-pub(crate) fn app_word_at<'a, 'w>(
+/// What is launched.
+pub(crate) fn launch_word_at<'a, 'w>(
     alloc: Global,
     words: &'w [&'a [u8]],
 ) -> Result<(AppWord, &'w [&'a [u8]]), Unread>
-    ensures word { Gives read_and_rest result (reads.app_word_at (texts words.now)) }
-    ensures legible { IfOk result (λ x. IsLegibleWord x.0) }
+    ensures word { Gives read_and_rest result (reads.launch_word_at (texts words.now)) }
+    ensures form { IfOk result (λ x. IsTrue (is_launched x.0)) }
 {
     let Some((word, rest)) = first_of(words) else {
         return Err(Unread::NoEntry);
     };
-    let Some(app) = named_by(alloc, word)? else {
+    let Some(app) = read_launch_word(alloc, word)? else {
+        return Err(Unread::NoEntry);
+    };
+    Ok((app, rest))
+}
+
+/// What is looked up.
+pub(crate) fn find_word_at<'a, 'w>(
+    alloc: Global,
+    words: &'w [&'a [u8]],
+) -> Result<(AppWord, &'w [&'a [u8]]), Unread>
+    ensures word { Gives read_and_rest result (reads.find_word_at (texts words.now)) }
+    ensures form { IfOk result (λ x. IsTrue (is_looked_up x.0)) }
+{
+    let Some((word, rest)) = first_of(words) else {
+        return Err(Unread::NoEntry);
+    };
+    let Some(app) = read_app_word(alloc, word)? else {
         return Err(Unread::NoEntry);
     };
     Ok((app, rest))

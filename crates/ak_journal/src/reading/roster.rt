@@ -7,7 +7,7 @@ ghost use Rattle.ak_journal.specs.Legible.{FitsFind, FitsLaunch, IsLegibleRoster
 ghost use Rattle.ak_journal.specs.ReadRoster as reads;
 
 use super::fault::Unread;
-use super::parts::app_word_at;
+use super::parts::{find_word_at, launch_word_at};
 use super::words::{first_of, first_u32, u32_at};
 use ak_roster::{FindOutcome, LaunchOutcome, RosterEvent};
 use std::alloc::Global;
@@ -35,7 +35,7 @@ fn launched_of(alloc: Global, words: &[&[u8]]) -> Result<RosterEvent, Unread>
     ensures read { Gives (λ e. e) result (reads.launched_of (texts words.now)) }
     ensures legible { IfOk result IsLegibleRoster }
 {
-    let (word, words) = app_word_at(alloc, words)?;
+    let (word, words) = launch_word_at(alloc, words)?;
     let Some(outcome) = launch_outcome(words) else {
         return Err(Unread::NoEntry);
     };
@@ -46,7 +46,7 @@ fn found_of(alloc: Global, words: &[&[u8]]) -> Result<RosterEvent, Unread>
     ensures read { Gives (λ e. e) result (reads.found_of (texts words.now)) }
     ensures legible { IfOk result IsLegibleRoster }
 {
-    let (word, words) = app_word_at(alloc, words)?;
+    let (word, words) = find_word_at(alloc, words)?;
     let Some(outcome) = find_outcome(words) else {
         return Err(Unread::NoEntry);
     };

@@ -1,0 +1,12 @@
+pub mod Acting
+pub mod Entries
+pub mod Lines
+pub mod Loopers
+pub mod Mains
+pub mod Merged
+pub mod Replaying
+pub mod Rows
+pub mod Said
+pub mod Sides
+pub mod Steps
+pub mod Threads
