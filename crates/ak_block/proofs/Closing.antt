@@ -5,6 +5,7 @@ use Rattle.std.specs.List.{list_all}
 use Rattle.std.proofs.lemmas.List.{length-append, map-append}
 use Rattle.std.proofs.lemmas.List.Folds.{list_all-append}
 use Rattle.std.proofs.Math.Seq.{set-append_seam}
+use Rattle.ak_base.specs.declared.thread.ThreadId.{ThreadId}
 use Rattle.ak_turn.specs.Entries.{StartsWith}
 use Rattle.ak_roster.specs.declared.head.AppHead.{AppHead}
 use Rattle.ak_script.specs.declared.statement.SessionLines.{SessionLines}
@@ -16,12 +17,14 @@ use Rattle.ak_lines.specs.declared.job.SessionJob.{SessionJob}
 use Rattle.ak_session.specs.Stands.{Stands}
 use Rattle.ak_run.specs.declared.run.Run.{Run}
 use Rattle.ak_run.specs.Doing.{Does}
+use Rattle.ak_run.specs.Seen.{HasSeen}
 use Rattle.ak_run.specs.Sessions.{MayClose, Told, sessions_of}
 use Rattle.ak_block.specs.declared.blocks.Heard.{Heard}
 use Rattle.ak_block.specs.Carried.{AreCarried, IsCarriedIn, SessionPart}
 use Rattle.ak_block.specs.Threads.{CameOfAll}
 use Rattle.ak_block.specs.Together.{AreJobsFor, AreOpen, HasClosedAll, IsJobFor, opened_for, part_of}
-use Rattle.ak_block.proofs.Started.{nothing_done, nothing_then}
+use Rattle.ak_run.proofs.Surface.{knows_by, seen_further}
+use Rattle.ak_block.proofs.Started.{nothing_done, nothing_then, same_time}
 
 -- what stands at the seam
 at_seam : {X : Type 0} (xs : List X) (y : X) (ys : List X) → slice_get (xs ++ y ∷ ys) (length xs) ≡ Some y
@@ -34,9 +37,9 @@ abbrev pub part_in : SessionEnd → SessionPart
 part_in end = record { outcomes = end.outcomes.items; tolds = end.tolds.items; short = end.short }
 
 -- so it is carried, where the run has it closed with that
-carried_with : (lines : SessionLines) (job : SessionJob) (end : SessionEnd) (t : Run) (time number place : ℕ) → job.lines.lines.items ≡ lines.lines.items → job.session.hands.clock.time ≡ time → (came : HasCarriedOut job end) → number ≡ place + 1 → slice_get (sessions_of t) place ≡ Some (job.session, Some end.session)
-    → IsCarriedIn came.heads t time number lines (part_in end)
-carried_with lines job end t time number place same begins came number_is there = record {
+carried_with : (lines : SessionLines) (job : SessionJob) (end : SessionEnd) (t : Run) (time number place : ℕ) → job.lines.lines.items ≡ lines.lines.items → job.session.hands.clock.time ≡ time → job.session.hands.clock.thread.0 ≡ number → (came : HasCarriedOut job end) → number ≡ place + 1
+    → slice_get (sessions_of t) place ≡ Some (job.session, Some end.session) → HasSeen t time end.session → IsCarriedIn came.heads t time number lines (part_in end)
+carried_with lines job end t time number place same begins thread came number_is there seen = record {
   did = record {
     blocks = came.blocks;
     are = subst (λ (ls : List SessionLine). AreLines came.heads [] ls end.outcomes.items end.tolds.items came.blocks) same came.are;
@@ -51,8 +54,10 @@ carried_with lines job end t time number place same begins came number_is there 
   closed = end.session;
   there = there;
   keeps = came.keeps;
+  thread = ap (λ (t : ThreadId). t.0) came.keeps.thread ∙ thread;
   begins = begins;
   stands = subst (λ (start : ℕ). Stands came.heads start (all_steps came.blocks ++ came.stopped) end.session) begins came.stands;
+  seen = seen;
 }
 
 same_heads : (given : Option (List AppHead)) (heads kept : List AppHead) → given ≡ Some heads → given ≡ Some kept → kept ≡ heads
@@ -61,10 +66,11 @@ same_heads given heads kept a b =
     let same : kept ≡ heads = cc both in
     same
 
-carried_in : (heads : List AppHead) (lines : SessionLines) (job : SessionJob) (end : SessionEnd) (t : Run) (time number place : ℕ) → IsJobFor heads time number lines job → HasCarriedOut job end → number ≡ place + 1 → slice_get (sessions_of t) place ≡ Some (job.session, Some end.session)
+carried_in : (heads : List AppHead) (lines : SessionLines) (job : SessionJob) (end : SessionEnd) (t : Run) (time number place : ℕ) → IsJobFor heads time number lines job → HasCarriedOut job end → number ≡ place + 1 → slice_get (sessions_of t) place ≡ Some (job.session, Some end.session) → HasSeen t time end.session
     → IsCarriedIn heads t time number lines (part_in end)
-carried_in heads lines job end t time number place is came number_is there =
-    subst (λ (hs : List AppHead). IsCarriedIn hs t time number lines (part_in end)) (same_heads job.session.roster_seat.opening heads came.heads is.heads_are came.heads_are) (carried_with lines job end t time number place is.lines_are is.begins came number_is there)
+carried_in heads lines job end t time number place is came number_is there seen =
+    subst (λ (hs : List AppHead). IsCarriedIn hs t time number lines (part_in end)) (same_heads job.session.roster_seat.opening heads came.heads is.heads_are came.heads_are)
+    (carried_with lines job end t time number place is.lines_are is.begins is.number_is came number_is there seen)
 
 carried_push : (P : ℕ → SessionLines → SessionPart → Type 0) (from : ℕ) (done : List SessionLines) (parts : List SessionPart) (lines : SessionLines) (part : SessionPart) → AreCarried P from done parts → P (from + length done) lines part → AreCarried P from (done ++ lines ∷ []) (parts ++ part ∷ [])
 carried_push P from [] [] lines part are is = (subst (λ (n : ℕ). P n lines part) (omega arith) is, tt)
@@ -82,12 +88,13 @@ record Next (heads : List AppHead) (before : List Told) (time from : ℕ) (sessi
   are : AreJobsFor heads time (from + 1) todo jobs
   one : HasCarriedOut job end
   came : CameOfAll jobs rest
+  now : r.hands.clock.time ≡ time
   from_is : from ≡ length before + 1
   stand : sessions_of r ≡ before ++ opened_for job ∷ map opened_for jobs
 
-next_of : (heads : List AppHead) (before : List Told) (time from : ℕ) (sessions : List SessionLines) (jobs : List SessionJob) (r : Run) (end : SessionEnd) (rest : List SessionEnd) → from ≡ length before + 1 → AreJobsFor heads time from sessions jobs → CameOfAll jobs (end ∷ rest)
-    → sessions_of r ≡ before ++ map opened_for jobs → Next heads before time from sessions r end rest
-next_of heads before time from (x ∷ sessions) (j ∷ jobs) r end rest from_is are came stand = record {
+next_of : (heads : List AppHead) (before : List Told) (time from : ℕ) (sessions : List SessionLines) (jobs : List SessionJob) (r : Run) (end : SessionEnd) (rest : List SessionEnd) → r.hands.clock.time ≡ time → from ≡ length before + 1 → AreJobsFor heads time from sessions jobs
+    → CameOfAll jobs (end ∷ rest) → sessions_of r ≡ before ++ map opened_for jobs → Next heads before time from sessions r end rest
+next_of heads before time from (x ∷ sessions) (j ∷ jobs) r end rest now from_is are came stand = record {
   lines = x;
   todo = sessions;
   all = refl;
@@ -97,16 +104,17 @@ next_of heads before time from (x ∷ sessions) (j ∷ jobs) r end rest from_is 
   are = are.1;
   one = came.0;
   came = came.1;
+  now = now;
   from_is = from_is;
   stand = stand;
 }
-next_of heads before time from [] [] r end rest from_is are came stand = absurd came
-next_of heads before time from [] (j ∷ jobs) r end rest from_is are came stand = absurd are
-next_of heads before time from (x ∷ sessions) [] r end rest from_is are came stand = absurd are
+next_of heads before time from [] [] r end rest now from_is are came stand = absurd came
+next_of heads before time from [] (j ∷ jobs) r end rest now from_is are came stand = absurd are
+next_of heads before time from (x ∷ sessions) [] r end rest now from_is are came stand = absurd are
 
 module _ (heads : List AppHead) (before : List Told) (time from : ℕ) (sessions : List SessionLines) (r : Run) (end : SessionEnd) (rest : List SessionEnd) where
   next_open : AreOpen heads before time from sessions r (end ∷ rest) → Next heads before time from sessions r end rest
-  next_open are = next_of heads before time from sessions are.jobs r end rest are.from_is are.are are.came are.stand
+  next_open are = next_of heads before time from sessions are.jobs r end rest are.now are.from_is are.are are.came are.stand
 
   module _ (next : Next heads before time from sessions r end rest) where
     abbrev told : Told
@@ -125,7 +133,7 @@ module _ (heads : List AppHead) (before : List Told) (time from : ℕ) (sessions
       came = record { keeps = next.one.keeps; heads = next.one.heads; steps = all_steps next.one.blocks ++ next.one.stopped; stands = next.one.stands; diary = next.one.diary };
     }
 
-    module _ (s : Run) (closed : (may : MayClose r end.session) → sessions_of s ≡ set (sessions_of r) may.place (may.opened, Some end.session)) where
+    module _ (s : Run) (closed : (may : MayClose r end.session) → sessions_of s ≡ set (sessions_of r) may.place (may.opened, Some end.session)) (does : Does [] r s) where
       stand_closed : sessions_of s ≡ (before ++ told ∷ []) ++ map opened_for next.jobs
       stand_closed =
           closed may_close_next ∙ ap (λ (l : List Told). set l (length before) told) next.stand ∙ set-append_seam before (opened_for next.job) (map opened_for next.jobs) told
@@ -134,6 +142,7 @@ module _ (heads : List AppHead) (before : List Told) (time from : ℕ) (sessions
       open_then : AreOpen heads (before ++ told ∷ []) time (from + 1) next.todo s rest
       open_then = record {
         from_is = omega (arith, next.from_is, length-append before (told ∷ []));
+        now = same_time r s does ∙ next.now;
         jobs = next.jobs;
         are = next.are;
         came = next.came;
@@ -152,7 +161,7 @@ pub record ClosedSoFar (heads : List AppHead) (before : List Told) (time from : 
   pub count : length closed ≡ length done
   pub each_closed : list_all (λ (told : Told). is_some told.1) closed ≡ true
   pub are_open : AreOpen heads (before ++ closed) time (from + length done) todo s rest
-  pub carried : (t : Run) → StartsWith (sessions_of t) (before ++ closed) → AreCarried (IsCarriedIn heads t time) from done (map part_of heard)
+  pub carried : (t : Run) → Does [] s t → StartsWith (sessions_of t) (before ++ closed) → AreCarried (IsCarriedIn heads t time) from done (map part_of heard)
   pub does : Does [] r s
 
 module _ (heads : List AppHead) (before : List Told) (time from : ℕ) (sessions : List SessionLines) (r : Run) where
@@ -165,12 +174,13 @@ module _ (heads : List AppHead) (before : List Told) (time from : ℕ) (sessions
     count = refl;
     each_closed = refl;
     are_open = subst (λ (l : List Told). AreOpen heads l time (from + 0) sessions r ends) (sym (append-nil before)) (subst (λ (n : ℕ). AreOpen heads before time n sessions r ends) (omega arith) are);
-    carried = λ t on. tt;
+    carried = λ t does on. tt;
     does = nothing_done r;
   }
 
   -- one more
-  module _ (s : Run) (end : SessionEnd) (rest : List SessionEnd) (heard : List Heard) (so_far : ClosedSoFar heads before time from sessions r s (end ∷ rest) heard) (t : Run) (closed : (may : MayClose s end.session) → sessions_of t ≡ set (sessions_of s) may.place (may.opened, Some end.session)) where
+  module _ (s : Run) (end : SessionEnd) (rest : List SessionEnd) (heard : List Heard) (so_far : ClosedSoFar heads before time from sessions r s (end ∷ rest) heard) (t : Run) (closed : (may : MayClose s end.session) → sessions_of t ≡ set (sessions_of s) may.place (may.opened, Some end.session))
+      (seen : HasSeen t s.hands.clock.time end.session) (does : Does [] s t) where
     next : Next heads (before ++ so_far.closed) time (from + length so_far.done) so_far.todo s end rest
     next = next_open heads (before ++ so_far.closed) time (from + length so_far.done) so_far.todo s end rest so_far.are_open
 
@@ -181,9 +191,13 @@ module _ (heads : List AppHead) (before : List Told) (time from : ℕ) (sessions
     one_behind = sym (append_assoc before so_far.closed (now_closed ∷ []))
 
     open_now : AreOpen heads ((before ++ so_far.closed) ++ now_closed ∷ []) time (from + length so_far.done + 1) next.todo t rest
-    open_now = open_then heads (before ++ so_far.closed) time (from + length so_far.done) so_far.todo s end rest next t closed
+    open_now = open_then heads (before ++ so_far.closed) time (from + length so_far.done) so_far.todo s end rest next t closed does
 
-    module _ (u : Run) (on : StartsWith (sessions_of u) (before ++ (so_far.closed ++ now_closed ∷ []))) where
+    -- main has still seen all that it has seen
+    seen_still : (u : Run) → Does [] t u → HasSeen u time end.session
+    seen_still u later = seen_further t u time end.session (knows_by [] t u later) (subst (λ (now : ℕ). HasSeen t now end.session) next.now seen)
+
+    module _ (u : Run) (later : Does [] t u) (on : StartsWith (sessions_of u) (before ++ (so_far.closed ++ now_closed ∷ []))) where
       whole_on : sessions_of u ≡ (before ++ so_far.closed) ++ now_closed ∷ on.0
       whole_on = on.1 ∙ ap (λ (l : List Told). l ++ on.0) one_behind ∙ append_assoc (before ++ so_far.closed) (now_closed ∷ []) on.0
 
@@ -192,11 +206,11 @@ module _ (heads : List AppHead) (before : List Told) (time from : ℕ) (sessions
 
       carried_now : AreCarried (IsCarriedIn heads u time) from (so_far.done ++ next.lines ∷ []) (map part_of heard ++ part_in end ∷ [])
       carried_now =
-          carried_push (IsCarriedIn heads u time) from so_far.done (map part_of heard) next.lines (part_in end) (so_far.carried u (now_closed ∷ on.0, whole_on))
-          (carried_in heads next.lines next.job end u time (from + length so_far.done) (length (before ++ so_far.closed)) next.is next.one next.from_is there_now)
+          carried_push (IsCarriedIn heads u time) from so_far.done (map part_of heard) next.lines (part_in end) (so_far.carried u (nothing_then s t u does later) (now_closed ∷ on.0, whole_on))
+          (carried_in heads next.lines next.job end u time (from + length so_far.done) (length (before ++ so_far.closed)) next.is next.one next.from_is there_now (seen_still u later))
 
-    pub closed_push : (h : Heard) (more : List Heard) → part_of h ≡ part_in end → more ≡ heard ++ h ∷ [] → Does [] s t → ClosedSoFar heads before time from sessions r t rest more
-    closed_push h more part is does = record {
+    pub closed_push : (h : Heard) (more : List Heard) → part_of h ≡ part_in end → more ≡ heard ++ h ∷ [] → ClosedSoFar heads before time from sessions r t rest more
+    closed_push h more part is = record {
       done = so_far.done ++ next.lines ∷ [];
       todo = next.todo;
       all = so_far.all ∙ ap (λ (l : List SessionLines). so_far.done ++ l) next.all ∙ sym (append_assoc so_far.done (next.lines ∷ []) next.todo);
@@ -206,9 +220,9 @@ module _ (heads : List AppHead) (before : List Told) (time from : ℕ) (sessions
       are_open =
           subst (λ (l : List Told). AreOpen heads l time (from + length (so_far.done ++ next.lines ∷ [])) next.todo t rest) (sym one_behind)
           (subst (λ (n : ℕ). AreOpen heads ((before ++ so_far.closed) ++ now_closed ∷ []) time n next.todo t rest) (omega (arith, length-append so_far.done (next.lines ∷ []))) open_now);
-      carried = λ u on.
+      carried = λ u later on.
           subst (AreCarried (IsCarriedIn heads u time) from (so_far.done ++ next.lines ∷ []))
-          (sym (ap (map part_of) is ∙ map-append part_of heard (h ∷ []) ∙ ap (λ (p : SessionPart). map part_of heard ++ p ∷ []) part)) (carried_now u on);
+          (sym (ap (map part_of) is ∙ map-append part_of heard (h ∷ []) ∙ ap (λ (p : SessionPart). map part_of heard ++ p ∷ []) part)) (carried_now u later on);
       does = nothing_then r s t so_far.does does;
     }
 
@@ -229,6 +243,6 @@ module _ (heads : List AppHead) (before : List Told) (time from : ℕ) (sessions
         sessions_are = stand;
         count = so_far.count ∙ ap length (sym all);
         each_closed = so_far.each_closed;
-        carried = subst (λ (l : List SessionLines). AreCarried (IsCarriedIn heads s time) from l (map part_of heard)) (sym all) (so_far.carried s ([], stand ∙ sym (append-nil (before ++ so_far.closed))));
+        carried = subst (λ (l : List SessionLines). AreCarried (IsCarriedIn heads s time) from l (map part_of heard)) (sym all) (so_far.carried s (nothing_done s) ([], stand ∙ sym (append-nil (before ++ so_far.closed))));
         does = so_far.does;
       }

@@ -9,6 +9,7 @@ use Rattle.ak_lines.specs.Blocks.{AreLines}
 use Rattle.ak_lines.specs.Carried.{IsCutAt, all_steps}
 use Rattle.ak_print.specs.declared.told.Told.{Told}
 use Rattle.ak_run.specs.declared.run.Run.{Run}
+use Rattle.ak_run.specs.Seen.{HasSeen}
 use Rattle.ak_run.specs.Sessions.{session_count, sessions_of}
 use Rattle.ak_script.specs.declared.statement.SessionLines.{SessionLines}
 use Rattle.ak_session.specs.declared.session.Session.{Session}
@@ -31,7 +32,8 @@ pub record DidLines (heads : List AppHead) (lines : SessionLines) (part : Sessio
   pub cut : part.short ≡ true → IsCutAt heads lines.lines.items (length part.outcomes) (all_steps blocks) stopped
 
 -- ---- while the run goes on
--- the run has it closed, as it stood by these steps; its clock began at that time
+-- the run has it closed, as it stood by these steps; its thread has that number, and its clock began at that time. Main has seen all that it has seen,
+-- and what main made past that time stands behind
 pub record IsCarriedIn (heads : List AppHead) (r : Run) (time number : ℕ) (lines : SessionLines) (part : SessionPart) : Type 0 where
   pub did : DidLines heads lines part
   pub place : ℕ
@@ -40,8 +42,10 @@ pub record IsCarriedIn (heads : List AppHead) (r : Run) (time number : ℕ) (lin
   pub closed : Session
   pub there : slice_get (sessions_of r) place ≡ Some (opened, Some closed)
   pub keeps : KeepsSession opened closed
+  pub thread : closed.hands.clock.thread.0 ≡ number
   pub begins : opened.hands.clock.time ≡ time
   pub stands : Stands heads time (all_steps did.blocks ++ did.stopped) closed
+  pub seen : HasSeen r time closed
 
 -- sessions whose numbers go on from that one; Carried tells of one of them what its thread did
 module _ (Carried : ℕ → SessionLines → SessionPart → Type 0) where

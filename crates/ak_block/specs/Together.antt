@@ -57,9 +57,11 @@ pub record HasRunSessions (heads : List AppHead) (sessions : List SessionLines) 
   pub opened : sessions_of r' ≡ sessions_of r ++ map opened_for jobs
   pub does : Does [] r r'
 
--- behind these sessions the run may close those that are open, in order; the first of them has that number; they began at that time
+-- behind these sessions the run may close those that are open, in order; the first of them has that number; they began at that time, which is
+-- main's still
 pub record AreOpen (heads : List AppHead) (before : List Told) (time from : ℕ) (sessions : List SessionLines) (r : Run) (ends : List SessionEnd) : Type 0 where
   pub from_is : from ≡ length before + 1
+  pub now : r.hands.clock.time ≡ time
   pub jobs : List SessionJob
   pub are : AreJobsFor heads time from sessions jobs
   pub came : CameOfAll jobs ends

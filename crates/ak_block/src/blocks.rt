@@ -5,7 +5,9 @@ ghost use Rattle.ak_outside.specs.Faults.{Rose};
 ghost use Rattle.ak_describe.specs.Whole.{heads_of};
 ghost use Rattle.ak_run.specs.Doing.{Does};
 ghost use Rattle.ak_run.specs.Running.{IsRunning};
+ghost use Rattle.ak_run.specs.Sending.{looper_count};
 ghost use Rattle.ak_run.specs.Sessions.{Told, session_count, session_limit};
+ghost use Rattle.ak_run.specs.Starts.{StartsAll, StartsButLast, StartsMore, StopsStarting, thread_count};
 ghost use Rattle.ak_lines.specs.Carried.{IsReadyJob};
 ghost use Rattle.ak_block.specs.Threads.{jobs_of};
 ghost use Rattle.ak_block.specs.Together.{AreOpen, HasClosedAll, HasOpened, HasRunBlock, HasRunSessions};
@@ -46,6 +48,7 @@ fn open(alloc: Global, run: &mut Run, lines: &SessionLines) -> Result<SessionJob
     ensures opened { HasOpened (heads_of run.old.apps.items) lines.now result run.old run.new }
     ensures ready { IfOk result IsReadyJob }
     ensures running { IsRunning run.new }
+    ensures count { looper_count run.new ≡ looper_count run.old }
     ensures apps { run.new.apps ≡ run.old.apps }
 {
     let lines = lines.try_clone(alloc)?;
@@ -81,7 +84,10 @@ fn run_sessions<W: Spawner, R: Threads + Wait + Copy + Send + 'static>(
     ensures cause { IsErrOf result Cut.ThreadFault → Rose (W.faults spawner.old) (W.faults spawner.new) }
     ensures kept { ¬ (IsErrOf result Cut.ThreadFault) → W.faults spawner.new ≡ W.faults spawner.old }
     ensures never_falls { W.faults spawner.old ≤ W.faults spawner.new }
+    ensures starts { ¬ (IsErrOf result Cut.ThreadFault) → StartsAll (length ends.new.items) (W.calls spawner.old) (W.calls spawner.new) }
+    ensures stops_starting { IsErrOf result Cut.ThreadFault → StartsButLast (length ends.new.items) (W.calls spawner.old) (W.calls spawner.new) }
     ensures running { IsRunning run.new }
+    ensures count { looper_count run.new ≡ looper_count run.old }
     ensures apps { run.new.apps ≡ run.old.apps }
 {
     for lines in sessions {
@@ -99,13 +105,14 @@ fn run_sessions<W: Spawner, R: Threads + Wait + Copy + Send + 'static>(
 }
 
 // Closes the sessions, and keeps what each came to.
-fn close_all(run: &mut Run, ends: Vec<SessionEnd>, heard: &mut Vec<Heard>)
+fn close_all<R: Wait>(rt: &R, run: &mut Run, ends: Vec<SessionEnd>, heard: &mut Vec<Heard>)
     requires running { IsRunning run.old }
     requires opened { (heads : List AppHead) × (before : List Told) × (time : ℕ) × (from : ℕ) × (sessions : List SessionLines) × AreOpen heads before time from sessions run.old ends.items }
     requires none { heard.old.items ≡ [] }
     requires room { length ends.items ≤ vec_capacity heard.old }
     ensures kept { (heads : List AppHead) (before : List Told) (time from : ℕ) (sessions : List SessionLines) → AreOpen heads before time from sessions run.old ends.items → HasClosedAll heads before time from sessions run.old run.new heard.new.items }
     ensures running { IsRunning run.new }
+    ensures count { looper_count run.new ≡ looper_count run.old }
     ensures apps { run.new.apps ≡ run.old.apps }
 {
     for end in ends {
@@ -115,7 +122,7 @@ fn close_all(run: &mut Run, ends: Vec<SessionEnd>, heard: &mut Vec<Heard>)
             session,
             short,
         } = end;
-        run.close_session(session);
+        run.close_session(rt, session);
         heard.push_reserved(Heard {
             outcomes,
             tolds,
@@ -140,7 +147,10 @@ pub fn together<W: Spawner, R: Threads + Wait + Copy + Send + 'static>(
     ensures kept { IfOk result (λ ran. ¬ (IsErrOf ran.1 Cut.ThreadFault) → W.faults spawner.new ≡ W.faults spawner.old) }
     ensures nothing { OnErr result (run.new ≡ run.old) }
     ensures spawner { OnErr result (W.faults spawner.new ≡ W.faults spawner.old) }
+    ensures not_asked { OnErr result (W.calls spawner.new ≡ W.calls spawner.old) }
     ensures never_falls { W.faults spawner.old ≤ W.faults spawner.new }
+    ensures starts { IfOk result (λ ran. ¬ (IsErrOf ran.1 Cut.ThreadFault) → StartsMore (thread_count run.old) (thread_count run.new) (W.calls spawner.old) (W.calls spawner.new)) }
+    ensures stops_starting { IfOk result (λ ran. IsErrOf ran.1 Cut.ThreadFault → StopsStarting 1 (thread_count run.old) (thread_count run.new) (W.calls spawner.old) (W.calls spawner.new)) }
     ensures running { IsRunning run.new }
     ensures apps { run.new.apps ≡ run.old.apps }
 {
@@ -149,6 +159,6 @@ pub fn together<W: Spawner, R: Threads + Wait + Copy + Send + 'static>(
     let mut ends = Vec::with_capacity(alloc, sessions.len())?;
     let mut heard = Vec::with_capacity(alloc, sessions.len())?;
     let came = run_sessions(alloc, rt, run, spawner, sessions, running, &mut ends);
-    close_all(run, ends, &mut heard);
+    close_all(rt, run, ends, &mut heard);
     Ok((heard, came))
 }

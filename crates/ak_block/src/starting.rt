@@ -1,6 +1,7 @@
 //! The threads of sessions.
 ghost use Rattle.std.specs.Prelude.{◌≡◌, ◌≤◌, ◌<◌, ◌+◌, ◌++◌, ◌∷◌, [], length, vec_capacity, IfSome, IfNone, OnSome};
 ghost use Rattle.ak_outside.specs.Faults.{Rose};
+ghost use Rattle.ak_outside.specs.Spawner.{HasGivenBack, HasStarted};
 ghost use Rattle.ak_lines.specs.Carried.{HasCarriedOut, IsReadyJob};
 ghost use Rattle.ak_block.specs.Threads.{AreEnds, jobs_of};
 
@@ -54,6 +55,8 @@ pub(crate) fn start<W: Spawner, R: Threads + Wait + Copy + Send + 'static>(
     ensures kept { OnSome result (W.faults spawner.new ≡ W.faults spawner.old) }
     ensures cause { IfNone result (Rose (W.faults spawner.old) (W.faults spawner.new)) }
     ensures never_falls { W.faults spawner.old ≤ W.faults spawner.new }
+    ensures asked { OnSome result (HasStarted (W.calls spawner.old) (W.calls spawner.new)) }
+    ensures given_back { IfNone result (HasGivenBack (W.calls spawner.old) (W.calls spawner.new)) }
 {
     let copy = *rt;
     let promise = Carries(Snapshot::of(&job));

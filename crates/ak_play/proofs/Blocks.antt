@@ -26,11 +26,11 @@ use Rattle.ak_play.specs.declared.stop.Stop.{Stop}
 use Rattle.ak_play.specs.declared.stop.Stop.TheVariants as stop
 use Rattle.ak_play.specs.declared.stop.Untold.{Untold}
 use Rattle.ak_play.specs.declared.stop.Untold.TheVariants as untold
-use Rattle.ak_play.specs.Blocks.{IsAlone, IsBlock, IsLaunch, MayStopAt}
+use Rattle.ak_play.specs.Blocks.{IsAlone, IsBlock, LacksAt, RefusedAt}
 use Rattle.ak_play.specs.Gathered.{GatheredData, gathered_and, of_came, of_sessions}
 use Rattle.ak_play.specs.Parts.{IsMains, IsOfSessions, IsPart, Part, session_outcomes, session_tolds, short_in}
 use Rattle.ak_play.specs.Play.{AreWritten}
-use Rattle.ak_play.specs.Steps.{HasStepped, HasWritten, HasWrittenAll, IsThreadFault, StepsOn, StopsBeforeLines, StopsInside, StopsShort, lines_told, stop_untold}
+use Rattle.ak_play.specs.Steps.{HasStepped, HasWritten, HasWrittenAll, StepsOn, StopsAt, StopsBeforeLines, StopsInside, StopsShort, lines_told, stop_untold}
 use Rattle.ak_play.proofs.Doing.{nothing_so}
 use Rattle.ak_play.proofs.Playing.{Appends-nothing, no_sessions_more}
 use Rattle.ak_play.proofs.Texts.{one_written, written_as}
@@ -76,17 +76,16 @@ module _ (apps : List AppText) (s : Statement) (alone : IsAlone s) (k : Gathered
 
 -- it came to nothing
 module _ (apps : List AppText) (s : Statement) (k k' : GatheredData) (r r' : Run) (given : Option (List ℕ)) (Failed Kept : Type 0) (same : sessions_of r' ≡ sessions_of r) (kept : k' ≡ k) (sink : Kept) where
-  stops : (steps : List Step) → MayStopAt apps s steps → Does steps r r' → StopsShort apps s k k' r r' given given Kept
-  stops steps at does = record { steps = steps; at = at; does = does; sessions = same; same = kept; written = Appends-nothing given; sink = sink }
+  stops : (At : List Step → Type 0) (steps : List Step) → At steps → Does steps r r' → StopsShort At k k' r r' given given Kept
+  stops At steps at does = record { steps = steps; at = at; does = does; sessions = same; same = kept; written = Appends-nothing given; sink = sink }
 
-  pub stopped_short : (steps : List Step) → MayStopAt apps s steps → Does steps r r' → HasStepped apps s k k' r r' given given Failed Kept {A = Unit {0}} (Err (stop.NoMemory lines.Whole))
-  stopped_short steps at does = inl (refl, stops steps at does)
+  pub stopped_short : (steps : List Step) → LacksAt apps s steps → Does steps r r' → HasStepped apps s k k' r r' given given Failed Kept {A = Unit {0}} (Err (stop.NoMemory lines.Whole))
+  stopped_short steps at does = inl (refl, stops (LacksAt apps s) steps at does)
 
-  pub main_stopped : (why : Stop) (steps : List Step) → MayStopAt apps s steps → Does steps r r' → (why ≡ stop.WriteFault → ⊥) → StopsBeforeLines {A = Came} (Err why) → (IsThreadFault {A = Came} (Err why) → IsLaunch s)
-      → HasStepped apps s k k' r r' given given Failed Kept {A = Unit {0}} (Err why)
-  main_stopped stop.WriteFault steps at does not_written before launch = absurd (not_written refl)
-  main_stopped (stop.ThreadFault told) steps at does not_written before launch = inl (launch tt, before, stops steps at does)
-  main_stopped (stop.NoMemory told) steps at does not_written before launch = inl (before, stops steps at does)
+  pub main_stopped : (why : Stop) (steps : List Step) → StopsAt apps s why steps → Does steps r r' → StopsBeforeLines {A = Came} (Err why) → HasStepped apps s k k' r r' given given Failed Kept {A = Unit {0}} (Err why)
+  main_stopped stop.WriteFault steps at does before = absurd at
+  main_stopped (stop.ThreadFault told) steps at does before = inl (before, stops (RefusedAt apps s) steps at does)
+  main_stopped (stop.NoMemory told) steps at does before = inl (before, stops (LacksAt apps s) steps at does)
 
 -- ---- a block
 pub as_many : (C : ℕ → SessionLines → SessionPart → Type 0) (from : ℕ) (all : List SessionLines) (parts : List SessionPart) → AreCarried C from all parts → length all ≡ length parts

@@ -1,10 +1,11 @@
 -- The run of a script, from what was carried out of it to its end.
-use Rattle.std.proofs.Common.{◌≡◌, ◌≢◌, ◌⊎◌, ◌||◌, inl, inr, ⊎_elim, ℕ, ◌+◌, ◌<◌, List, [], ◌∷◌, ◌++◌, length, All, refl, sym, ap, ◌∙◌, subst, append_assoc}
+use Rattle.std.proofs.Common.{◌≡◌, ◌≢◌, ◌⊎◌, ◌||◌, inl, inr, ⊎_elim, ℕ, ◌+◌, ◌<◌, List, [], ◌∷◌, ◌++◌, length, All, refl, sym, ap, ◌∙◌, subst, append_assoc, arith}
 use Rattle.std.specs.Prelude.{Option, None, Some, Ok, Err, Result, IfSome, IsSomeAnd, Bool, true, false, slice_get}
 use Rattle.std.proofs.lemmas.List.Concat.{flat_map-append}
 use Rattle.ak_base.specs.declared.ending.Ending.{Ending}
 use Rattle.ak_base.specs.declared.ending.Ending.TheVariants as ending
 use Rattle.ak_base.specs.Thread.{main_thread}
+use Rattle.ak_outside.specs.Calls.{Calls}
 use Rattle.ak_turn.specs.Noted.{StandsIn}
 use Rattle.ak_roster.specs.declared.head.AppHead.{AppHead}
 use Rattle.ak_describe.specs.Whole.{heads_of}
@@ -19,7 +20,9 @@ use Rattle.ak_script.specs.declared.statement.SessionLines.{SessionLines}
 use Rattle.ak_script.specs.declared.statement.Statement.{Statement}
 use Rattle.ak_run.specs.AtEnd.{DoneAtEnd, SessionsDone}
 use Rattle.ak_run.specs.Doing.{HasDoneSoFar}
+use Rattle.ak_run.specs.Ending.{EndsAs}
 use Rattle.ak_run.specs.Sessions.{session_count}
+use Rattle.ak_run.specs.Starts.{thread_count}
 use Rattle.ak_block.specs.Carried.{IsCarriedIn, SessionPart}
 use Rattle.ak_lines.specs.Carried as carried
 use Rattle.ak_lines.specs.declared.outcome.Outcome.{Outcome}
@@ -33,13 +36,15 @@ use Rattle.ak_play.specs.declared.stop.Stop.TheVariants as stop
 use Rattle.ak_play.specs.declared.gathered.Gathered.{Gathered}
 use Rattle.ak_play.specs.Gathered.{GatheredData, gathered_seen}
 use Rattle.ak_play.specs.Parts.{IsCut, Part, all_outcomes, all_sessions, all_steps, all_tolds, sessions_in}
-use Rattle.ak_play.specs.Play.{AreReplies, AreWritten, IsPlay, IsShort, cut_outcomes, cut_tolds, first_tolds, last_tolds, IsPlayEnding}
+use Rattle.ak_play.specs.Play.{AreReplies, AreWritten, IsPlay, IsShort, StoppedSo, cut_outcomes, cut_sessions, cut_tolds, first_tolds, last_tolds, threads_of, IsPlayEnding}
 use Rattle.ak_play.specs.Sessions.{HasCarried}
 use Rattle.ak_play.specs.Steps.{IsPlayedTo, any_short, ended_as, is_any, is_lack, lacks_a_line, lines_after, stopped_as}
+use Rattle.ak_play.proofs.Behind.{main_behind}
 use Rattle.ak_play.proofs.Gathering.{gathered_is}
 use Rattle.ak_play.proofs.Lists.{all_front}
 use Rattle.ak_play.proofs.Parts.{parts_so, some_cut_so}
 use Rattle.ak_play.proofs.Replies.{replies}
+use Rattle.ak_play.proofs.Starts.{starts_at_end}
 
 -- ---- who found no memory
 not_any : (xs : List ℕ) → is_any xs ≡ false → xs ≡ []
@@ -140,13 +145,13 @@ module _ {A : Type 0} where
   lacking_main (Err (stop.ThreadFault told)) lacking = ap lacks_a_line lacking
   lacking_main (Err (stop.NoMemory told)) lacking = refl
 
-  -- a thread fault is one of what was carried out
-  refused_before : (played : Result A Stop) (lacked : Bool) → ended_as played lacked ≡ ending.ThreadFault → stopped_as played ≡ ending.ThreadFault
-  refused_before (Ok x) true refused = absurd (cc refused)
-  refused_before (Ok x) false refused = absurd (cc refused)
-  refused_before (Err stop.WriteFault) lacked refused = absurd (cc refused)
-  refused_before (Err (stop.ThreadFault told)) lacked refused = refl
-  refused_before (Err (stop.NoMemory told)) lacked refused = absurd (cc refused)
+  -- what main did for the statement at which it stopped
+  stopped_at_end : (apps : List AppText) (o : Option Statement) (cut : Option Part) (steps : List Step) (played : Result A Stop) (lacked : Bool) → StoppedSo apps o cut (stopped_as played) steps → StoppedSo apps o cut (ended_as played lacked) steps
+  stopped_at_end apps o cut steps (Ok x) true so = inl so
+  stopped_at_end apps o cut steps (Ok x) false so = so
+  stopped_at_end apps o cut steps (Err stop.WriteFault) lacked so = so
+  stopped_at_end apps o cut steps (Err (stop.ThreadFault told)) lacked so = so
+  stopped_at_end apps o cut steps (Err (stop.NoMemory told)) lacked so = so
 
   -- where main found memory, and each thread was started, it stopped at no statement
   nowhere : (P : Type 0) (played : Result A Stop) (lacked main : Bool) → main ≡ is_lack played → (stopped_as played ≡ ending.Done → P) → (stopped_as played ≡ ending.WriteFault → P) → main ≡ false → ended_as played lacked ≢ ending.ThreadFault → P
@@ -156,14 +161,17 @@ module _ {A : Type 0} where
   nowhere P (Err (stop.NoMemory told)) lacked main is whole at_a_write found other = let bad : true ≡ false = sym is ∙ found in absurd (cc bad)
 
 -- ---- sessions, at the end
-pub carried_at_end : (heads : List AppHead) (r : Run) (h : Histories) → SessionsDone r h → (time n : ℕ) (ls : SessionLines) (part : SessionPart) → IsCarriedIn heads r time n ls part → HasCarried heads h time n ls part
-carried_at_end heads r h sessions time n ls part is =
-    let done = sessions is.place is.opened is.closed is.there heads time (carried.all_steps is.did.blocks ++ is.did.stopped) is.stands in
+pub carried_at_end : (heads : List AppHead) (r : Run) (h : Histories) → EndsAs r h → SessionsDone r h → (time n : ℕ) (ls : SessionLines) (part : SessionPart) → IsCarriedIn heads r time n ls part → HasCarried heads h time n ls part
+carried_at_end heads r h ends sessions time n ls part is =
+    let steps = carried.all_steps is.did.blocks ++ is.did.stopped in
+    let its = sessions is.place is.opened is.closed is.there heads time steps is.stands in
+    let done : HasDone h n steps = subst (λ (m : ℕ). HasDone h m steps) (sym is.number_is) its.done in
     record {
       did = is.did;
       stamped = is.stands.stamped;
-      done = subst (λ (m : ℕ). HasDone h m (carried.all_steps is.did.blocks ++ is.did.stopped)) (sym is.number_is) done.done;
-      edits = done.edits;
+      done = done;
+      behind = main_behind heads time n steps is.closed r h is.stands is.thread is.seen ends done;
+      edits = its.edits;
     }
 
 -- ---- the steps at the end
@@ -197,17 +205,18 @@ ends_so (Err (stop.NoMemory told)) lacked = tt
 abbrev told_of : RunEnd → GatheredData
 told_of end = record { outcomes = end.outcomes; tolds = end.tolds; short = end.short.sessions }
 
-module _ {A : Type 0} (apps : List AppText) (statements : List Statement) (played : Result A Stop) (run : Run) (end : RunEnd) (old new : Option (List ℕ)) (Failed Kept : Type 0) where
-  pub is_play : IsPlayedTo apps statements (told_of end) played run old new Failed Kept → end.short.main ≡ is_lack played → end.lines ≡ lines_after played → IsRunWith (session_count run) (heads_of apps) end.short.loopers end.histories
-      → EachGotOneReply end.short.loopers end.histories → SessionsDone run end.histories → ((steps : List Step) → HasDoneSoFar steps run → DoneAtEnd (heads_of apps) steps end.histories) → IsPlay apps statements (ended_as played (any_short end.short)) end old new Failed Kept
-  is_play to main became of_run answered sessions did =
+module _ {A : Type 0} (apps : List AppText) (statements : List Statement) (played : Result A Stop) (run : Run) (end : RunEnd) (old new : Option (List ℕ)) (Failed Kept : Type 0) (calls calls' : Option Calls) where
+  pub is_play : IsPlayedTo apps statements (told_of end) played run old new Failed Kept calls calls' → end.short.main ≡ is_lack played → end.lines ≡ lines_after played → IsRunWith (session_count run) (heads_of apps) end.short.loopers end.histories
+      → EachGotOneReply end.short.loopers end.histories → SessionsDone run end.histories → EndsAs run end.histories → ((steps : List Step) → HasDoneSoFar steps run → DoneAtEnd (heads_of apps) steps end.histories)
+      → IsPlay apps statements (ended_as played (any_short end.short)) end old new Failed Kept calls calls'
+  is_play to main became of_run answered sessions same did =
       let h = end.histories in
       let heads = heads_of apps in
       let lacked = any_short end.short in
       let steps = all_steps to.parts in
       let at_end = did (steps ++ to.more) to.done in
       let done = done_at_end heads h steps to.more at_end in
-      let turned = carried_at_end heads run h sessions in
+      let turned = carried_at_end heads run h same sessions in
       let are = parts_so (IsCarriedIn heads run) (HasCarried heads h) turned apps 0 1 statements to.parts to.are in
       let outcomes_are : end.outcomes ≡ all_outcomes to.parts ++ cut_outcomes to.cut = ap (λ (x : GatheredData). x.outcomes) to.gathered in
       let tolds_are : end.tolds ≡ all_tolds to.parts ++ cut_tolds to.cut = ap (λ (x : GatheredData). x.tolds) to.gathered in
@@ -225,7 +234,6 @@ module _ {A : Type 0} (apps : List AppText) (statements : List Statement) (playe
           stopped = to.more;
           none_stopped = to.none_more;
           none_inside = to.none_inside;
-          stopped_at = to.stopped_at;
           closing = at_end.closing;
           closes = at_end.closes;
           diary = diary_at_end heads h steps to.more at_end;
@@ -240,12 +248,15 @@ module _ {A : Type 0} (apps : List AppText) (statements : List Statement) (playe
         cut_at = λ is.
             ⊎_elim (λ (at_a_write : stopped_as played ≡ ending.WriteFault). inl (write_ends played lacked at_a_write)) (λ (inside : IsSomeAnd to.cut (λ (part : Part). Unit {0})). inr inside) (to.cut_at (sym became ∙ is));
         lacking_by_main = λ is. main ∙ lacking_main played (sym became ∙ is);
+        lacks_at = λ is.
+            ⊎_elim (λ (lacking : lines_after played ≡ lines.Lacking). inl (became ∙ lacking)) (λ (left : length to.parts < length statements). inr left) (to.lacks_at (sym main ∙ is));
         replies = subst (λ (os : List Outcome). AreReplies end.short.loopers h os end.tolds) (sym outcomes_are)
             (subst (λ (ts : List Told). AreReplies end.short.loopers h (all_outcomes to.parts ++ cut_outcomes to.cut) ts) (sym tolds_are)
             (replies end.short.loopers h (steps ++ (to.more ++ at_end.closing)) of_run.histories.ports done answered apps statements to.parts (to.more ++ at_end.closing) (time_of 0 steps) (all_sessions to.parts + 1) (slice_get statements (length to.parts)) to.cut refl are cut));
         whole = done_so (length to.parts ≡ length statements) played lacked (λ done_all. (to.none_when_done done_all).0);
         whole_by_main = by_main (length to.parts ≡ length statements) played lacked end.short.main main (λ done_all. (to.none_when_done done_all).0);
-        at_a_start = λ refused. to.at_a_start (refused_before played lacked refused);
+        stopped_so = stopped_at_end apps (slice_get statements (length to.parts)) to.cut to.more played lacked to.stopped_so;
+        starts = starts_at_end played lacked to.cut (threads_of apps to.parts) (thread_count run) (length h.ports.items + (all_sessions to.parts + cut_sessions to.cut)) calls calls' (omega (arith, same.loopers, to.sessions)) to.starts;
         before_last = lacking_before to.cut (λ (part : Part). IsSomeAnd (slice_get statements (length to.parts)) (λ (s : Statement). part.sessions < sessions_in s)) played lacked (λ done_all. (to.none_when_done done_all).1) to.before_last;
         stopped_nowhere = nowhere ((to.more ≡ []) × (to.cut ≡ None)) played lacked end.short.main main (λ done_all. (to.none_more (to.none_when_done done_all).0, (to.none_when_done done_all).1)) to.none_at_a_write;
         short = λ short. done_not_short played end.short lacked main refl short;
@@ -261,14 +272,14 @@ module _ {A : Type 0} (apps : List AppText) (statements : List Statement) (playe
   -- the same, as the calls tell it
   pub is_play_as : (apps1 : List AppText) (heads1 heads2 : List AppHead) (statements1 : List Statement) (gathered : Gathered) (end_is : Ending) → apps1 ≡ apps → heads1 ≡ heads_of apps → heads2 ≡ heads_of apps → statements1 ≡ statements
       → end.outcomes ≡ gathered.outcomes.items → end.tolds ≡ gathered.tolds.items → end.short.sessions ≡ gathered.short.items → end_is ≡ ended_as played (any_short end.short)
-      → IsPlayedTo apps1 statements1 (gathered_seen gathered) played run old new Failed Kept → end.short.main ≡ is_lack played → end.lines ≡ lines_after played
-      → IsRunWith (session_count run) heads1 end.short.loopers end.histories → EachGotOneReply end.short.loopers end.histories → SessionsDone run end.histories → ((steps : List Step) → HasDoneSoFar steps run → DoneAtEnd heads2 steps end.histories)
-      → IsPlay apps statements end_is end old new Failed Kept
-  is_play_as apps1 heads1 heads2 statements1 gathered end_is one two three of_script outcomes tolds short ended to main became of_run answered sessions did =
+      → IsPlayedTo apps1 statements1 (gathered_seen gathered) played run old new Failed Kept calls calls' → end.short.main ≡ is_lack played → end.lines ≡ lines_after played
+      → IsRunWith (session_count run) heads1 end.short.loopers end.histories → EachGotOneReply end.short.loopers end.histories → SessionsDone run end.histories → EndsAs run end.histories → ((steps : List Step) → HasDoneSoFar steps run → DoneAtEnd heads2 steps end.histories)
+      → IsPlay apps statements end_is end old new Failed Kept calls calls'
+  is_play_as apps1 heads1 heads2 statements1 gathered end_is one two three of_script outcomes tolds short ended to main became of_run answered sessions ends did =
       let same = gathered_is end.outcomes gathered.outcomes.items end.tolds gathered.tolds.items end.short.sessions gathered.short.items outcomes tolds short in
-      let to_end = subst (λ (g : GatheredData). IsPlayedTo apps1 statements1 g played run old new Failed Kept) (sym same) to in
-      let to_apps = subst (λ (xs : List AppText). IsPlayedTo xs statements1 (told_of end) played run old new Failed Kept) one to_end in
-      let to_all = subst (λ (ss : List Statement). IsPlayedTo apps ss (told_of end) played run old new Failed Kept) of_script to_apps in
-      subst (λ (e : Ending). IsPlay apps statements e end old new Failed Kept) (sym ended)
-      (is_play to_all main became (subst (λ (hs : List AppHead). IsRunWith (session_count run) hs end.short.loopers end.histories) two of_run) answered sessions
+      let to_end = subst (λ (g : GatheredData). IsPlayedTo apps1 statements1 g played run old new Failed Kept calls calls') (sym same) to in
+      let to_apps = subst (λ (xs : List AppText). IsPlayedTo xs statements1 (told_of end) played run old new Failed Kept calls calls') one to_end in
+      let to_all = subst (λ (ss : List Statement). IsPlayedTo apps ss (told_of end) played run old new Failed Kept calls calls') of_script to_apps in
+      subst (λ (e : Ending). IsPlay apps statements e end old new Failed Kept calls calls') (sym ended)
+      (is_play to_all main became (subst (λ (hs : List AppHead). IsRunWith (session_count run) hs end.short.loopers end.histories) two of_run) answered sessions ends
       (λ steps done. subst (λ (hs : List AppHead). DoneAtEnd hs steps end.histories) three (did steps done)))

@@ -1,3 +1,4 @@
+pub mod Behind
 pub mod Blocks
 pub mod Doing
 pub mod Ends
@@ -9,5 +10,6 @@ pub mod Playing
 pub mod Refusals
 pub mod Replies
 pub mod Room
+pub mod Starts
 pub mod Texts
 pub mod Whole

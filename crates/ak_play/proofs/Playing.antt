@@ -1,9 +1,10 @@
 -- Statement after statement.
-use Rattle.std.proofs.Common.{◌≡◌, ◌≢◌, ◌≤◌, ◌<◌, ◌+◌, inl, inr, ℕ, zero, suc, List, [], ◌∷◌, ◌++◌, length, length-append, take, Some, None, Err, slice_get, refl, sym, ap, ◌∙◌, subst, append-nil, arith}
+use Rattle.std.proofs.Common.{◌≡◌, ◌≢◌, ◌≤◌, ◌<◌, ◌+◌, ◌-◌, inl, inr, ℕ, zero, suc, List, [], ◌∷◌, ◌++◌, length, length-append, take, Some, None, Err, slice_get, refl, sym, ap, ◌∙◌, subst, append-nil, arith}
 use Rattle.std.specs.Prelude.{Option, Ok, true, false, IsSomeAnd}
 use Rattle.std.specs.Io.KnownBytes.{Appends}
 use Rattle.std.proofs.lemmas.Option.{slice_get_within}
 use Rattle.ak_base.specs.declared.ending.Ending.TheVariants as ending
+use Rattle.ak_outside.specs.Calls.{Calls}
 use Rattle.ak_outside.proofs.Surface.{Appends-joined}
 use Rattle.ak_describe.specs.Whole.{heads_of}
 use Rattle.ak_describe.specs.declared.described.AppText.{AppText}
@@ -16,19 +17,22 @@ use Rattle.ak_run.specs.Sessions.{session_count, sessions_of}
 use Rattle.ak_script.specs.declared.statement.SessionLines.{SessionLines}
 use Rattle.ak_script.specs.declared.statement.Statement.{Statement}
 use Rattle.ak_run.specs.Doing.{HasDoneSoFar}
+use Rattle.ak_run.specs.Seen.{KnowsMore}
+use Rattle.ak_run.specs.Starts.{StartsMore, thread_count}
 use Rattle.ak_block.specs.Carried.{HasSessionsMore, IsCarriedIn, SessionPart}
 use Rattle.ak_play.specs.declared.run_end.Lines.{Lines}
 use Rattle.ak_play.specs.declared.run_end.Lines.TheVariants as lines
 use Rattle.ak_play.specs.declared.stop.Stop.{Stop}
 use Rattle.ak_play.specs.declared.stop.Stop.TheVariants as stop
-use Rattle.ak_play.specs.Blocks.{IsLaunch, MayStopAt}
+use Rattle.ak_play.specs.Blocks.{LacksAt, RefusedAt}
 use Rattle.ak_play.specs.Gathered.{GatheredData, gathered_and, nothing_gathered, of_part, of_parts}
 use Rattle.ak_play.specs.Parts.{AreParts, IsCut, IsPart, Part, all_sessions, all_steps, all_tolds, sessions_in}
-use Rattle.ak_play.specs.Play.{AreWritten, IsCutText, IsFrontText, first_tolds, last_tolds, text_of}
-use Rattle.ak_play.specs.Steps.{HasStepped, IsPlayedSoFar, IsPlayedTo, StepsOn, StopsInside, StopsShort, is_lack, lacks_a_line, lines_after, stopped_as}
-use Rattle.ak_run.proofs.Surface.{done_then}
+use Rattle.ak_play.specs.Play.{AreWritten, IsCutText, IsFrontText, StartsThreads, StoppedSo, first_tolds, last_threads, last_tolds, text_of, threads_of}
+use Rattle.ak_play.specs.Steps.{HasStepped, IsPlayedSoFar, IsPlayedTo, StepsOn, StopsInside, StopsShort, is_lack, lacks_a_line, lines_after, refusable, stopped_as}
+use Rattle.ak_run.proofs.Surface.{done_then, knows_by, seen_further}
 use Rattle.ak_play.proofs.Gathering.{no_cut, one_part_more}
 use Rattle.ak_play.proofs.Lists.{gathered_push}
+use Rattle.ak_play.proofs.Starts.{block_refuses, launch_refuses}
 use Rattle.ak_play.proofs.Parts.{all_told, first_push, last_push, parts_push, parts_so, sessions_push, text-append, text_push}
 
 -- ---- what was written
@@ -74,7 +78,7 @@ still_there [] ys k x at = absurd (omega (arith, slice_get_within [] k x at))
 still_there (y ∷ xs) ys zero x at = at
 still_there (y ∷ xs) ys (suc k) x at = still_there xs ys k x at
 
-module _ (apps : List AppText) (r r' : Run) (more : ℕ) (still : HasSessionsMore more r r') where
+module _ (apps : List AppText) (r r' : Run) (more : ℕ) (still : HasSessionsMore more r r') (knows : KnowsMore r r') where
   abbrev Before : ℕ → ℕ → SessionLines → SessionPart → Type 0
   Before = IsCarriedIn (heads_of apps) r
 
@@ -90,8 +94,10 @@ module _ (apps : List AppText) (r r' : Run) (more : ℕ) (still : HasSessionsMor
     closed = is.closed;
     there = ap (λ (all : List sessions.Told). slice_get all is.place) still.on.1 ∙ still_there (sessions_of r) still.on.0 is.place (is.opened, Some is.closed) is.there;
     keeps = is.keeps;
+    thread = is.thread;
     begins = is.begins;
     stands = is.stands;
+    seen = seen_further r r' time is.closed knows is.seen;
   }
 
 pub no_sessions_more : (r r' : Run) → sessions_of r' ≡ sessions_of r → HasSessionsMore 0 r r'
@@ -124,12 +130,28 @@ module _ (apps : List AppText) (statements : List Statement) where
     now : r.hands.clock.time ≡ time_of 0 (all_steps so_far.parts)
     now = sym so_far.done_so.recorded.in_time.time_is
 
+    -- why it stopped, where main did nothing for the statement: behind lines that were not written whole, or in a block
+    behind_so : (o : Option Statement) (why : Stop) → stopped_as {A = Unit {0}} (Err why) ≢ ending.ThreadFault → StoppedSo apps o None (stopped_as {A = Unit {0}} (Err why)) []
+    behind_so o stop.WriteFault started = refl
+    behind_so o (stop.ThreadFault told) started = absurd (started refl)
+    behind_so o (stop.NoMemory told) started = inl refl
+
+    inside_so : (o : Option Statement) (part : Part) (why : Stop) → (stopped_as {A = Unit {0}} (Err why) ≡ ending.ThreadFault → 1 ≤ part.sessions) → StoppedSo apps o (Some part) (stopped_as {A = Unit {0}} (Err why)) []
+    inside_so o part stop.WriteFault some = refl
+    inside_so o part (stop.ThreadFault told) some = (some refl, refl)
+    inside_so o part (stop.NoMemory told) some = inl refl
+
+    -- how the threads were started, by the statement that stopped it
+    abbrev pub StartsBy : Stop → Option Calls → Option Calls → Type 0
+    StartsBy why calls calls' = (cut : Option Part) (before : ℕ) → (stopped_as {A = Unit {0}} (Err why) ≡ ending.ThreadFault → last_threads cut before (thread_count r') ≡ refusable s (thread_count r' - thread_count r))
+        → StartsThreads (stopped_as {A = Unit {0}} (Err why)) cut before (thread_count r') calls calls'
+
     -- ---- it has its part, which stands behind the others
     module _ {W : List Told → Type 0} (on : StepsOn apps s k k' r r' W) where
       are_pushed : AreParts (IsCarriedIn (heads_of apps) r') apps 0 1 statements (so_far.parts ++ on.part ∷ [])
       are_pushed =
           parts_push (IsCarriedIn (heads_of apps) r') apps 0 1 statements so_far.parts s on.part
-          (parts_so (IsCarriedIn (heads_of apps) r) (IsCarriedIn (heads_of apps) r') (carried_still apps r r' on.part.sessions on.sessions) apps 0 1 statements so_far.parts so_far.are)
+          (parts_so (IsCarriedIn (heads_of apps) r) (IsCarriedIn (heads_of apps) r') (carried_still apps r r' on.part.sessions on.sessions (knows_by on.part.steps r r' on.does)) apps 0 1 statements so_far.parts so_far.are)
           at_parts
           (subst (λ (time : ℕ). IsPart (IsCarriedIn (heads_of apps) r') apps time (1 + all_sessions so_far.parts) s on.part) now
           (subst (λ (n : ℕ). IsPart (IsCarriedIn (heads_of apps) r') apps r.hands.clock.time n s on.part) next on.is))
@@ -147,10 +169,11 @@ module _ (apps : List AppText) (statements : List Statement) where
       count_pushed = length-append so_far.parts (on.part ∷ []) ∙ ap (λ (n : ℕ). n + 1) so_far.count
 
       -- and it ended then
-      stops_behind : (why : Stop) (Failed : Type 0) → stopped_as {A = Unit {0}} (Err why) ≢ ending.ThreadFault → stopped_as {A = Unit {0}} (Err why) ≢ ending.Done
+      stops_behind : (why : Stop) (calls calls' : Option Calls) → StartsBy why calls calls' → (Failed : Type 0) → stopped_as {A = Unit {0}} (Err why) ≢ ending.ThreadFault → stopped_as {A = Unit {0}} (Err why) ≢ ending.Done
+          → (is_lack {A = Unit {0}} (Err why) ≡ true → lines_after {A = Unit {0}} (Err why) ≡ lines.Lacking)
           → AreWritten (lines_after {A = Unit {0}} (Err why)) Failed Kept (all_tolds so_far.parts) on.part.tolds old new → (lines_after {A = Unit {0}} (Err why) ≡ lines.Cut → stopped_as {A = Unit {0}} (Err why) ≡ ending.WriteFault)
-          → IsPlayedTo {A = Unit {0}} apps statements k' (Err why) r' old new Failed Kept
-      stops_behind why Failed started not_done written at_a_write = record {
+          → IsPlayedTo {A = Unit {0}} apps statements k' (Err why) r' old new Failed Kept calls calls'
+      stops_behind why calls calls' starts Failed started not_done lacking written at_a_write = record {
         parts = so_far.parts ++ on.part ∷ [];
         are = are_pushed;
         cut = None;
@@ -160,12 +183,13 @@ module _ (apps : List AppText) (statements : List Statement) where
         more = [];
         none_more = λ all. refl;
         none_inside = tt;
-        stopped_at = inl refl;
+        stopped_so = behind_so (slice_get statements (length (so_far.parts ++ on.part ∷ []))) why started;
+        starts = starts None (threads_of apps (so_far.parts ++ on.part ∷ [])) (λ refused. absurd (started refused));
         none_at_a_write = λ so. (refl, refl);
         none_when_done = λ done. absurd (not_done done);
-        at_a_start = λ refused. absurd (started refused);
         before_last = λ lacks. tt;
         lacks_inside = λ refused lacks. absurd (started refused);
+        lacks_at = λ lacks. inl (lacking lacks);
         done = subst (λ (steps : List Step). HasDoneSoFar steps r') (sym (append-nil (all_steps (so_far.parts ++ on.part ∷ [])))) done_pushed;
         written = subst (λ (l : List Told). AreWritten (lines_after {A = Unit {0}} (Err why)) Failed Kept (first_tolds (so_far.parts ++ on.part ∷ []) None) l old new) (sym (last_push so_far.parts on.part))
             (subst (λ (l : List Told). AreWritten (lines_after {A = Unit {0}} (Err why)) Failed Kept l on.part.tolds old new) (sym (first_push so_far.parts on.part)) written);
@@ -185,12 +209,12 @@ module _ (apps : List AppText) (statements : List Statement) where
     }
 
     -- ---- it is a block that was cut
-    stops_inside : {W : List Told → Type 0} {Far : Part → Type 0} (why : Stop) (Failed : Type 0) → stopped_as {A = Unit {0}} (Err why) ≢ ending.WriteFault → stopped_as {A = Unit {0}} (Err why) ≢ ending.Done
+    stops_inside : {W : List Told → Type 0} {Far : Part → Type 0} (why : Stop) (calls calls' : Option Calls) → StartsBy why calls calls' → (Failed : Type 0) → stopped_as {A = Unit {0}} (Err why) ≢ ending.WriteFault → stopped_as {A = Unit {0}} (Err why) ≢ ending.Done
         → (in' : StopsInside apps s k k' r r' Far W) → (stopped_as {A = Unit {0}} (Err why) ≡ ending.ThreadFault → 1 ≤ in'.part.sessions) → (stopped_as {A = Unit {0}} (Err why) ≡ ending.NoMemory → in'.part.sessions < sessions_in s)
-        → AreWritten (lines_after {A = Unit {0}} (Err why)) Failed Kept (all_tolds so_far.parts) in'.part.tolds old new → IsPlayedTo {A = Unit {0}} apps statements k' (Err why) r' old new Failed Kept
-    stops_inside why Failed other not_done in' some not_all written = record {
+        → AreWritten (lines_after {A = Unit {0}} (Err why)) Failed Kept (all_tolds so_far.parts) in'.part.tolds old new → IsPlayedTo {A = Unit {0}} apps statements k' (Err why) r' old new Failed Kept calls calls'
+    stops_inside why calls calls' starts Failed other not_done in' some not_all written = record {
       parts = so_far.parts;
-      are = parts_so (IsCarriedIn (heads_of apps) r) (IsCarriedIn (heads_of apps) r') (carried_still apps r r' in'.part.sessions in'.sessions) apps 0 1 statements so_far.parts so_far.are;
+      are = parts_so (IsCarriedIn (heads_of apps) r) (IsCarriedIn (heads_of apps) r') (carried_still apps r r' in'.part.sessions in'.sessions (knows_by [] r r' in'.does)) apps 0 1 statements so_far.parts so_far.are;
       cut = Some in'.part;
       sessions = in'.sessions.count ∙ ap (λ (n : ℕ). n + in'.part.sessions) so_far.sessions;
       cut_is = subst (λ (o : Option Statement). IsSomeAnd o (λ (x : Statement). IsCut (IsCarriedIn (heads_of apps) r') (time_of 0 (all_steps so_far.parts)) (all_sessions so_far.parts + 1) x in'.part)) (sym at_parts)
@@ -200,26 +224,29 @@ module _ (apps : List AppText) (statements : List Statement) where
       more = [];
       none_more = λ all. refl;
       none_inside = refl;
-      stopped_at = inl refl;
+      stopped_so = inside_so (slice_get statements (length so_far.parts)) in'.part why some;
+      starts = starts (Some in'.part) (threads_of apps so_far.parts)
+          (λ refused. block_refuses (IsCarriedIn (heads_of apps) r') r.hands.clock.time (session_count r + 1) s in'.part in'.is (thread_count r' - thread_count r));
       none_at_a_write = λ at_a_write. absurd (other at_a_write);
       none_when_done = λ done. absurd (not_done done);
-      at_a_start = λ refused. inr (some refused);
       before_last = λ lacks. subst (λ (o : Option Statement). IsSomeAnd o (λ (x : Statement). in'.part.sessions < sessions_in x)) (sym at_parts) (not_all lacks);
       lacks_inside = λ refused lacks. tt;
+      lacks_at = λ lacks. inr (slice_get_within statements (length so_far.parts) s at_parts);
       done = done_then (all_steps so_far.parts) [] r r' so_far.done_so in'.does;
       written = written;
       cut_at = λ is. inr tt;
     }
 
     -- ---- it has none, and no line was due
-    stops_before : (why : Stop) (Failed Kept1 : Type 0) → (Kept0 → Kept1 → Kept) → stopped_as {A = Unit {0}} (Err why) ≢ ending.WriteFault → stopped_as {A = Unit {0}} (Err why) ≢ ending.Done → (stopped_as {A = Unit {0}} (Err why) ≡ ending.ThreadFault → IsLaunch s)
-        → (stopped_as {A = Unit {0}} (Err why) ≡ ending.ThreadFault → is_lack {A = Unit {0}} (Err why) ≡ true → ⊥) → StopsShort apps s k k' r r' mid new Kept1 → lines_after {A = Unit {0}} (Err why) ≡ lines.Whole
-        → IsPlayedTo {A = Unit {0}} apps statements k' (Err why) r' old new Failed Kept
-    stops_before why Failed Kept1 joined other not_done launch not_lacking short whole =
+    stops_before : (why : Stop) (calls calls' : Option Calls) → StartsBy why calls calls' → threads_of apps so_far.parts ≡ thread_count r → (stopped_as {A = Unit {0}} (Err why) ≡ ending.ThreadFault → (more : ℕ) → more ≡ refusable s more)
+        → (At : List Step → Type 0) (Failed Kept1 : Type 0) → (Kept0 → Kept1 → Kept) → stopped_as {A = Unit {0}} (Err why) ≢ ending.WriteFault → stopped_as {A = Unit {0}} (Err why) ≢ ending.Done
+        → (stopped_as {A = Unit {0}} (Err why) ≡ ending.ThreadFault → is_lack {A = Unit {0}} (Err why) ≡ true → ⊥) → (short : StopsShort At k k' r r' mid new Kept1) → StoppedSo apps (Some s) None (stopped_as {A = Unit {0}} (Err why)) short.steps → lines_after {A = Unit {0}} (Err why) ≡ lines.Whole
+        → IsPlayedTo {A = Unit {0}} apps statements k' (Err why) r' old new Failed Kept calls calls'
+    stops_before why calls calls' starts counted refuses At Failed Kept1 joined other not_done not_lacking short so whole =
         let still = no_sessions_more r r' short.sessions in
         record {
           parts = so_far.parts;
-          are = parts_so (IsCarriedIn (heads_of apps) r) (IsCarriedIn (heads_of apps) r') (carried_still apps r r' 0 still) apps 0 1 statements so_far.parts so_far.are;
+          are = parts_so (IsCarriedIn (heads_of apps) r) (IsCarriedIn (heads_of apps) r') (carried_still apps r r' 0 still (knows_by short.steps r r' short.does)) apps 0 1 statements so_far.parts so_far.are;
           cut = None;
           sessions = still.count ∙ ap (λ (n : ℕ). n + 0) so_far.sessions;
           cut_is = tt;
@@ -227,12 +254,13 @@ module _ (apps : List AppText) (statements : List Statement) where
           more = short.steps;
           none_more = λ all. absurd (omega (arith, all, slice_get_within statements (length so_far.parts) s at_parts));
           none_inside = tt;
-          stopped_at = inr (subst (λ (o : Option Statement). IsSomeAnd o (λ (x : Statement). MayStopAt apps x short.steps)) (sym at_parts) short.at);
+          stopped_so = subst (λ (o : Option Statement). StoppedSo apps o None (stopped_as {A = Unit {0}} (Err why)) short.steps) (sym at_parts) so;
+          starts = starts None (threads_of apps so_far.parts) (λ refused. ap (λ (n : ℕ). thread_count r' - n) counted ∙ refuses refused (thread_count r' - thread_count r));
           none_at_a_write = λ at_a_write. absurd (other at_a_write);
           none_when_done = λ done. absurd (not_done done);
-          at_a_start = λ refused. inl (subst (λ (o : Option Statement). IsSomeAnd o IsLaunch) (sym at_parts) (launch refused));
           before_last = λ lacks. tt;
           lacks_inside = λ refused lacks. absurd (not_lacking refused lacks);
+          lacks_at = λ lacks. inr (slice_get_within statements (length so_far.parts) s at_parts);
           done = done_then (all_steps so_far.parts) short.steps r r' so_far.done_so short.does;
           written = subst (λ (told : Lines). AreWritten told Failed Kept (first_tolds so_far.parts None) (last_tolds so_far.parts None) old new) (sym whole)
               (in_two so_far.parts old new (Appends-no_more old mid new (text_of (all_tolds so_far.parts)) so_far.written short.written), joined so_far.sink short.sink);
@@ -243,24 +271,25 @@ module _ (apps : List AppText) (statements : List Statement) where
       behind : (told : Lines) (last : List Told) → AreWritten told Failed1 Kept1 [] last mid new → AreWritten told Failed Kept (all_tolds so_far.parts) last old new
       behind told last is = written_behind (all_tolds so_far.parts) last old mid new so_far.written told Failed1 Kept1 Failed Kept failed (joined so_far.sink) is
 
-      pub play_stops : (why : Stop) → HasStepped apps s k k' r r' mid new Failed1 Kept1 {A = Unit {0}} (Err why) → IsPlayedTo {A = Unit {0}} apps statements k' (Err why) r' old new Failed Kept
-      play_stops stop.WriteFault on = stops_behind on stop.WriteFault Failed (λ refused. absurd (cc refused)) (λ done. absurd (cc done)) (behind lines.Cut on.part.tolds on.written) (λ is. refl)
-      play_stops (stop.ThreadFault told) (inl (launch, whole, short)) =
-          stops_before (stop.ThreadFault told) Failed Kept1 joined (λ at_a_write. absurd (cc at_a_write)) (λ done. absurd (cc done)) (λ refused. launch)
-          (λ refused so. let bad : false ≡ true = sym (ap lacks_a_line whole) ∙ so in absurd (cc bad)) short whole
-      play_stops (stop.ThreadFault told) (inr in') =
-          stops_inside (stop.ThreadFault told) Failed (λ at_a_write. absurd (cc at_a_write)) (λ done. absurd (cc done)) in' (λ refused. in'.far) (λ no_memory. absurd (cc no_memory)) (behind told in'.part.tolds in'.written)
-      play_stops (stop.NoMemory told) (inl (whole, short)) =
-          stops_before (stop.NoMemory told) Failed Kept1 joined (λ at_a_write. absurd (cc at_a_write)) (λ done. absurd (cc done)) (λ refused. absurd (cc refused)) (λ refused so. absurd (cc refused)) short whole
-      play_stops (stop.NoMemory told) (inr (inl (lacking, on))) =
-          stops_behind on (stop.NoMemory told) Failed (λ refused. absurd (cc refused)) (λ done. absurd (cc done))
+      pub play_stops : (why : Stop) (calls calls' : Option Calls) → StartsBy why calls calls' → threads_of apps so_far.parts ≡ thread_count r → HasStepped apps s k k' r r' mid new Failed1 Kept1 {A = Unit {0}} (Err why) → IsPlayedTo {A = Unit {0}} apps statements k' (Err why) r' old new Failed Kept calls calls'
+      play_stops stop.WriteFault calls calls' starts counted on = stops_behind on stop.WriteFault calls calls' starts Failed (λ refused. absurd (cc refused)) (λ done. absurd (cc done)) (λ lacks. absurd (cc lacks)) (behind lines.Cut on.part.tolds on.written) (λ is. refl)
+      play_stops (stop.ThreadFault told) calls calls' starts counted (inl (whole, short)) =
+          stops_before (stop.ThreadFault told) calls calls' starts counted (λ refused. launch_refuses apps s short.steps short.at) (RefusedAt apps s) Failed Kept1 joined (λ at_a_write. absurd (cc at_a_write)) (λ done. absurd (cc done))
+          (λ refused so. let bad : false ≡ true = sym (ap lacks_a_line whole) ∙ so in absurd (cc bad)) short short.at whole
+      play_stops (stop.ThreadFault told) calls calls' starts counted (inr in') =
+          stops_inside (stop.ThreadFault told) calls calls' starts Failed (λ at_a_write. absurd (cc at_a_write)) (λ done. absurd (cc done)) in' (λ refused. in'.far) (λ no_memory. absurd (cc no_memory)) (behind told in'.part.tolds in'.written)
+      play_stops (stop.NoMemory told) calls calls' starts counted (inl (whole, short)) =
+          stops_before (stop.NoMemory told) calls calls' starts counted (λ refused. absurd (cc refused)) (LacksAt apps s) Failed Kept1 joined (λ at_a_write. absurd (cc at_a_write)) (λ done. absurd (cc done)) (λ refused so. absurd (cc refused)) short (inr short.at) whole
+      play_stops (stop.NoMemory told) calls calls' starts counted (inr (inl (lacking, on))) =
+          stops_behind on (stop.NoMemory told) calls calls' starts Failed (λ refused. absurd (cc refused)) (λ done. absurd (cc done)) (λ lacks. lacking)
           (subst (λ (l : Lines). AreWritten l Failed Kept (all_tolds so_far.parts) on.part.tolds old new) (sym lacking) (behind lines.Lacking on.part.tolds on.written)) (λ is. let bad : lines.Lacking ≡ lines.Cut = sym lacking ∙ is in absurd (cc bad))
-      play_stops (stop.NoMemory told) (inr (inr in')) =
-          stops_inside (stop.NoMemory told) Failed (λ at_a_write. absurd (cc at_a_write)) (λ done. absurd (cc done)) in' (λ refused. absurd (cc refused)) (λ no_memory. in'.far) (behind told in'.part.tolds in'.written)
+      play_stops (stop.NoMemory told) calls calls' starts counted (inr (inr in')) =
+          stops_inside (stop.NoMemory told) calls calls' starts Failed (λ at_a_write. absurd (cc at_a_write)) (λ done. absurd (cc done)) in' (λ refused. absurd (cc refused)) (λ no_memory. in'.far) (behind told in'.part.tolds in'.written)
 
   -- behind the last one
-  pub play_ends : {A : Type 0} (x : A) (k : GatheredData) (r : Run) (old new : Option (List ℕ)) (Failed Kept : Type 0) → IsPlayedSoFar apps statements k (length statements) r old new Kept → IsPlayedTo {A = A} apps statements k (Ok x) r old new Failed Kept
-  play_ends x k r old new Failed Kept so_far = record {
+  pub play_ends : {A : Type 0} (x : A) (k : GatheredData) (r : Run) (old new : Option (List ℕ)) (Failed Kept : Type 0) (calls calls' : Option Calls) → StartsMore 0 (thread_count r) calls calls' → IsPlayedSoFar apps statements k (length statements) r old new Kept
+      → IsPlayedTo {A = A} apps statements k (Ok x) r old new Failed Kept calls calls'
+  play_ends x k r old new Failed Kept calls calls' starts so_far = record {
     parts = so_far.parts;
     are = so_far.are;
     cut = None;
@@ -270,12 +299,13 @@ module _ (apps : List AppText) (statements : List Statement) where
     more = [];
     none_more = λ all. refl;
     none_inside = tt;
-    stopped_at = inl refl;
+    stopped_so = refl;
+    starts = starts;
     none_at_a_write = λ at_a_write. (refl, refl);
     none_when_done = λ done. (so_far.count, refl);
-    at_a_start = λ refused. absurd (cc refused);
     before_last = λ lacks. tt;
     lacks_inside = λ refused lacks. absurd (cc refused);
+    lacks_at = λ lacks. absurd (cc lacks);
     done = subst (λ (steps : List Step). HasDoneSoFar steps r) (sym (append-nil (all_steps so_far.parts))) so_far.done_so;
     written = (in_two so_far.parts old new so_far.written, so_far.sink);
     cut_at = λ is. absurd (cc is);

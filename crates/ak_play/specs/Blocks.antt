@@ -21,13 +21,7 @@ use Rattle.ak_lines.specs.declared.outcome.Outcome.{Outcome}
 use Rattle.ak_lines.specs.declared.outcome.Outcome.TheVariants as came
 
 -- ---- kinds of statements
-abbrev pub IsLaunch : Statement → Type 0
-IsLaunch (statement.Launch l) = Unit {0}
-IsLaunch (statement.Hey h) = ⊥
-IsLaunch (statement.Post p) = ⊥
-IsLaunch (statement.Lock l) = ⊥
-IsLaunch (statement.Together t) = ⊥
-
+-- it is no block
 abbrev pub IsAlone : Statement → Type 0
 IsAlone (statement.Launch l) = Unit {0}
 IsAlone (statement.Hey h) = Unit {0}
@@ -83,10 +77,18 @@ CutsPost heads p steps = (steps ≡ []) ⊎ FindingLooper heads p.app p.looper (
 abbrev pub CutsLock : List AppHead → Lock → List Step → Type 0
 CutsLock heads l steps = (steps ≡ []) ⊎ FindingLooper heads l.app l.looper (λ looper. IsNothing) steps
 
--- what main may have done for a statement at which it stopped: what it did in vain; of a block nothing
-abbrev pub MayStopAt : List AppText → Statement → List Step → Type 0
-MayStopAt apps (statement.Launch l) steps = LaunchesInVain l.word steps ⊎ StartsInVain apps l.word l.arguments steps
-MayStopAt apps (statement.Hey h) steps = CutsHey (heads_of apps) h steps
-MayStopAt apps (statement.Post p) steps = CutsPost (heads_of apps) p steps
-MayStopAt apps (statement.Lock l) steps = CutsLock (heads_of apps) l steps
-MayStopAt apps (statement.Together b) steps = steps ≡ []
+-- memory ran out: what main may have done for the statement then; for a block nothing
+abbrev pub LacksAt : List AppText → Statement → List Step → Type 0
+LacksAt apps (statement.Launch l) steps = LaunchesInVain l.word l.arguments steps
+LacksAt apps (statement.Hey h) steps = CutsHey (heads_of apps) h steps
+LacksAt apps (statement.Post p) steps = CutsPost (heads_of apps) p steps
+LacksAt apps (statement.Lock l) steps = CutsLock (heads_of apps) l steps
+LacksAt apps (statement.Together b) steps = steps ≡ []
+
+-- a thread could not be started: it is a launch, and its team was started and ended again
+abbrev pub RefusedAt : List AppText → Statement → List Step → Type 0
+RefusedAt apps (statement.Launch l) steps = StartsInVain apps l.word l.arguments steps
+RefusedAt apps (statement.Hey h) steps = ⊥
+RefusedAt apps (statement.Post p) steps = ⊥
+RefusedAt apps (statement.Lock l) steps = ⊥
+RefusedAt apps (statement.Together b) steps = ⊥

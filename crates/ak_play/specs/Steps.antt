@@ -3,6 +3,7 @@ use Rattle.std.specs.Prelude.{◌≡◌, ◌⊎◌, ◌||◌, ◌≤◌, ◌<◌
 use Rattle.std.specs.Io.KnownBytes.{Appends}
 use Rattle.ak_base.specs.declared.ending.Ending.{Ending}
 use Rattle.ak_base.specs.declared.ending.Ending.TheVariants as ending
+use Rattle.ak_outside.specs.Calls.{Calls}
 use Rattle.ak_outside.specs.Sink.{AppendsPart}
 use Rattle.ak_describe.specs.Whole.{heads_of}
 use Rattle.ak_describe.specs.declared.described.AppText.{AppText}
@@ -11,7 +12,10 @@ use Rattle.ak_print.specs.declared.told.Told.{Told}
 use Rattle.ak_run.specs.declared.run.Run.{Run}
 use Rattle.ak_run.specs.Sessions.{session_count, sessions_of}
 use Rattle.ak_script.specs.declared.statement.Statement.{Statement}
+use Rattle.ak_script.specs.declared.statement.Statement.TheVariants as statement
 use Rattle.ak_run.specs.Doing.{Does, HasDoneSoFar}
+use Rattle.ak_run.specs.Starts.{thread_count}
+use Rattle.ak_lines.specs.declared.came.Came.{Came}
 use Rattle.ak_play.specs.declared.run_end.Lines.{Lines}
 use Rattle.ak_play.specs.declared.run_end.Lines.TheVariants as lines
 use Rattle.ak_play.specs.declared.run_end.Short.{Short}
@@ -19,10 +23,10 @@ use Rattle.ak_play.specs.declared.stop.Stop.{Stop}
 use Rattle.ak_play.specs.declared.stop.Stop.TheVariants as stop
 use Rattle.ak_play.specs.declared.stop.Untold.{Untold}
 use Rattle.ak_play.specs.declared.stop.Untold.TheVariants as untold
-use Rattle.ak_play.specs.Blocks.{IsLaunch, MayStopAt}
+use Rattle.ak_play.specs.Blocks.{IsBlock, LacksAt, RefusedAt}
 use Rattle.ak_play.specs.Gathered.{GatheredData, gathered_and, of_cut, of_part, of_parts}
 use Rattle.ak_play.specs.Parts.{AreParts, IsCut, IsPart, Part, all_sessions, all_steps, all_tolds, sessions_in}
-use Rattle.ak_play.specs.Play.{AreWritten, IsCutText, IsFrontText, cut_sessions, first_tolds, last_tolds, text_of}
+use Rattle.ak_play.specs.Play.{AreWritten, IsCutText, IsFrontText, StartsThreads, StoppedSo, cut_sessions, first_tolds, last_tolds, text_of, threads_of}
 use Rattle.ak_block.specs.Carried.{HasSessionsMore, IsCarriedIn}
 
 -- a thread could not be started
@@ -69,6 +73,17 @@ HasWrittenAll (Err untold.WriteFault) tolds old new = IsCutText [] tolds old new
 HasWrittenAll (Err untold.NoMemory) tolds old new = IsFrontText [] tolds old new
 
 -- ---- one statement
+-- what main may have done for a statement at which it stopped, by why it did
+abbrev pub StopsAt : List AppText → Statement → Stop → List Step → Type 0
+StopsAt apps s stop.WriteFault steps = ⊥
+StopsAt apps s (stop.ThreadFault told) steps = RefusedAt apps s steps
+StopsAt apps s (stop.NoMemory told) steps = LacksAt apps s steps
+
+-- what a statement that is no block came to: its outcome, with its block; or main stopped at it
+abbrev pub CarriesOut : List AppText → Statement → Result Came Stop → List Step → Type 0
+CarriesOut apps s (Ok came) steps = IsBlock apps s came.outcome came.told steps
+CarriesOut apps s (Err why) steps = StopsAt apps s why steps
+
 -- it has its part, and of its lines that was written
 pub record StepsOn (apps : List AppText) (s : Statement) (g g' : GatheredData) (r r' : Run) (Written : List Told → Type 0) : Type 0 where
   pub part : Part
@@ -88,10 +103,10 @@ pub record StopsInside (apps : List AppText) (s : Statement) (g g' : GatheredDat
   pub gathered : g' ≡ gathered_and g (of_part part)
   pub written : Written part.tolds
 
--- it has none, main did for it what it may have done in vain, and nothing was written
-pub record StopsShort (apps : List AppText) (s : Statement) (g g' : GatheredData) (r r' : Run) (old new : Option (List ℕ)) (Kept : Type 0) : Type 0 where
+-- it has none, and nothing was written; At tells what main did for it
+pub record StopsShort (At : List Step → Type 0) (g g' : GatheredData) (r r' : Run) (old new : Option (List ℕ)) (Kept : Type 0) : Type 0 where
   pub steps : List Step
-  pub at : MayStopAt apps s steps
+  pub at : At steps
   pub does : Does steps r r'
   pub sessions : sessions_of r' ≡ sessions_of r
   pub same : g' ≡ g
@@ -105,12 +120,18 @@ module _ (apps : List AppText) (s : Statement) (g g' : GatheredData) (r r' : Run
   HasStepped (Ok _) = StepsOn apps s g g' r r' (λ tolds. AreWritten lines.Whole Failed Kept [] tolds old new)
   HasStepped (Err stop.WriteFault) = StepsOn apps s g g' r r' (λ tolds. AreWritten lines.Cut Failed Kept [] tolds old new)
   HasStepped (Err (stop.ThreadFault told)) =
-      (IsLaunch s × (told ≡ lines.Whole) × StopsShort apps s g g' r r' old new Kept)
+      ((told ≡ lines.Whole) × StopsShort (RefusedAt apps s) g g' r r' old new Kept)
       ⊎ StopsInside apps s g g' r r' (λ part. 1 ≤ part.sessions) (λ tolds. AreWritten told Failed Kept [] tolds old new)
   HasStepped (Err (stop.NoMemory told)) =
-      ((told ≡ lines.Whole) × StopsShort apps s g g' r r' old new Kept)
+      ((told ≡ lines.Whole) × StopsShort (LacksAt apps s) g g' r r' old new Kept)
       ⊎ (((told ≡ lines.Lacking) × StepsOn apps s g g' r r' (λ tolds. AreWritten lines.Lacking Failed Kept [] tolds old new))
       ⊎ StopsInside apps s g g' r r' (λ part. part.sessions < sessions_in s) (λ tolds. AreWritten told Failed Kept [] tolds old new))
+
+-- of so many threads that a statement has more, of how many one may be the refused one: of those of a team, or of a block that of the last session that was
+-- carried out
+abbrev pub refusable : Statement → ℕ → ℕ
+refusable (statement.Launch l) more = more
+refusable _ more = 1
 
 -- ---- all statements
 -- the first ones are done, and their lines are written
@@ -144,8 +165,8 @@ is_lack (Err stop.WriteFault) = false
 is_lack (Err (stop.ThreadFault told)) = lacks_a_line told
 is_lack (Err (stop.NoMemory told)) = true
 
--- the first ones are done, and steps of one more, or some sessions of it, at which it ended so
-pub record IsPlayedTo {A : Type 0} (apps : List AppText) (statements : List Statement) (g : GatheredData) (result : Result A Stop) (r : Run) (old new : Option (List ℕ)) (Failed Kept : Type 0) : Type 0 where
+-- the first ones are done, and steps of one more, or some sessions of it, at which it ended so; the threads of the run were started by these calls
+pub record IsPlayedTo {A : Type 0} (apps : List AppText) (statements : List Statement) (g : GatheredData) (result : Result A Stop) (r : Run) (old new : Option (List ℕ)) (Failed Kept : Type 0) (calls calls' : Option Calls) : Type 0 where
   pub parts : List Part
   pub are : AreParts (IsCarriedIn (heads_of apps) r) apps 0 1 statements parts
   pub cut : Option Part
@@ -155,12 +176,13 @@ pub record IsPlayedTo {A : Type 0} (apps : List AppText) (statements : List Stat
   pub more : List Step
   pub none_more : length parts ≡ length statements → more ≡ []
   pub none_inside : IfSome cut (λ (part : Part). more ≡ [])
-  pub stopped_at : (more ≡ []) ⊎ IsSomeAnd (slice_get statements (length parts)) (λ (s : Statement). MayStopAt apps s more)
+  pub stopped_so : StoppedSo apps (slice_get statements (length parts)) cut (stopped_as result) more
+  pub starts : StartsThreads (stopped_as result) cut (threads_of apps parts) (thread_count r) calls calls'
   pub none_at_a_write : stopped_as result ≡ ending.WriteFault → (more ≡ []) × (cut ≡ None)
   pub none_when_done : stopped_as result ≡ ending.Done → (length parts ≡ length statements) × (cut ≡ None)
-  pub at_a_start : stopped_as result ≡ ending.ThreadFault → IsSomeAnd (slice_get statements (length parts)) IsLaunch ⊎ IsSomeAnd cut (λ (part : Part). 1 ≤ part.sessions)
   pub before_last : stopped_as result ≡ ending.NoMemory → IfSome cut (λ (part : Part). IsSomeAnd (slice_get statements (length parts)) (λ (s : Statement). part.sessions < sessions_in s))
   pub lacks_inside : stopped_as result ≡ ending.ThreadFault → is_lack result ≡ true → IsSomeAnd cut (λ (part : Part). Unit {0})
+  pub lacks_at : is_lack result ≡ true → (lines_after result ≡ lines.Lacking) ⊎ (length parts < length statements)
   pub done : HasDoneSoFar (all_steps parts ++ more) r
   pub written : AreWritten (lines_after result) Failed Kept (first_tolds parts cut) (last_tolds parts cut) old new
   pub cut_at : lines_after result ≡ lines.Cut → (stopped_as result ≡ ending.WriteFault) ⊎ IsSomeAnd cut (λ (part : Part). Unit {0})

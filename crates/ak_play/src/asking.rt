@@ -22,6 +22,7 @@ pub(crate) fn hey<R: Wait>(run: &mut Run, rt: &R, hey: &Hey) -> Result<Came, NoM
     requires running { IsRunning run.old }
     ensures did { DoesSo (MayCome (IsHeyBlock (heads_of run.old.apps.items) hey.now) (CutsHey (heads_of run.old.apps.items) hey.now) result) run.old run.new }
     ensures running { IsRunning run.new }
+    ensures count { looper_count run.new ≡ looper_count run.old }
     ensures apps { run.new.apps ≡ run.old.apps }
     ensures sessions { sessions_of run.new ≡ sessions_of run.old }
 {
@@ -38,6 +39,7 @@ fn ask_looper<R: Wait>(run: &mut Run, rt: &R, looper: u32, hey: &Hey) -> Result<
     requires there { looper < looper_count run.old }
     ensures did { DoesSo (MayCome (IsAsked hey.now looper) (IsAskedInVain hey.now looper) result) run.old run.new }
     ensures running { IsRunning run.new }
+    ensures count { looper_count run.new ≡ looper_count run.old }
     ensures apps { run.new.apps ≡ run.old.apps }
     ensures sessions { sessions_of run.new ≡ sessions_of run.old }
 {

@@ -11,6 +11,7 @@ ghost use Rattle.ak_script.specs.Statement.{lines_in};
 ghost use Rattle.ak_script.specs.StatementSeen.{statements_seen};
 ghost use Rattle.ak_run.specs.AtEnd.{DoneAtEnd, SessionsDone};
 ghost use Rattle.ak_run.specs.Doing.{HasDoneSoFar};
+ghost use Rattle.ak_run.specs.Ending.{EndsAs};
 ghost use Rattle.ak_run.specs.Opened.{WereOpened};
 ghost use Rattle.ak_play.specs.Steps.{any_short, ended_as, is_lack, lines_after};
 
@@ -62,6 +63,7 @@ pub(crate) fn finish<R: Threads + Wait>(
     ensures lines { result.0.lines ≡ lines_after played }
     ensures short { result.0.short.main ≡ is_lack played }
     ensures short_sessions { result.0.short.sessions ≡ gathered.short.items }
+    ensures same { EndsAs run result.0.histories }
     ensures did { (steps : List Step) → HasDoneSoFar steps run → DoneAtEnd (heads_of run.apps.items) steps result.0.histories }
 {
     let Ended {

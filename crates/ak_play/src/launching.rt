@@ -1,12 +1,12 @@
 //! Launches.
-ghost use Rattle.std.specs.Prelude.{◌≡◌, ◌≤◌, ◌⊎◌, IsErrOf};
+ghost use Rattle.std.specs.Prelude.{◌≡◌, ◌≤◌, ◌-◌, IsErrOf};
 ghost use Rattle.ak_outside.specs.Faults.{Rose};
 ghost use Rattle.ak_run.specs.Running.{IsRunning};
 ghost use Rattle.ak_run.specs.Sessions.{sessions_of};
-ghost use Rattle.ak_run.specs.Doing.{DoesSo, LaunchesInVain, StartsInVain};
-ghost use Rattle.ak_play.specs.Blocks.{IsLaunchBlock};
-ghost use Rattle.ak_play.specs.Came.{MayCome};
-ghost use Rattle.ak_play.specs.Steps.{IsThreadFault, StopsBeforeLines};
+ghost use Rattle.ak_run.specs.Doing.{DoesSo};
+ghost use Rattle.ak_run.specs.Starts.{StartsMore, StopsStarting, thread_count};
+ghost use Rattle.ak_script.specs.declared.statement.Statement.TheVariants as statement;
+ghost use Rattle.ak_play.specs.Steps.{CarriesOut, IsThreadFault, StopsBeforeLines};
 
 use crate::run_end::Lines;
 use crate::stop::Stop;
@@ -38,12 +38,14 @@ pub(crate) fn launch<W: Spawner, G: Gate + 'static, R: Threads + Wait + Copy + S
     launch: &Launch,
 ) -> Result<Came, Stop>
     requires running { IsRunning run.old }
-    ensures did { DoesSo (MayCome (IsLaunchBlock run.old.apps.items launch.now) (λ steps. LaunchesInVain launch.now.word steps ⊎ StartsInVain run.old.apps.items launch.now.word launch.now.arguments steps) result) run.old run.new }
+    ensures did { DoesSo (CarriesOut run.old.apps.items (statement.Launch launch.now) result) run.old run.new }
     ensures not_written { IsErrOf result Stop.WriteFault → ⊥ }
     ensures lines { StopsBeforeLines result }
     ensures cause { IsThreadFault result → Rose (W.faults spawner.old) (W.faults spawner.new) }
     ensures kept { ¬ (IsThreadFault result) → W.faults spawner.new ≡ W.faults spawner.old }
     ensures never_falls { W.faults spawner.old ≤ W.faults spawner.new }
+    ensures starts { ¬ (IsThreadFault result) → StartsMore (thread_count run.old) (thread_count run.new) (W.calls spawner.old) (W.calls spawner.new) }
+    ensures stops_starting { IsThreadFault result → StopsStarting (thread_count run.new - thread_count run.old) (thread_count run.old) (thread_count run.new) (W.calls spawner.old) (W.calls spawner.new) }
     ensures running { IsRunning run.new }
     ensures apps { run.new.apps ≡ run.old.apps }
     ensures sessions { sessions_of run.new ≡ sessions_of run.old }

@@ -21,6 +21,7 @@ pub(crate) fn lock<R: Wait>(run: &mut Run, rt: &R, lock: &Lock) -> Result<Came, 
     requires running { IsRunning run.old }
     ensures did { DoesSo (MayCome (IsLockBlock (heads_of run.old.apps.items) lock.now) (CutsLock (heads_of run.old.apps.items) lock.now) result) run.old run.new }
     ensures running { IsRunning run.new }
+    ensures count { looper_count run.new ≡ looper_count run.old }
     ensures apps { run.new.apps ≡ run.old.apps }
     ensures sessions { sessions_of run.new ≡ sessions_of run.old }
 {
@@ -48,6 +49,7 @@ fn edit_looper<R: Wait>(run: &mut Run, rt: &R, looper: u32, lock: &Lock) -> Resu
     requires there { looper < looper_count run.old }
     ensures did { DoesSo (MayCome (IsLocked lock.now looper) IsNothing result) run.old run.new }
     ensures running { IsRunning run.new }
+    ensures count { looper_count run.new ≡ looper_count run.old }
     ensures apps { run.new.apps ≡ run.old.apps }
     ensures sessions { sessions_of run.new ≡ sessions_of run.old }
 {

@@ -48,7 +48,7 @@ pub fn run_script<
 
     // The statements, their outcomes, and what was written.
     ensures script { IfSome result.0 (λ end. (end.script.apps.items ≡ script.apps.items) × (end.script.statements.items ≡ script.statements.items)) }
-    ensures play { IfSome result.0 (λ end. IsPlay script.apps.items script.statements.items result.1 end (K.written sink.old) (K.written sink.new) (Rose (K.faults sink.old) (K.faults sink.new)) (K.faults sink.new ≡ K.faults sink.old)) }
+    ensures play { IfSome result.0 (λ end. IsPlay script.apps.items script.statements.items result.1 end (K.written sink.old) (K.written sink.new) (Rose (K.faults sink.old) (K.faults sink.new)) (K.faults sink.new ≡ K.faults sink.old) (W.calls spawner.old) (W.calls spawner.new)) }
     ensures none { IfNone result.0 ((result.1 ≡ Ending.NoMemory) × Appends (K.written sink.old) (K.written sink.new) [] × (K.faults sink.new ≡ K.faults sink.old)) }
     ensures none_starts { IfNone result.0 (spawner.new ≡ spawner.old) }
 

@@ -24,6 +24,7 @@ pub(crate) fn post<R: Wait>(run: &mut Run, rt: &R, post: &Post) -> Result<Came, 
     requires running { IsRunning run.old }
     ensures did { DoesSo (MayCome (IsPostBlock (heads_of run.old.apps.items) post.now) (CutsPost (heads_of run.old.apps.items) post.now) result) run.old run.new }
     ensures running { IsRunning run.new }
+    ensures count { looper_count run.new ≡ looper_count run.old }
     ensures apps { run.new.apps ≡ run.old.apps }
     ensures sessions { sessions_of run.new ≡ sessions_of run.old }
 {
@@ -51,6 +52,7 @@ fn post_to<R: Wait>(run: &mut Run, rt: &R, looper: u32, post: &Post) -> Result<C
     requires there { looper < looper_count run.old }
     ensures did { DoesSo (MayCome (IsSent post.now looper) IsNothing result) run.old run.new }
     ensures running { IsRunning run.new }
+    ensures count { looper_count run.new ≡ looper_count run.old }
     ensures apps { run.new.apps ≡ run.old.apps }
     ensures sessions { sessions_of run.new ≡ sessions_of run.old }
 {

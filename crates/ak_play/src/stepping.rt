@@ -1,17 +1,18 @@
 //! Statements, one after the other.
-ghost use Rattle.std.specs.Prelude.{◌≡◌, ◌≤◌, ◌+◌, [], length, true, IsErrOf, OnOk};
+ghost use Rattle.std.specs.Prelude.{◌≡◌, ◌≤◌, ◌+◌, ◌-◌, [], Some, length, true, IsErrOf, OnOk};
 ghost use Rattle.ak_outside.specs.Faults.{Rose};
 ghost use Rattle.ak_run.specs.Running.{IsRunning};
+ghost use Rattle.ak_run.specs.Sending.{looper_count};
 ghost use Rattle.ak_run.specs.Sessions.{all_closed, session_count, sessions_of};
 ghost use Rattle.ak_run.specs.Doing.{DoesSo, HasDoneSoFar};
+ghost use Rattle.ak_run.specs.Starts.{StartsMore, StopsStarting, thread_count};
 ghost use Rattle.ak_script.specs.Limits.{statement_limit};
 ghost use Rattle.ak_script.specs.Statement.{lines_in, lines_of};
 ghost use Rattle.ak_script.specs.StatementSeen.{statement_seen, statements_seen};
-ghost use Rattle.ak_play.specs.Blocks.{IsAlone, IsBlock, IsLaunch, MayStopAt};
-ghost use Rattle.ak_play.specs.Came.{MayCome};
+ghost use Rattle.ak_play.specs.Blocks.{IsAlone};
 ghost use Rattle.ak_play.specs.Gathered.{HasRoom, KeepsRoom, gathered_seen, nothing_gathered};
 ghost use Rattle.ak_play.specs.Parts.{sessions_in};
-ghost use Rattle.ak_play.specs.Steps.{HasStepped, IsPlayedTo, IsThreadFault, StopsBeforeLines};
+ghost use Rattle.ak_play.specs.Steps.{CarriesOut, HasStepped, IsPlayedTo, IsThreadFault, StopsBeforeLines, refusable};
 
 use crate::asking::hey;
 use crate::gathered::Gathered;
@@ -39,13 +40,14 @@ fn carry_out<W: Spawner, G: Gate + 'static, R: Threads + Wait + Copy + Send + 's
 ) -> Result<Came, Stop>
     requires running { IsRunning run.old }
     requires alone { IsAlone statement.now }
-    ensures did { DoesSo (MayCome (IsBlock run.old.apps.items statement.now) (MayStopAt run.old.apps.items statement.now) result) run.old run.new }
+    ensures did { DoesSo (CarriesOut run.old.apps.items statement.now result) run.old run.new }
     ensures not_written { IsErrOf result Stop.WriteFault → ⊥ }
-    ensures at_a_launch { IsThreadFault result → IsLaunch statement.now }
     ensures lines { StopsBeforeLines result }
     ensures cause { IsThreadFault result → Rose (W.faults spawner.old) (W.faults spawner.new) }
     ensures kept { ¬ (IsThreadFault result) → W.faults spawner.new ≡ W.faults spawner.old }
     ensures never_falls { W.faults spawner.old ≤ W.faults spawner.new }
+    ensures starts { ¬ (IsThreadFault result) → StartsMore (thread_count run.old) (thread_count run.new) (W.calls spawner.old) (W.calls spawner.new) }
+    ensures stops_starting { IsThreadFault result → StopsStarting (refusable statement.now (thread_count run.new - thread_count run.old)) (thread_count run.old) (thread_count run.new) (W.calls spawner.old) (W.calls spawner.new) }
     ensures running { IsRunning run.new }
     ensures apps { run.new.apps ≡ run.old.apps }
     ensures sessions { sessions_of run.new ≡ sessions_of run.old }
@@ -82,6 +84,8 @@ fn play_block<K: Sink, W: Spawner, R: Threads + Wait + Copy + Send + 'static>(
     ensures thread_fault { IsThreadFault result → Rose (W.faults spawner.old) (W.faults spawner.new) }
     ensures spawner_kept { ¬ (IsThreadFault result) → W.faults spawner.new ≡ W.faults spawner.old }
     ensures spawner_never_falls { W.faults spawner.old ≤ W.faults spawner.new }
+    ensures starts { ¬ (IsThreadFault result) → StartsMore (thread_count run.old) (thread_count run.new) (W.calls spawner.old) (W.calls spawner.new) }
+    ensures stops_starting { IsThreadFault result → StopsStarting 1 (thread_count run.old) (thread_count run.new) (W.calls spawner.old) (W.calls spawner.new) }
     ensures running { IsRunning run.new }
     ensures closed { all_closed run.new ≡ true }
     ensures apps { run.new.apps ≡ run.old.apps }
@@ -121,6 +125,8 @@ fn step<K: Sink, W: Spawner, G: Gate + 'static, R: Threads + Wait + Copy + Send 
     ensures thread_fault { IsThreadFault result → Rose (W.faults spawner.old) (W.faults spawner.new) }
     ensures spawner_kept { ¬ (IsThreadFault result) → W.faults spawner.new ≡ W.faults spawner.old }
     ensures spawner_never_falls { W.faults spawner.old ≤ W.faults spawner.new }
+    ensures starts { ¬ (IsThreadFault result) → StartsMore (thread_count run.old) (thread_count run.new) (W.calls spawner.old) (W.calls spawner.new) }
+    ensures stops_starting { IsThreadFault result → StopsStarting (refusable statement.now (thread_count run.new - thread_count run.old)) (thread_count run.old) (thread_count run.new) (W.calls spawner.old) (W.calls spawner.new) }
     ensures running { IsRunning run.new }
     ensures closed { all_closed run.new ≡ true }
     ensures apps { run.new.apps ≡ run.old.apps }
@@ -153,10 +159,11 @@ pub(crate) fn play_all<
     requires running { IsRunning run.old }
     requires nothing { HasDoneSoFar [] run.old }
     requires no_session { sessions_of run.old ≡ [] }
+    requires no_looper { looper_count run.old ≡ 0 }
     requires none { gathered_seen gathered.old ≡ nothing_gathered }
     requires few { lines_in (statements_seen statements.now) ≤ statement_limit }
     requires room { HasRoom (lines_in (statements_seen statements.now)) gathered.old }
-    ensures played { IsPlayedTo run.old.apps.items statements.now (gathered_seen gathered.new) result run.new (K.written sink.old) (K.written sink.new) (Rose (K.faults sink.old) (K.faults sink.new)) (K.faults sink.new ≡ K.faults sink.old) }
+    ensures played { IsPlayedTo run.old.apps.items statements.now (gathered_seen gathered.new) result run.new (K.written sink.old) (K.written sink.new) (Rose (K.faults sink.old) (K.faults sink.new)) (K.faults sink.new ≡ K.faults sink.old) (W.calls spawner.old) (W.calls spawner.new) }
     ensures write_fault { IsErrOf result Stop.WriteFault → Rose (K.faults sink.old) (K.faults sink.new) }
     ensures sink_kept { OnOk result (K.faults sink.new ≡ K.faults sink.old) }
     ensures sink_never_falls { K.faults sink.old ≤ K.faults sink.new }

@@ -1,5 +1,5 @@
 -- Main's calls through its door to one looper.
-use Rattle.std.proofs.Common.{◌≡◌, ℕ, ◌+◌, ◌<◌, List, [], length, refl, sym, ap, ◌∙◌, subst, append-nil, Option, None, Some, Result, vec_capacity, arith}
+use Rattle.std.proofs.Common.{◌≡◌, ℕ, ◌+◌, ◌<◌, List, [], ◌++◌, length, refl, sym, ap, ◌∙◌, subst, append-nil, Option, None, Some, Result, vec_capacity, arith}
 use Rattle.std.specs.Prelude.{IfSome, get_or, option_map, set, slice_get}
 use Rattle.std.proofs.lemmas.List.Elements.{All-get_or}
 use Rattle.std.proofs.lemmas.List.{get_or-set_same, length-set}
@@ -24,6 +24,7 @@ use Rattle.ak_desk.specs.Shared as desks
 use Rattle.ak_desk.specs.Shared.{DeskSeat}
 use Rattle.ak_diary.specs.Step.{Step}
 use Rattle.ak_headline.specs.Main.{MayEnterPort}
+use Rattle.ak_headline.specs.Run.{EditsStarted}
 use Rattle.ak_looper.specs.declared.door.Door.{Door}
 use Rattle.ak_gather.specs.declared.member.Member.{Member}
 use Rattle.ak_run.specs.declared.run.Run.{Run}
@@ -32,7 +33,7 @@ use Rattle.ak_run.specs.Doing.{AskedSo, DoesSo, EnteredSo, desk_front}
 use Rattle.ak_team.specs.Doors.{KeepsDoor, KeepsSeats}
 use Rattle.ak_run.specs.Entering.{AreAtPorts}
 use Rattle.ak_team.specs.InTime.{AddsAtPort}
-use Rattle.ak_run.specs.Recording.{fronts_of}
+use Rattle.ak_run.specs.Recording.{IsRecorded, fronts_of}
 use Rattle.ak_gather.specs.Members.{IsMember}
 use Rattle.ak_run.specs.Running.{IsRunning, IsStanding, KeepsRest, Stands}
 use Rattle.ak_run.specs.Sending.{desk_seat_of, port_seat_of}
@@ -90,9 +91,10 @@ module _ (r r' : Run) (place : ℕ) (m : Member) (door : Door) (within : place <
       does_so P acts.steps r r' acts.so (call_goes r r' place m door within there is acts.steps roster acts.acts acts.goes []) (plain_on r.roster_seat r'.roster_seat roster_front)
       (set_desks r r' place m (record m { door = door }) within there is same) acts.goes.no_edits
 
-  -- so the run runs on
-  pub one_runs : (P : List Step → Type 0) → KeepsSeat m.door.port_seat door.port_seat → KeepsSeat m.door.desk_seat door.desk_seat → vec_capacity r'.members ≡ vec_capacity r.members → KeepsRest r r' → BookOn r r' → DoesSo P r r' → IsRunning r → IsRunning r'
-  one_runs P port desk capacity rest book did running =
+  -- so the run runs on, where each edit is of a looper that main had started
+  pub one_runs : (P : List Step → Type 0) → KeepsSeat m.door.port_seat door.port_seat → KeepsSeat m.door.desk_seat door.desk_seat → vec_capacity r'.members ≡ vec_capacity r.members → KeepsRest r r' → BookOn r r' → (did : DoesSo P r r') → (running : IsRunning r)
+      → ((steps : List Step) → IsRecorded steps (fronts_of r) → EditsStarted running.heads steps → EditsStarted running.heads (steps ++ did.steps)) → IsRunning r'
+  one_runs P port desk capacity rest book did running edits_on =
       let here = length r.members.items in
       let heads = running.heads in
       let count : length r'.members.items ≡ here = ap length is ∙ length-set r.members.items place (record m { door = door }) in
@@ -101,7 +103,8 @@ module _ (r r' : Run) (place : ℕ) (m : Member) (door : Door) (within : place <
         stands = subst (λ n. Stands n heads r') (sym count)
             (stands_on here heads 0 r r' rest (nothing_entered heads r.roster_seat r'.roster_seat roster running.stands.roster_known) book (one_called here heads r r' place m door within there port desk is capacity running.stands) running.stands);
         all = ap (started_by_main heads) roster ∙ running.all ∙ sym count;
-        recorded = record_by (fronts_of r) (fronts_of r') (desk_front r) (desk_front r') did.steps did.does.goes did.does.desks running.recorded;
+        recorded = record_by heads (fronts_of r) (fronts_of r') (desk_front r) (desk_front r') did.steps did.does.goes did.does.desks running.recorded
+            (edits_on running.recorded.did running.recorded.recorded running.recorded.started);
       }
 
   -- by one entry at its port, or none, by what it answers

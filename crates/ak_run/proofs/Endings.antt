@@ -13,7 +13,7 @@ use Rattle.ak_describe.specs.Whole.{heads_of}
 use Rattle.ak_diary.specs.declared.histories.Histories.{Histories}
 use Rattle.ak_diary.specs.Step.{AreStamped, Step}
 use Rattle.ak_headline.specs.Main.{IsMainDiary}
-use Rattle.ak_headline.specs.Run.{HasDone, HasSession, IsRunWith, IsSession}
+use Rattle.ak_headline.specs.Run.{EditsStarted, HasDone, HasSession, IsRunWith, IsSession}
 use Rattle.ak_looper.specs.declared.kept_door.KeptDoor.{KeptDoor}
 use Rattle.ak_looper.specs.Rosters as rosters
 use Rattle.ak_looper.specs.Rosters.{Object, RosterSeat}
@@ -67,9 +67,9 @@ module _ (r : Run) (runs : IsRunning r) (main : RosterSeat) (on : GoesOnKnowing 
   book_below at_book on_book = still_below (session_count r) (length js) r.hands.book_seat at_book on_book (subst (λ (n : ℕ). AreBelow (session_count r) n r.hands.book_seat.names) (sym as_many) runs.stands.book_names)
 
 -- ---- the whole run: what is known of the loopers, with the diaries of main and the sessions
-pub whole : (heads : List AppHead) (short : List ℕ) (sessions : ℕ) (h : Histories) → IsRunOfLoopers heads short sessions h → (main : List Step) → IsMainDiary main → AreStamped 0 main → HasDone h main_thread main → sessions ≤ session_limit
+pub whole : (heads : List AppHead) (short : List ℕ) (sessions : ℕ) (h : Histories) → IsRunOfLoopers heads short sessions h → (main : List Step) → IsMainDiary main → AreStamped 0 main → HasDone h main_thread main → EditsStarted heads main → sessions ≤ session_limit
     → ((number : ℕ) → IsSession sessions number → HasSession h number) → IsRunWith sessions heads short h
-whole heads short sessions h run main diary stamped done few each = record {
+whole heads short sessions h run main diary stamped done started few each = record {
   histories = run.histories;
   all = run.all;
   loopers = run.loopers;
@@ -79,6 +79,7 @@ whole heads short sessions h run main diary stamped done few each = record {
   main_diary = diary;
   main_stamped = stamped;
   main_done = done;
+  main_edits = started;
   few_sessions = omega (arith, few);
   each_session = each;
   roster_makers = run.roster_makers;

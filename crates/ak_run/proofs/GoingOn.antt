@@ -148,17 +148,17 @@ still_running r r' goes is =
       heads = is.heads;
       stands = subst (λ n. Stands n is.heads r') (sym goes.count) (goes.stands here is.heads is.stands);
       all = goes.started here is.heads is.stands ∙ is.all ∙ sym goes.count;
-      recorded = record_on (fronts_of r) (fronts_of r') (desk_front r) (desk_front r') (goes.recorded []) goes.desks_on.same is.recorded;
+      recorded = record_on is.heads (fronts_of r) (fronts_of r') (desk_front r) (desk_front r') (goes.recorded []) goes.desks_on.same is.recorded;
     }
 
 -- once all loopers that were launched have started, the run runs
-pub all_run : (n : ℕ) (r s : Run) (heads : List AppHead) (new : List (List PortEntry)) → Stands (length r.members.items) heads r → started_by_main heads r.roster_seat ≡ length r.members.items + n → HasRecord (fronts_with r new) (desk_front r) → GoesOnWith n r s
+pub all_run : (n : ℕ) (r s : Run) (heads : List AppHead) (new : List (List PortEntry)) → Stands (length r.members.items) heads r → started_by_main heads r.roster_seat ≡ length r.members.items + n → HasRecord heads (fronts_with r new) (desk_front r) → GoesOnWith n r s
     → Records (fronts_with r new) (fronts_of s) → IsRunning s
 all_run n r s heads new stands started has goes more = record {
   heads = heads;
   stands = goes.stands heads stands;
   all = goes.started heads stands ∙ started ∙ sym goes.count;
-  recorded = record_on (fronts_with r new) (fronts_of s) (desk_front r) (desk_front s) more goes.desks_on.same has;
+  recorded = record_on heads (fronts_with r new) (fronts_of s) (desk_front r) (desk_front s) more goes.desks_on.same has;
 }
 
 -- ---- what main made before stands

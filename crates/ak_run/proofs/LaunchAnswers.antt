@@ -31,7 +31,7 @@ module _ (apps : List AppText) (word : AppWord) (arguments : Option MessageData)
   abbrev Entered : List Step → Type 0
   Entered = EntersRunning apps word team first s
 
-  pub runs_so : (result : LaunchAnswer) → GreetsAgain team (length s.roster_seat.front) result → DoesSo (GreetsSo first arguments result) s t → DoesSo (LaunchedSo apps word arguments result) r t
+  pub runs_so : (result : LaunchAnswer) → GreetsAgain team (length s.roster_seat.front) arguments result → DoesSo (GreetsSo first arguments result) s t → DoesSo (LaunchedSo apps word arguments result) r t
   runs_so (answer.Running number place) is sends =
       let at_roster : DoesSo Entered r s = does_with (EntersLaunch apps word arguments (launch.Running team first) s) Entered r s (λ steps last. last) entered in
       subst (λ (n : ℕ). DoesSo (LaunchedSo apps word arguments (answer.Running n place)) r t) (sym is.0)
@@ -47,8 +47,9 @@ module _ (apps : List AppText) (word : AppWord) (arguments : Option MessageData)
       }) at_roster sends)
   runs_so answer.NoMemory is sends =
       let at_roster : DoesSo Entered r s = does_with (EntersLaunch apps word arguments (launch.Running team first) s) Entered r s (λ steps last. last) entered in
-      does_so_then Entered (λ steps. steps ≡ []) (LaunchesInVain word) r s t
+      does_so_then Entered (λ steps. steps ≡ []) (LaunchesInVain word arguments) r s t
       (λ xs ys enters none. inr (record {
+        some = is;
         team = team;
         place = length enters.launches.noted.before;
         launches = record {

@@ -162,7 +162,7 @@ module _ (r r' : Run) (is : IsRunning r) (keeps : KeepsRest r r') (members : r'.
     heads = is.heads;
     stands = now what 0 entered;
     all = started what 0 entered ∙ nothing_more (length r'.members.items);
-    recorded = record_on (fronts_of r) (fronts_of r') (desk_front r) (desk_front r') (record { steps = map (turn_step book.entries) entered.added; goes = turn_beside what 0 entered r.hands.clock.time in_time []; no_edits = turn_no_edits book.entries entered.added })
+    recorded = record_on is.heads (fronts_of r) (fronts_of r') (desk_front r) (desk_front r') (record { steps = map (turn_step book.entries) entered.added; goes = turn_beside what 0 entered r.hands.clock.time in_time []; no_edits = turn_no_edits book.entries entered.added })
         (same_desks r r' members).same is.recorded;
   }
     where
@@ -340,7 +340,7 @@ module _ (r r' : Run) (is : IsRunning r) (keeps : KeepsRest r r') (members : r'.
             },
             omega (arith, h.count, h.few),
             started what n entered,
-            record_on (fronts_of r) (fronts_with r' (team_fronts t.new)) (desk_front r) (desk_front r') (record { steps = does.steps; goes = does.goes; no_edits = does.no_edits }) does.desks_on.same is.recorded,
+            record_on is.heads (fronts_of r) (fronts_with r' (team_fronts t.new)) (desk_front r) (desk_front r') (record { steps = does.steps; goes = does.goes; no_edits = does.no_edits }) does.desks_on.same is.recorded,
           )
 
       pub has_entered : (l : Launch) → ComesTo r.apps.items r.shared word book book' l → TellsTeam r.apps.items arguments word book l → LaunchInTime r.hands.clock.time r'.hands.clock.time book book' l → HasEnteredLaunch r r' l

@@ -4,11 +4,13 @@ pub mod Calls
 pub mod Crossing
 pub mod Doing
 pub mod Edits
+pub mod EditsMore
 pub mod Endings
 pub mod GoingOn
 pub mod LaunchAnswers
 pub mod Launches
 pub mod LookUps
+pub mod Looks
 pub mod MainDone
 pub mod NewRun
 pub mod Opened
@@ -16,9 +18,11 @@ pub mod OpenedSlots
 pub mod PortsAtStart
 pub mod Recorded
 pub mod RosterTurn
+pub mod Seen
 pub mod SlotsStand
 pub mod Splits
 pub mod Standing
+pub mod Starts
 pub mod Stopping
 pub mod Surface
 pub mod TeamEnds

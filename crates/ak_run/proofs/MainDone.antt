@@ -25,7 +25,7 @@ use Rattle.ak_diary.specs.declared.histories.Histories.{Histories}
 use Rattle.ak_diary.specs.Step.{Step, book_sights, desk_entries, desk_entry, port_entries, port_sights, roster_sights}
 use Rattle.ak_headline.specs.Run.{HasDone, desk_list, port_list}
 use Rattle.ak_looper.specs.declared.kept_door.KeptDoor.{KeptDoor}
-use Rattle.ak_looper.specs.Rosters.{Object, RosterSeat, by_number, maker_of, plain_of}
+use Rattle.ak_looper.specs.Rosters.{Object, RosterSeat, maker_of, plain_of}
 use Rattle.ak_gather.specs.declared.gathering.Joined.{Joined}
 use Rattle.ak_gather.specs.declared.member.Member.{Member}
 use Rattle.ak_run.specs.declared.run.Run.{Run}

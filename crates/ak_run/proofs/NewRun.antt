@@ -23,6 +23,7 @@ use Rattle.ak_gather.specs.declared.member.Member.{Member}
 use Rattle.ak_run.specs.declared.run.Run.{Run}
 use Rattle.ak_looper.specs.Counting.{started_by_main}
 use Rattle.ak_run.specs.Doing.{HasDoneSoFar, IsRecordedAtDesks, desk_front}
+use Rattle.ak_run.proofs.EditsMore.{edits_none}
 use Rattle.ak_run.proofs.GoingOn.{desk_in}
 use Rattle.ak_run.proofs.Recorded.{nothing_yet}
 use Rattle.ak_gather.specs.Below.{AreBelow, IsBelow}
@@ -71,7 +72,7 @@ begins heads roster book r whole heads_are roster_is book_is none room ready tim
         sessions = no_slots heads r.shared r.slots no_sessions no_ways;
       };
       all = ap (started_by_main heads) roster_is ∙ sym few;
-      recorded = record { did = []; recorded = nothing_yet r time (ap (λ (s : RosterSeat). s.front) roster_is) (ap (λ (s : ReplySeat). s.front) book_is) none; edits = no_edits_yet r none };
+      recorded = record { did = []; recorded = nothing_yet r time (ap (λ (s : RosterSeat). s.front) roster_is) (ap (λ (s : ReplySeat). s.front) book_is) none; started = edits_none heads; edits = no_edits_yet r none };
     }
   where
     main_below : (sessions n : ℕ) → AreBelow sessions n (Some (main_thread ∷ []))

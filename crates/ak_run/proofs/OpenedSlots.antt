@@ -12,6 +12,7 @@ use Rattle.ak_turn.specs.Entries.{StartsWith}
 use Rattle.ak_turn.specs.Noted.{StandsIn, noted}
 use Rattle.ak_turn.specs.Seats.{KnowsWhole, new_seat}
 use Rattle.ak_turn.specs.Steps.{IsNewName}
+use Rattle.ak_roster.specs.declared.head.AppHead.{AppHead}
 use Rattle.ak_port.specs.ReplySeats as books
 use Rattle.ak_port.specs.ReplySeats.{ReplySeat}
 use Rattle.ak_describe.specs.Whole.{IsWholeApp, heads_of}
@@ -53,10 +54,11 @@ does_nothing r r' time members roster book =
     }
 
 -- main's record is that of before
-record_still : (r r' : Run) → r'.hands.clock.time ≡ r.hands.clock.time → r'.members ≡ r.members → r'.roster_seat.front ≡ r.roster_seat.front → r'.hands.book_seat.front ≡ r.hands.book_seat.front → HasRecord (fronts_of r) (desk_front r) → HasRecord (fronts_of r') (desk_front r')
-record_still r r' time members roster book has = record {
+record_still : (heads : List AppHead) (r r' : Run) → r'.hands.clock.time ≡ r.hands.clock.time → r'.members ≡ r.members → r'.roster_seat.front ≡ r.roster_seat.front → r'.hands.book_seat.front ≡ r.hands.book_seat.front → HasRecord heads (fronts_of r) (desk_front r) → HasRecord heads (fronts_of r') (desk_front r')
+record_still heads r r' time members roster book has = record {
   did = has.did;
   recorded = subst (IsRecorded has.did) (sym (fronts_same r r' time members roster book [])) has.recorded;
+  started = has.started;
   edits = λ looper. (same_desks r r' members).same looper ∙ has.edits looper;
 }
 
@@ -97,7 +99,7 @@ slots_changed r r' keeps count is has =
         sessions = subst (λ (s : Shared). HasSlots heads s r'.slots) (sym keeps.shared) has;
       };
       all = ap (started_by_main heads) keeps.roster_seat ∙ is.all ∙ ap (λ v. length v.items) (sym keeps.members);
-      recorded = record_still r r' (ap (λ h. h.clock.time) keeps.hands) keeps.members (ap (λ (s : RosterSeat). s.front) keeps.roster_seat) (ap (λ h. h.book_seat.front) keeps.hands) is.recorded;
+      recorded = record_still heads r r' (ap (λ h. h.clock.time) keeps.hands) keeps.members (ap (λ (s : RosterSeat). s.front) keeps.roster_seat) (ap (λ h. h.book_seat.front) keeps.hands) is.recorded;
     }
 
 -- there is more room for them
@@ -185,7 +187,7 @@ module _ (r : Run) (is : IsRunning r) (few : session_count r < session_limit) wh
             sessions = subst (λ (x : Shared). HasSlots heads x t.slots) (sym shared) has;
           };
           all = ap (started_by_main heads) (keeps.roster_seat ∙ split.roster_seat) ∙ is.all ∙ ap (λ v. length v.items) (sym members);
-          recorded = record_still r t (ap (λ h. h.clock.time) keeps.hands ∙ split.time) members (ap (λ (x : RosterSeat). x.front) (keeps.roster_seat ∙ split.roster_seat)) (ap (λ h. h.book_seat.front) keeps.hands ∙ ap (λ (x : ReplySeat). x.front) split.book_seat) is.recorded;
+          recorded = record_still heads r t (ap (λ h. h.clock.time) keeps.hands ∙ split.time) members (ap (λ (x : RosterSeat). x.front) (keeps.roster_seat ∙ split.roster_seat)) (ap (λ h. h.book_seat.front) keeps.hands ∙ ap (λ (x : ReplySeat). x.front) split.book_seat) is.recorded;
         }
 
     -- it is put behind the others

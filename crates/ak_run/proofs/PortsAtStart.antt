@@ -1,5 +1,5 @@
 -- What main enters at the ports of a team that starts, and what it tells the first looper.
-use Rattle.std.proofs.Common.{◌≡◌, ℕ, suc, ◌+◌, ◌<◌, ◌≤◌, List, [], ◌∷◌, ◌++◌, length, length-append, All, Result, Ok, Err, refl, sym, ap, ◌∙◌, subst, append_assoc, append-nil, arith}
+use Rattle.std.proofs.Common.{◌≡◌, ℕ, suc, ◌<◌, ◌≤◌, List, [], ◌∷◌, ◌++◌, length, length-append, All, Result, Ok, Err, refl, sym, ap, ◌∙◌, subst, append_assoc, append-nil, arith}
 use Rattle.std.specs.Prelude.{◌↔◌, IsErrOf}
 use Rattle.std.specs.List.{flat_map}
 use Rattle.std.proofs.lemmas.List.Elements.{All-cons, All-head, All-nil, All-tail}
@@ -8,11 +8,10 @@ use Rattle.ak_message.specs.Message.{MessageData}
 use Rattle.ak_flatten.specs.Item.{ItemData}
 use Rattle.ak_flatten.specs.Limits.{flat_limit}
 use Rattle.ak_flatten.specs.Spelling.{spelling}
-use Rattle.ak_turn.specs.Noted.{note, noted}
+use Rattle.ak_turn.specs.Noted.{note}
 use Rattle.ak_roster.specs.declared.entry.RosterEntry.{RosterEntry}
 use Rattle.ak_port.specs.declared.port_entry.PortEntry.{PortEntry}
 use Rattle.ak_port.specs.declared.port_entry.PortEvent.{PortEvent}
-use Rattle.ak_port.specs.declared.port_entry.PortEvent.TheVariants as event
 use Rattle.ak_port.specs.declared.reply_entry.ReplyEntry.{ReplyEntry}
 use Rattle.ak_messenger.specs.Sends.{post_event}
 use Rattle.ak_messenger.specs.declared.fault.SendFault.{SendFault}

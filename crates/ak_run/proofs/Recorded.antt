@@ -8,6 +8,7 @@ use Rattle.ak_base.specs.Thread.{main_thread}
 use Rattle.ak_turn.specs.Entries.{AreByOthers, StartsWith}
 use Rattle.ak_turn.specs.Noted.{Noted, noted}
 use Rattle.ak_turn.specs.Seats.{IsGiven, KnowsWhole, at_leisure, entered_by}
+use Rattle.ak_roster.specs.declared.head.AppHead.{AppHead}
 use Rattle.ak_roster.specs.declared.entry.EntryWithObjects.{EntryWithObjects}
 use Rattle.ak_roster.specs.declared.entry.RosterEntry.{RosterEntry}
 use Rattle.ak_roster.specs.declared.entry.RosterEvent.{RosterEvent}
@@ -19,6 +20,7 @@ use Rattle.ak_desk.specs.Entry.{EntryData}
 use Rattle.ak_desk.specs.Shared as at_desks
 use Rattle.ak_diary.specs.Step.{Step, desk_entries, desk_entry}
 use Rattle.ak_headline.specs.Main.{IsMainDiary, begun}
+use Rattle.ak_headline.specs.Run.{EditsStarted}
 use Rattle.ak_looper.specs.declared.door.Door.{Door}
 use Rattle.ak_looper.specs.Rosters.{Object, RosterSeat, by_number, plain_of}
 use Rattle.ak_gather.specs.declared.member.Member.{Member}
@@ -28,25 +30,28 @@ use Rattle.ak_run.specs.Recording.{Fronts, GoesBy, HasRecord, IsRecorded, Record
 use Rattle.ak_gather.specs.Members.{member_front}
 use Rattle.ak_run.proofs.Acting.{ActsAtBoth, roster_goes, turn_no_edits}
 use Rattle.ak_run.proofs.Acts.{GoesAtBoth, both_goes, recorded_on, records_then, same_fronts, seam_other, set_before, then_those}
+use Rattle.ak_run.proofs.EditsMore.{edits_more}
 use Rattle.ak_team.proofs.Surface.{no_time}
 use Rattle.ak_run.proofs.RosterTurn.{sees_all}
 
 -- ---- main's diary
-module _ (a b : Fronts) (xs ys : ℕ → List EntryData) where
+module _ (heads : List AppHead) (a b : Fronts) (xs ys : ℕ → List EntryData) where
   abbrev edits_in : List EntryData → List (Noted EntryData)
   edits_in entries = noted at_desks.by_number main_thread entries
 
-  pub record_by : (steps : List Step) → GoesBy steps a b → ((looper : ℕ) → edits_in (ys looper) ≡ edits_in (xs looper) ++ desk_entries looper steps) → HasRecord a xs → HasRecord b ys
-  record_by steps goes edits has = record {
+  pub record_by : (steps : List Step) → GoesBy steps a b → ((looper : ℕ) → edits_in (ys looper) ≡ edits_in (xs looper) ++ desk_entries looper steps) → (has : HasRecord heads a xs) → EditsStarted heads (has.did ++ steps) → HasRecord heads b ys
+  record_by steps goes edits has starts = record {
     did = has.did ++ steps;
     recorded = recorded_on has.did steps a b goes has.recorded;
+    started = starts;
     edits = λ looper. then_those (desk_entry looper) has.did steps [] (edits_in (xs looper)) (edits_in (ys looper)) (has.edits looper) (edits looper);
   }
 
   -- by acts without an edit
-  pub record_on : Records a b → ((looper : ℕ) → edits_in (ys looper) ≡ edits_in (xs looper)) → HasRecord a xs → HasRecord b ys
+  pub record_on : Records a b → ((looper : ℕ) → edits_in (ys looper) ≡ edits_in (xs looper)) → HasRecord heads a xs → HasRecord heads b ys
   record_on more same has =
       record_by more.steps more.goes (λ looper. same looper ∙ sym (ap (λ l. edits_in (xs looper) ++ l) (more.no_edits looper) ∙ append-nil (edits_in (xs looper)))) has
+      (edits_more heads has.did more.steps has.started more.no_edits)
 
 -- nothing was done
 pub nothing_yet : (r : Run) → r.hands.clock.time ≡ 0 → r.roster_seat.front ≡ [] → r.hands.book_seat.front ≡ [] → r.members.items ≡ [] → IsRecorded [] (fronts_of r)
@@ -85,7 +90,7 @@ pub beside_then : (r s t : Run) → RecordsBeside r s → RecordsBeside s t → 
 beside_then r s t one two = λ new. records_then (fronts_with r new) (fronts_with s new) (fronts_with t new) (one new) (two new)
 
 -- ---- a call at one looper's port
-there : (ms : List Member) (new : List (List PortEntry)) (place : ℕ) (m : Member) → place < length ms → get_or ms place m ≡ m → list_at (map member_front ms ++ new) place ≡ member_front m
+pub there : (ms : List Member) (new : List (List PortEntry)) (place : ℕ) (m : Member) → place < length ms → get_or ms place m ≡ m → list_at (map member_front ms ++ new) place ≡ member_front m
 there [] new place m within is = absurd (omega (arith, within))
 there (x ∷ ms) new zero m within is = ap member_front is
 there (x ∷ ms) new (suc place) m within is = there ms new place m (omega (arith, within)) is

@@ -1,18 +1,19 @@
 -- Main's turn at the roster: how many loopers its own entries start, and how its seat goes on.
 use Rattle.std.proofs.Common.{◌≡◌, ◌≢◌, ℕ, ◌+◌, ◌≤◌, false, List, [], ◌∷◌, ◌++◌, length, cond, refl, sym, ap, ◌∙◌, subst, append_assoc, append-nil, eq-eqb, arith, All, Option}
-use Rattle.std.proofs.lemmas.List.Elements.{All-head, All-tail, All-map, filter-append}
+use Rattle.std.proofs.lemmas.List.Elements.{All-head, All-map, All-nil, All-tail, filter-append}
 use Rattle.ak_base.specs.Thread.{main_thread}
 use Rattle.ak_turn.specs.Called.{KeepsSeat}
 use Rattle.ak_turn.specs.Entries.{AreByOthers, StartsWith, made_by}
-use Rattle.ak_turn.specs.Seats.{IsGiven, KnowsWhole, at_leisure, entered_by}
-use Rattle.ak_turn.proofs.Surface.{keeps_same, passing_keeps, turn_keeps}
+use Rattle.ak_turn.specs.Noted.{noted}
+use Rattle.ak_turn.specs.Seats.{HasSeen, IsGiven, KnowsWhole, at_leisure, entered_by}
+use Rattle.ak_turn.proofs.Surface.{keeps_same, noted-others, passing_keeps, seen_keeps, seen_starts, turn_keeps}
 use Rattle.ak_roster.specs.declared.head.AppHead.{AppHead}
 use Rattle.ak_roster.specs.declared.entry.EntryWithObjects.{EntryWithObjects}
 use Rattle.ak_roster.specs.declared.entry.RosterEntry.{RosterEntry}
 use Rattle.ak_roster.specs.declared.entry.RosterEvent.{RosterEvent}
 use Rattle.ak_roster.specs.Kept.{count_of}
 use Rattle.ak_roster.specs.Roster.{plain_entries}
-use Rattle.ak_looper.specs.Rosters.{Object, RosterSeat, by_number, maker_of}
+use Rattle.ak_looper.specs.Rosters.{Object, RosterSeat, by_number, maker_of, plain_of}
 use Rattle.ak_looper.proofs.Surface.{made_on}
 use Rattle.ak_looper.specs.Counting.{started_by_main, started_in}
 use Rattle.ak_team.specs.Launching.{Book, HasEntered}
@@ -55,6 +56,36 @@ pub record RosterOn (heads : List AppHead) (more : ℕ) (seat seat' : RosterSeat
   pub on : StartsWith seat'.front seat.front
   pub started : started_by_main heads seat' ≡ started_by_main heads seat + more
   pub known : KnowsWhole by_number seat'
+
+-- it saw more, without a turn
+module _ (seat seat' : RosterSeat) (thread : seat.thread ≡ main_thread) (seen : HasSeen by_number seat seat') where
+  others_alone : AreByOthers by_number main_thread seen.between
+  others_alone = subst (λ (t : ℕ). AreByOthers by_number t seen.between) thread seen.others
+
+  seen_front : seat'.front ≡ seat.front ++ seen.between
+  seen_front = ap (λ (t : RosterSeat). t.front) seen.after
+
+  pub sees_on : (heads : List AppHead) → (KnowsWhole by_number seat → KnowsWhole by_number seat') → KnowsWhole by_number seat → RosterOn heads 0 seat seat'
+  sees_on heads knows known = record {
+    keeps = seen_keeps by_number seat seat' seen;
+    on = seen_starts by_number seat seat' seen;
+    started =
+        ap (λ (l : Entries). started_in heads (made_by maker_of main_thread (plain_entries l))) (seen_front ∙ sym (append-nil (seat.front ++ seen.between)))
+        ∙ ap (started_in heads)
+        (made_in_all main_thread seat.front seen.between [] others_alone (All-nil (λ (entry : EntryWithObjects Object). entry.plain.by.0 ≡ main_thread)) ∙ append-nil (made_by maker_of main_thread (plain_entries seat.front)))
+        ∙ none_more (started_by_main heads seat);
+    known = knows known;
+  }
+    where
+      none_more : (n : ℕ) → n ≡ n + 0
+      none_more n = omega arith
+
+  -- of main's own there is nothing more
+  pub sees_no_more : noted maker_of main_thread (plain_of seat') ≡ noted maker_of main_thread (plain_of seat)
+  sees_no_more =
+      let plain = λ (entry : EntryWithObjects Object). entry.plain in
+      ap (λ (l : Entries). noted maker_of main_thread (plain_entries l)) seen_front ∙ ap (noted maker_of main_thread) (plain-append seat.front seen.between)
+      ∙ noted-others maker_of main_thread (plain_entries seat.front) (plain_entries seen.between) (All-map (λ (entry : RosterEntry). entry.by.0 ≢ main_thread) plain seen.between others_alone)
 
 module _ (seat given seat' : RosterSeat) (book book' : Book) (more : ℕ) (idle : seat.turn ≡ false) (thread : seat.thread ≡ main_thread) (seen : IsGiven by_number seat given) (known : KnowsWhole by_number given)
     (list : book.entries ≡ given.front) (what : Option RosterEvent) (entered : HasEntered what more book book') (same : book'.entries ≡ given.front → seat' ≡ at_leisure given)

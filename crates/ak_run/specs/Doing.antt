@@ -1,5 +1,5 @@
 -- What main does by one call, step by step, and what the call answers.
-use Rattle.std.specs.Prelude.{◌≡◌, ◌⊎◌, ◌≤◌, ◌+◌, ℕ, List, [], ◌∷◌, ◌++◌, length, All, Option, None, Some, option_map, slice_get, unwrap_or, Result, Ok, Err}
+use Rattle.std.specs.Prelude.{◌≡◌, ◌≢◌, ◌⊎◌, ◌≤◌, ◌+◌, ℕ, List, [], ◌∷◌, ◌++◌, length, All, Option, None, Some, option_map, slice_get, unwrap_or, Result, Ok, Err}
 use Rattle.std.specs.List.{find}
 use Rattle.ak_base.specs.Thread.{main_thread}
 use Rattle.ak_base.specs.declared.app_word.AppWord.{AppWord}
@@ -112,15 +112,16 @@ pub record FindsRunning (apps : List AppText) (word : AppWord) (arguments : Opti
   pub sends : SendsEach running.first (arguments_told arguments) told
   pub is : steps ≡ entry ++ told
 
--- the team runs, and memory ran out for what was to be sent to it: nothing is entered behind the entry
-pub record FindsRunningInVain (word : AppWord) (steps : List Step) : Type 0 where
+-- the team runs, and memory ran out for the arguments that were to be sent to it: nothing is entered behind the entry. A launch with nothing to send is done there
+pub record FindsRunningInVain (word : AppWord) (arguments : Option MessageData) (steps : List Step) : Type 0 where
+  pub some : arguments_told arguments ≢ []
   pub team : ℕ
   pub place : ℕ
   pub launches : LaunchesAt word (outcome.AlreadyRunning team) place steps
 
 -- without memory nothing was entered, or no more than that
-abbrev pub LaunchesInVain : AppWord → List Step → Type 0
-LaunchesInVain word steps = (steps ≡ []) ⊎ FindsRunningInVain word steps
+abbrev pub LaunchesInVain : AppWord → Option MessageData → List Step → Type 0
+LaunchesInVain word arguments steps = (steps ≡ []) ⊎ FindsRunningInVain word arguments steps
 
 -- a team was started, of which a looper got no thread; behind its launch the team was ended, with all its loopers
 pub record StartsInVain (apps : List AppText) (word : AppWord) (arguments : Option MessageData) (steps : List Step) : Type 0 where
@@ -139,7 +140,7 @@ LaunchedSo apps word arguments (answer.Running team place) steps = FindsRunning 
 LaunchedSo apps word arguments (answer.NotFound place) steps = LaunchesAt word outcome.NotFound place steps
 LaunchedSo apps word arguments (answer.Limit place) steps = LaunchesAt word outcome.Limit place steps
 LaunchedSo apps word arguments answer.ThreadFault steps = StartsInVain apps word arguments steps
-LaunchedSo apps word arguments answer.NoMemory steps = LaunchesInVain word steps
+LaunchedSo apps word arguments answer.NoMemory steps = LaunchesInVain word arguments steps
 
 -- ---- sends
 -- one entry at that port with that event, the last that main has seen there

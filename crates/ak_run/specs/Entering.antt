@@ -1,5 +1,5 @@
 -- What main did in a call that launches, before the loopers of the team start.
-use Rattle.std.specs.Prelude.{◌≡◌, ◌+◌, ℕ, List, [], ◌∷◌, ◌++◌, length, Option, Some, slice_get}
+use Rattle.std.specs.Prelude.{◌≡◌, ◌≢◌, ◌+◌, ℕ, List, [], ◌∷◌, ◌++◌, length, Option, Some, slice_get}
 use Rattle.std.specs.List.{find}
 use Rattle.ak_base.specs.declared.app_word.AppWord.{AppWord}
 use Rattle.ak_turn.specs.Entries.{StartsWith}
@@ -74,11 +74,11 @@ EntersLaunch apps word arguments launch.NotFound r' steps = LaunchesLast word ou
 EntersLaunch apps word arguments launch.Limit r' steps = LaunchesLast word outcome.Limit r' steps
 EntersLaunch apps word arguments launch.NoMemory r' steps = steps ≡ []
 
--- the team runs, by the last of so many entries; or memory ran out
-abbrev pub GreetsAgain : ℕ → ℕ → LaunchAnswer → Type 0
-GreetsAgain team seen (answer.Running number place) = (number ≡ team) × (seen ≡ place + 1)
-GreetsAgain team seen answer.NoMemory = Unit {0}
-GreetsAgain team seen _ = ⊥
+-- the team runs, by the last of so many entries; or memory ran out for arguments that were to be sent to it
+abbrev pub GreetsAgain : ℕ → ℕ → Option MessageData → LaunchAnswer → Type 0
+GreetsAgain team seen arguments (answer.Running number place) = (number ≡ team) × (seen ≡ place + 1)
+GreetsAgain team seen arguments answer.NoMemory = arguments_told arguments ≢ []
+GreetsAgain team seen arguments _ = ⊥
 
 -- what was sent to its first looper then; nothing without memory
 abbrev pub GreetsSo : ℕ → Option MessageData → LaunchAnswer → List Step → Type 0

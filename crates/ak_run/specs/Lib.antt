@@ -8,7 +8,9 @@ pub mod Members
 pub mod Opened
 pub mod Recording
 pub mod Running
+pub mod Seen
 pub mod Sending
 pub mod Sessions
 pub mod Starting
+pub mod Starts
 pub mod Stopping

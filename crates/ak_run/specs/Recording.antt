@@ -3,6 +3,7 @@ use Rattle.std.specs.Prelude.{◌≡◌, ℕ, List, [], ◌∷◌, ◌++◌, map
 use Rattle.ak_base.specs.Thread.{main_thread}
 use Rattle.ak_turn.specs.Entries.{StartsWith}
 use Rattle.ak_turn.specs.Noted.{noted}
+use Rattle.ak_roster.specs.declared.head.AppHead.{AppHead}
 use Rattle.ak_roster.specs.declared.entry.RosterEntry.{RosterEntry}
 use Rattle.ak_port.specs.declared.port_entry.PortEntry.{PortEntry}
 use Rattle.ak_port.specs.declared.reply_entry.ReplyEntry.{ReplyEntry}
@@ -12,6 +13,7 @@ use Rattle.ak_desk.specs.Entry.{EntryData}
 use Rattle.ak_desk.specs.Shared as at_desks
 use Rattle.ak_diary.specs.Step.{Step, book_entries, book_sights, desk_entries, port_entries, port_sights, roster_entries, roster_sights}
 use Rattle.ak_headline.specs.Main.{IsMainDiary}
+use Rattle.ak_headline.specs.Run.{EditsStarted}
 use Rattle.ak_looper.specs.Rosters.{maker_of, plain_of}
 use Rattle.ak_run.specs.declared.run.Run.{Run}
 use Rattle.ak_team.specs.InTime.{AreInTime}
@@ -52,10 +54,11 @@ pub record IsRecorded (steps : List Step) (f : Fronts) : Type 0 where
   pub ports : (looper : ℕ) → noted at_ports.by_number main_thread (list_at f.ports looper) ≡ port_entries looper steps
   pub ports_seen : (looper : ℕ) → All (StartsWith (list_at f.ports looper)) (port_sights looper steps)
 
--- there is such a diary, and of these lists of desks main's own entries are its edits there
-pub record HasRecord (f : Fronts) (lists : ℕ → List EntryData) : Type 0 where
+-- there is such a diary, and of these lists of desks main's own entries are its edits there, each of a looper that it knew to be started
+pub record HasRecord (heads : List AppHead) (f : Fronts) (lists : ℕ → List EntryData) : Type 0 where
   pub did : List Step
   pub recorded : IsRecorded did f
+  pub started : EditsStarted heads did
   pub edits : (looper : ℕ) → noted at_desks.by_number main_thread (lists looper) ≡ desk_entries looper did
 
 -- from one to the other its own entries went on by those of these steps, which are acts of main's; their stamps are due, and each list goes on

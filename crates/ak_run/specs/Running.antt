@@ -72,4 +72,4 @@ pub record IsRunning (r : Run) : Type 0 where
   pub heads : List AppHead
   pub stands : Stands (length r.members.items) heads r
   pub all : started_by_main heads r.roster_seat ≡ length r.members.items
-  pub recorded : HasRecord (fronts_of r) (desk_front r)
+  pub recorded : HasRecord heads (fronts_of r) (desk_front r)

@@ -101,7 +101,7 @@ abbrev pub HasEnteredLaunch : Run → Run → Launch → Type 0
 HasEnteredLaunch r r' (launch.Started s) =
     (heads : List AppHead) × (plans : List PlanParts) × (kept : List KeptDoor) × MayStartTeam heads plans kept s.team s.new r'
     × (s.team.loopers ≤ app_looper_limit) × (started_by_main heads r'.roster_seat ≡ length r'.members.items + s.team.loopers)
-    × HasRecord (fronts_with r' (team_fronts s.new)) (desk_front r')
+    × HasRecord heads (fronts_with r' (team_fronts s.new)) (desk_front r')
 HasEnteredLaunch r r' (launch.Running team first) = IsRunning r' × (first < length r'.members.items)
 HasEnteredLaunch r r' launch.NotFound = IsRunning r'
 HasEnteredLaunch r r' launch.Limit = IsRunning r'

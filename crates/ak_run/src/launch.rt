@@ -1,5 +1,5 @@
 //! Launches.
-ghost use Rattle.std.specs.Prelude.{◌≡◌, ◌≢◌, ◌<◌, ◌≤◌, ℕ, List, length, option_map};
+ghost use Rattle.std.specs.Prelude.{◌≡◌, ◌≢◌, ◌<◌, ◌≤◌, ◌-◌, ℕ, List, length, option_map};
 ghost use Rattle.ak_outside.specs.Faults.{Rose};
 ghost use Rattle.ak_roster.specs.Answers.{IsWord};
 ghost use Rattle.ak_run.specs.Doing.{DoesSo, LaunchedSo};
@@ -8,6 +8,7 @@ ghost use Rattle.ak_run.specs.Running.{IsRunning};
 ghost use Rattle.ak_run.specs.Sending.{looper_count};
 ghost use Rattle.ak_run.specs.Sessions.{sessions_of};
 ghost use Rattle.ak_run.specs.Starting.{HasEnteredLaunch, launched_fronts};
+ghost use Rattle.ak_run.specs.Starts.{StartsMore, StopsStarting, thread_count};
 
 use crate::answers::LaunchAnswer;
 use crate::run::Run;
@@ -39,6 +40,8 @@ impl Run {
         ensures cause { result ≡ LaunchAnswer.ThreadFault → Rose (W.faults spawner.old) (W.faults spawner.new) }
         ensures kept { result ≢ LaunchAnswer.ThreadFault → W.faults spawner.new ≡ W.faults spawner.old }
         ensures never_falls { W.faults spawner.old ≤ W.faults spawner.new }
+        ensures starts { result ≢ LaunchAnswer.ThreadFault → StartsMore (thread_count self.old) (thread_count self.new) (W.calls spawner.old) (W.calls spawner.new) }
+        ensures stops_starting { result ≡ LaunchAnswer.ThreadFault → StopsStarting (thread_count self.new - thread_count self.old) (thread_count self.old) (thread_count self.new) (W.calls spawner.old) (W.calls spawner.new) }
         ensures running { IsRunning self.new }
         ensures apps { self.new.apps ≡ self.old.apps }
         ensures sessions { sessions_of self.new ≡ sessions_of self.old }
@@ -114,7 +117,7 @@ impl Run {
         requires running { IsRunning self.old }
         requires there { first < length self.old.members.items }
         requires entered { 1 ≤ length self.old.roster_seat.front }
-        ensures answer { GreetsAgain team (length self.old.roster_seat.front) result }
+        ensures answer { GreetsAgain team (length self.old.roster_seat.front) (option_map (λ m. m.now) arguments.entry) result }
         ensures did { DoesSo (GreetsSo first (option_map (λ m. m.now) arguments.entry) result) self.old self.new }
         ensures running { IsRunning self.new }
         ensures apps { self.new.apps ≡ self.old.apps }

@@ -1,21 +1,24 @@
 //! Sessions: threads beside main and the loopers, each of which is opened, and closed before the run ends.
-ghost use Rattle.std.specs.Prelude.{◌≡◌, ◌<◌, ◌+◌, ◌++◌, ◌∷◌, [], None, Some, IfOk, OnErr, length, set, vec_capacity};
+ghost use Rattle.std.specs.Prelude.{◌≡◌, ◌<◌, ◌≤◌, ◌+◌, ◌++◌, ◌∷◌, [], All, None, Some, IfOk, OnErr, length, set, vec_capacity};
 ghost use Rattle.ak_describe.specs.Whole.{heads_of};
 ghost use Rattle.ak_session.specs.Ready.{IsReady};
-ghost use Rattle.ak_run.specs.Doing.{Does};
+ghost use Rattle.ak_run.specs.Doing.{Does, desk_front};
 ghost use Rattle.ak_looper.specs.Shared.{AreSame};
+ghost use Rattle.ak_run.specs.Recording.{fronts_of, list_at};
 ghost use Rattle.ak_run.specs.Running.{IsRunning};
+ghost use Rattle.ak_run.specs.Seen.{HasLooked, HasSeen, HasSeenThrough};
 ghost use Rattle.ak_run.specs.Sending.{looper_count};
 ghost use Rattle.ak_run.specs.Sessions.{HasLocksOf, IsAsBefore, MayClose, session_count, session_limit, sessions_of};
 
 use crate::run::Run;
 use ak_base::{NoMemory, ThreadId};
-use ak_looper::{KeptDoor, Shared};
+use ak_looper::{Door, KeptDoor, Shared};
 use ak_messenger::Hands;
 use ak_port::ReplyBook;
 use ak_roster::RosterBook;
 use ak_session::Session;
-use ak_turn::{Clock, new_seats_know};
+use ak_turn::{Clock, new_seats_know, rest_for_ever};
+use std::sync::Wait;
 
 impl Run {
     /// How many sessions were opened.
@@ -89,17 +92,106 @@ impl Run {
         session
     }
 
-    /// Closes a session that is open: this is what came of it. The run keeps it for the end.
-    pub fn close_session(&mut self, session: Session)
+    /// Closes a session that is open: this is what came of it. The run keeps it for the end. Main sees first all that the session has seen: of
+    /// the roster, of the reply book, and through its doors of their ports and desks. So what main enters from now on at one of them stands
+    /// behind all that the session entered there. It takes no turn for it.
+    pub fn close_session<R: Wait>(&mut self, rt: &R, session: Session)
         requires running { IsRunning self.old }
         requires came { MayClose self.old session }
         ensures closed { (may : MayClose self.old session) → sessions_of self.new ≡ set (sessions_of self.old) may.place (may.opened, Some session) }
+        ensures seen { HasSeen self.new self.old.hands.clock.time session }
         ensures did { Does [] self.old self.new }
         ensures running { IsRunning self.new }
         ensures count { looper_count self.new ≡ looper_count self.old }
         ensures apps { self.new.apps ≡ self.old.apps }
     {
+        let at_roster = session.roster_seat.seen();
+        let at_book = session.hands.book_seat.seen();
+        let doors = session.doors.as_slice();
+        self.see_roster(rt, at_roster);
+        self.see_book(rt, at_book);
+        self.see_ways(rt, doors);
         let place = (session.hands.clock.thread.0 - 1) as usize;
         self.slots.sessions[place].closed = Some(session);
+    }
+
+    // Sees so many entries of the roster, where it has seen less.
+    fn see_roster<R: Wait>(&mut self, rt: &R, count: u64)
+        requires running { IsRunning self.old }
+        ensures seen { count ≤ length self.new.roster_seat.front }
+        ensures looked { HasLooked self.old self.new }
+        ensures running { IsRunning self.new }
+    {
+        self.shared.roster.see(rt, &mut self.roster_seat, count);
+    }
+
+    // The same of the reply book.
+    fn see_book<R: Wait>(&mut self, rt: &R, count: u64)
+        requires running { IsRunning self.old }
+        ensures seen { count ≤ length self.new.hands.book_seat.front }
+        ensures looked { HasLooked self.old self.new }
+        ensures running { IsRunning self.new }
+    {
+        let hands = &mut self.hands;
+        hands.book.see(rt, &mut hands.book_seat, count);
+    }
+
+    // Sees at the ports and desks to which these doors lead as much as was seen through them.
+    fn see_ways<R: Wait>(&mut self, rt: &R, doors: &[(u32, Door)])
+        requires running { IsRunning self.old }
+        ensures seen { All (λ door. HasSeenThrough door self.new) doors.now }
+        ensures looked { HasLooked self.old self.new }
+        ensures running { IsRunning self.new }
+    {
+        for door in doors {
+            self.see_way(rt, door);
+        }
+    }
+
+    // The same where one of them leads.
+    fn see_way<R: Wait>(&mut self, rt: &R, door: &(u32, Door))
+        requires running { IsRunning self.old }
+        ensures seen { HasSeenThrough door.now self.new }
+        ensures looked { HasLooked self.old self.new }
+        ensures running { IsRunning self.new }
+    {
+        let at_port = door.1.port_seat.seen();
+        let at_desk = door.1.desk_seat.seen();
+        self.see_port(rt, door.0, at_port);
+        self.see_desk(rt, door.0, at_desk);
+    }
+
+    // Sees so many entries of that looper's port, where it has seen less.
+    fn see_port<R: Wait>(&mut self, rt: &R, looper: u32, count: u64)
+        requires running { IsRunning self.old }
+        ensures seen { count ≤ length (list_at (fronts_of self.new).ports looper) }
+        ensures looked { HasLooked self.old self.new }
+        ensures running { IsRunning self.new }
+    {
+        self.rest_past_last(rt, looper);
+        let door = &mut self.members[looper as usize].door;
+        door.port.see(rt, &mut door.port_seat, count);
+    }
+
+    // The same of that looper's desk.
+    fn see_desk<R: Wait>(&mut self, rt: &R, looper: u32, count: u64)
+        requires running { IsRunning self.old }
+        ensures seen { count ≤ length (desk_front self.new looper) }
+        ensures looked { HasLooked self.old self.new }
+        ensures running { IsRunning self.new }
+    {
+        self.rest_past_last(rt, looper);
+        let door = &mut self.members[looper as usize].door;
+        door.desk.see(rt, &mut door.desk_seat, count);
+    }
+
+    // Never returns where main started no looper of that number. No session has a door to such a one.
+    fn rest_past_last<R: Wait>(&self, rt: &R, looper: u32)
+        requires running { IsRunning self.now }
+        ensures { looper < looper_count self.now }
+    {
+        if looper >= self.loopers() {
+            rest_for_ever(rt);
+        }
     }
 }

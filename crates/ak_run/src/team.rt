@@ -3,6 +3,7 @@ ghost use Rattle.std.specs.Prelude.{◌≡◌, ◌+◌, ◌≤◌, ℕ, List, No
 ghost use Rattle.ak_base.specs.Limits.{app_looper_limit};
 ghost use Rattle.ak_base.specs.Thread.{main_thread};
 ghost use Rattle.ak_outside.specs.Faults.{Rose};
+ghost use Rattle.ak_outside.specs.Spawner.{HasGivenBack, HasStarted};
 ghost use Rattle.ak_turn.specs.Seats.{new_seat};
 ghost use Rattle.ak_turn.specs.Steps.{IsNewName};
 ghost use Rattle.ak_action.specs.declared.plan.PlanParts.{PlanParts};
@@ -16,6 +17,7 @@ ghost use Rattle.ak_run.specs.Recording.{RecordsAtNew, RecordsSo, RecordsStart, 
 ghost use Rattle.ak_team.specs.InTime.{team_fronts};
 ghost use Rattle.ak_run.specs.Running.{IsStanding};
 ghost use Rattle.ak_run.specs.Starting.{GoesOnAtNew, GoesOnWith, HasSplit, MayStart, MayStartTeam};
+ghost use Rattle.ak_run.specs.Starts.{StartsAll, StartsSome};
 ghost use Rattle.ak_run.specs.Stopping.{Stops, StopsAtNew, StopsStart};
 
 use crate::run::Run;
@@ -68,6 +70,8 @@ impl Run {
         ensures kept { IsTrue result → W.faults spawner.new ≡ W.faults spawner.old }
         ensures cause { IsFalse result → Rose (W.faults spawner.old) (W.faults spawner.new) }
         ensures never_falls { W.faults spawner.old ≤ W.faults spawner.new }
+        ensures asked { IsTrue result → StartsAll team.loopers (W.calls spawner.old) (W.calls spawner.new) }
+        ensures given_back { IsFalse result → StartsSome team.loopers (W.calls spawner.old) (W.calls spawner.new) }
     {
         let alloc = *self.members.allocator();
         let NewTeam { own, others, ways } = new;
@@ -126,6 +130,9 @@ impl Run {
         ensures kept { IsTrue result.1 → W.faults spawner.new ≡ W.faults spawner.old }
         ensures cause { IsTrue start → IsFalse result.1 → Rose (W.faults spawner.old) (W.faults spawner.new) }
         ensures never_falls { W.faults spawner.old ≤ W.faults spawner.new }
+        ensures asked { IsTrue result.1 → HasStarted (W.calls spawner.old) (W.calls spawner.new) }
+        ensures given_back { IsTrue start → IsFalse result.1 → HasGivenBack (W.calls spawner.old) (W.calls spawner.new) }
+        ensures not_asked { IsFalse start → W.calls spawner.new ≡ W.calls spawner.old }
     {
         if !start {
             return (Life::Over(self.live_here(rt, gate, job, door)), false);
@@ -156,6 +163,9 @@ impl Run {
         ensures kept { IsTrue result → W.faults spawner.new ≡ W.faults spawner.old }
         ensures cause { IsTrue start → IsFalse result → Rose (W.faults spawner.old) (W.faults spawner.new) }
         ensures never_falls { W.faults spawner.old ≤ W.faults spawner.new }
+        ensures asked { IsTrue result → HasStarted (W.calls spawner.old) (W.calls spawner.new) }
+        ensures given_back { IsTrue start → IsFalse result → HasGivenBack (W.calls spawner.old) (W.calls spawner.new) }
+        ensures not_asked { IsFalse start → W.calls spawner.new ≡ W.calls spawner.old }
     {
         let number = new.number;
         let (book_seat, roster_seat) = self.split_seats(ThreadId::looper(number));

@@ -21,7 +21,6 @@ use Rattle.ak_messenger.specs.Sends.{back_duty, post_event}
 use Rattle.ak_messenger.specs.declared.envelope.Envelope.{Envelope}
 use Rattle.ak_messenger.specs.declared.fault.SendFault.{SendFault}
 use Rattle.ak_messenger.specs.declared.fault.SendFault.TheVariants as fault
-use Rattle.ak_looper.specs.Rosters.{by_number}
 use Rattle.ak_team.specs.InTime.{AddsAtPort, AreNotesInTime}
 
 -- an entry that main may make there by itself

@@ -250,6 +250,10 @@ pub on_err : {T E : Type 0} (A B : Type 0) (r : Result T E) → (A → B) → On
 on_err A B (Ok x) f a = tt
 on_err A B (Err e) f a = f a
 
+-- a post without memory is of a message that fits an item
+pub short_of_memory : (m : MessageData) (sent : Result ℕ SendFault) → IsErrOf sent fault.NoMemory → (IsErrOf sent fault.TooLong ↔ (flat_limit < length (spelling m))) → ¬ (flat_limit < length (spelling m))
+short_of_memory m sent wanting long over = let bad = sym wanting ∙ long.1 over in absurd (cc bad)
+
 -- a post without memory has no entry
 pub no_entry : (e : Envelope) (m : MessageData) (sent : Result ℕ SendFault) → IsErrOf sent fault.NoMemory → post_event e m sent ≡ None
 no_entry e m sent wanting = ap (λ (r : Result ℕ SendFault). post_event e m r) wanting

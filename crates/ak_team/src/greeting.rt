@@ -1,6 +1,8 @@
 //! What an application's own looper gets before it starts.
-ghost use Rattle.std.specs.Prelude.{◌≡◌, ◌≤◌, ◌∷◌, [], ℕ, option_map, IsErrOf, None, OnErr, OnOk, false};
+ghost use Rattle.std.specs.Prelude.{◌≡◌, ◌<◌, ◌≤◌, ◌∷◌, [], ℕ, length, option_map, IsErrOf, None, OnErr, OnOk, false};
 ghost use Rattle.ak_base.specs.declared.thread.ThreadId.{ThreadId};
+ghost use Rattle.ak_flatten.specs.Limits.{flat_limit};
+ghost use Rattle.ak_flatten.specs.Spelling.{spelling};
 ghost use Rattle.ak_turn.specs.Called.{KeepsSeat};
 ghost use Rattle.ak_port.specs.PortCalls.{CanTake, HasAnswered};
 ghost use Rattle.ak_team.specs.Doors.{KeepsDoor};
@@ -38,6 +40,7 @@ pub fn send<R: Wait>(
     ensures adds { door.old.port_seat.thread ≡ main_thread → AddsAtPort hands.old.clock.time hands.new.clock.time door.old.port_seat.front door.new.port_seat.front }
     ensures sent { OnOk result (HasSent message.now hands.old.clock hands.new.clock door.old.port_seat door.new.port_seat) }
     ensures unsent { OnErr result (HasAnswered None hands.old.clock hands.new.clock door.old.port_seat door.new.port_seat) }
+    ensures fits { OnErr result (¬ (flat_limit < length (spelling message.now))) }
     ensures book { hands.new.book ≡ hands.old.book }
     ensures book_seat { hands.new.book_seat ≡ hands.old.book_seat }
     ensures clock { hands.new.clock.thread ≡ hands.old.clock.thread }

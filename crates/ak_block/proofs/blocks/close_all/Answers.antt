@@ -9,7 +9,7 @@ use Rattle.ak_block.proofs.Closing.{ClosedSoFar, all_closed_now, closed_push, ma
 use Rattle.ak_block.proofs.blocks.close_all.Goals as goal
 
 pub loop-end-init : goal.loop-end-init
-loop-end-init c =
+loop-end-init g c =
     let same = c.into_iter-end-iterator.ensures.into_iter_gives.0 in
     let rest = c.into_iter-end-iterator.result.rest.items in
     let none = c.requires.none in
@@ -19,11 +19,12 @@ loop-end-init c =
           (none_closed heads before time from sessions c.args.run.now rest (subst (λ (l : List SessionEnd). AreOpen heads before time from sessions c.args.run.now l) (sym same) are));
       room = omega (arith, ap (λ (l : List SessionEnd). length l) same, ap (λ (l : List Heard). length l) none, c.requires.room);
       running = c.requires.running;
+      count = refl;
       apps = refl;
     }
 
 pub close_session-requires : goal.close_session-requires
-close_session-requires c =
+close_session-requires g c =
     let was = c.loop-end in
     let rest = c.next.new.self.rest.items in
     let x = c.in-Some.end in
@@ -37,7 +38,7 @@ close_session-requires c =
     }
 
 pub push_reserved-requires : goal.push_reserved-requires
-push_reserved-requires c =
+push_reserved-requires g c =
     let was = c.loop-end in
     let rest = c.next.new.self.rest.items in
     let x = c.in-Some.end in
@@ -45,7 +46,7 @@ push_reserved-requires c =
     omega (arith, was.invariant.room, ap (λ (l : List SessionEnd). length l) next, was.heard.ok.0)
 
 pub loop-end-preserved : goal.loop-end-preserved
-loop-end-preserved c =
+loop-end-preserved g c =
     let was = c.loop-end in
     let rest = c.next.new.self.rest.items in
     let x = c.in-Some.end in
@@ -57,14 +58,15 @@ loop-end-preserved c =
       kept = λ heads before time from sessions are.
           closed_push heads before time from sessions c.args.run.now was.run x rest was.heard.items
           (subst (λ (l : List SessionEnd). ClosedSoFar heads before time from sessions c.args.run.now was.run l was.heard.items) next (was.invariant.kept heads before time from sessions are))
-          c.close_session.new.self closed.closed h _ refl pushed.items closed.did;
+          c.close_session.new.self closed.closed closed.seen closed.did h _ refl pushed.items;
       room = omega (arith, was.invariant.room, ap (λ (l : List SessionEnd). length l) next, ap (λ (l : List Heard). length l) pushed.items, length-append was.heard.items (h ∷ []), pushed.capacity);
       running = closed.running;
+      count = closed.count ∙ was.invariant.count;
       apps = closed.apps ∙ was.invariant.apps;
     }
 
 pub returns : goal.returns
-returns c =
+returns g c =
     let was = c.loop-end in
     let none : was.end-iterator.rest.items ≡ [] = grind (arith, common_steps) in
     record {
@@ -72,5 +74,6 @@ returns c =
           all_closed_now heads before time from sessions c.args.run.now was.run was.heard.items
           (subst (λ (l : List SessionEnd). ClosedSoFar heads before time from sessions c.args.run.now was.run l was.heard.items) none (was.invariant.kept heads before time from sessions are));
       running = was.invariant.running;
+      count = was.invariant.count;
       apps = was.invariant.apps;
     }

@@ -2,6 +2,8 @@
 use Rattle.std.proofs.Common.{◌≡◌, take, vec_capacity}
 use Rattle.ak_describe.specs.Whole.{heads_of}
 use Rattle.ak_run.specs.Running.{IsRunning}
+use Rattle.ak_run.specs.Sending.{looper_count}
+use Rattle.ak_run.specs.Starts.{StartsAll}
 use Rattle.ak_block.specs.Threads.{jobs_of}
 use Rattle.ak_block.proofs.Started.{AreStarted}
 use Rattle.ak_block.proofs.blocks.run_sessions.Given as goal
@@ -14,4 +16,6 @@ invariant-loop-lines g l = record {
   running : IsRunning l.run;
   apps : l.run.apps ≡ l.fn.run.apps;
   faults : g.W.Spawner.faults l.spawner ≡ g.W.Spawner.faults l.fn.spawner;
+  starts : StartsAll l.lines-index (g.W.Spawner.calls l.fn.spawner) (g.W.Spawner.calls l.spawner);
+  count : looper_count l.run ≡ looper_count l.fn.run;
 }

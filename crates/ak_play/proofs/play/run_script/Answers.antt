@@ -25,6 +25,6 @@ returns-clause-play g c =
     let later = ap heads_of same in
     let f0 = g.K.Sink.faults c.args.sink.now in
     let f1 = g.K.Sink.faults played.new.sink in
-    is_play_as c.args.script.apps.items c.args.script.statements.items played.result run end.result.0 (g.K.Sink.written c.args.sink.now) (g.K.Sink.written played.new.sink) (Rose f0 f1) (f1 ≡ f0)
+    is_play_as c.args.script.apps.items c.args.script.statements.items played.result run end.result.0 (g.K.Sink.written c.args.sink.now) (g.K.Sink.written played.new.sink) (Rose f0 f1) (f1 ≡ f0) (g.W.Spawner.calls c.args.spawner.now) (g.W.Spawner.calls played.new.spawner)
     c.in-Ok-new.run'.apps.items (heads_of run.apps.items) (heads_of run.apps.items) c.as_slice-2.result.now played.new.gathered end.result.1 c.in-Ok-new.ensures.apps later later c.as_slice-2.ensures.value end.ensures.outcomes end.ensures.tolds end.ensures.short_sessions end.ensures.ending
-    played.ensures.played end.ensures.short end.ensures.lines end.ensures.run end.ensures.answered end.ensures.sessions end.ensures.did
+    played.ensures.played end.ensures.short end.ensures.lines end.ensures.run end.ensures.answered end.ensures.sessions end.ensures.same end.ensures.did

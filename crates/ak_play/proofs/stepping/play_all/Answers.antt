@@ -7,6 +7,8 @@ use Rattle.std.proofs.lemmas.Result.{err_from_is_err_and}
 use Rattle.ak_outside.specs.Faults.{Rose}
 use Rattle.ak_describe.specs.declared.described.AppText.{AppText}
 use Rattle.ak_run.specs.Sessions.{Told, session_count}
+use Rattle.ak_run.specs.Starts.{thread_count}
+use Rattle.ak_run.proofs.Surface.{none_more, starts_then}
 use Rattle.ak_script.specs.declared.statement.Statement.{Statement}
 use Rattle.ak_script.specs.Limits.{statement_limit}
 use Rattle.ak_script.specs.Statement.{lines_in, lines_of}
@@ -16,6 +18,7 @@ use Rattle.ak_play.specs.Parts.{all_sessions_in}
 use Rattle.ak_play.specs.Steps.{HasStepped, IsPlayedSoFar}
 use Rattle.ak_play.proofs.Lists.{at_index}
 use Rattle.ak_play.proofs.Playing.{play_begun, play_ends, play_goes_on, play_stops}
+use Rattle.ak_play.proofs.Starts.{counted_so_far, starts_by}
 use Rattle.ak_play.proofs.Room.{as_many_sessions, few_sessions, next_of, pushed_at_most, told_at_most}
 use Rattle.ak_play.proofs.stepping.play_all.Goals as goal
 
@@ -34,6 +37,7 @@ loop-statement-init g c =
       room = c.requires.room;
       few = omega (arith, ap (λ (all : List Told). length all) c.requires.no_session, few_sessions c.args.statements.now, c.requires.few);
       spawner_kept = refl;
+      starts = none_more 0 (thread_count c.args.run.now) (g.W.Spawner.calls c.args.spawner.now) (omega (arith, c.requires.no_looper, ap (λ (all : List Told). length all) c.requires.no_session));
       running = c.requires.running;
       closed = ap (list_all (λ (told : Told). is_some told.1)) c.requires.no_session;
       apps = refl;
@@ -104,6 +108,7 @@ loop-statement-preserved g c =
       };
       few = omega (arith, next_few all_sessions_in statements i s (session_count r) statement_limit at inv.few, on.sessions.count, as_many_sessions s on);
       spawner_kept = told.spawner_kept (λ bad. absurd bad) ∙ inv.spawner_kept;
+      starts = starts_then 0 (thread_count r) (thread_count r') (g.W.Spawner.calls c.args.spawner.now) (g.W.Spawner.calls was.spawner) (g.W.Spawner.calls c.step.new.spawner) inv.starts (told.starts (λ bad. absurd bad));
       running = told.running;
       closed = told.closed;
       apps = told.apps ∙ inv.apps;
@@ -131,7 +136,11 @@ returns-in_err-step-clause-played g c =
     let f1 = g.K.Sink.faults was.sink in
     let f2 = g.K.Sink.faults c.step.new.sink in
     let has = subst (λ (xs : List AppText). HasStepped xs s k k' r r' mid new (Rose f1 f2) (f2 ≡ f1) {A = Unit {0}} (Err c.in_err-step.field-0.0)) same c.in_err-step.ensures.stepped in
-    rw (p.1, p.2) (play_stops apps statements s k k' i r r' old mid new (f1 ≡ f0) (f2 ≡ f0) inv.so_far at (Rose f1 f2) (Rose f0 f2) (f2 ≡ f1) (λ rose. subst (λ (n : ℕ). Rose n f2) inv.so_far.sink rose) (λ one two. two ∙ one) c.in_err-step.field-0.0 has)
+    let calls = g.W.Spawner.calls c.args.spawner.now in
+    let calls' = g.W.Spawner.calls c.step.new.spawner in
+    let starts = starts_by c.in_err-step.field-0.0 s (thread_count r) (thread_count r') calls (g.W.Spawner.calls was.spawner) calls' inv.starts c.in_err-step.ensures.starts c.in_err-step.ensures.stops_starting in
+    rw (p.1, p.2) (play_stops apps statements s k k' i r r' old mid new (f1 ≡ f0) (f2 ≡ f0) inv.so_far at (Rose f1 f2) (Rose f0 f2) (f2 ≡ f1) (λ rose. subst (λ (n : ℕ). Rose n f2) inv.so_far.sink rose) (λ one two. two ∙ one) c.in_err-step.field-0.0 calls calls' starts
+    (counted_so_far apps inv.so_far.parts r inv.running same inv.so_far.done_so inv.so_far.sessions) has)
 
 pub returns-clause-played : goal.returns-clause-played
 returns-clause-played g c =
@@ -142,5 +151,5 @@ returns-clause-played g c =
     let old = g.K.Sink.written c.args.sink.now in
     let new = g.K.Sink.written was.sink in
     let all : was.statement-index ≡ length statements = omega (arith, c.loop-statement-test.false, was.auto.statement-index-end) in
-    play_ends c.args.run.now.apps.items statements tt (gathered_seen was.gathered) was.run old new (Rose f0 f1) (f1 ≡ f0)
+    play_ends c.args.run.now.apps.items statements tt (gathered_seen was.gathered) was.run old new (Rose f0 f1) (f1 ≡ f0) (g.W.Spawner.calls c.args.spawner.now) (g.W.Spawner.calls was.spawner) was.invariant.starts
     (subst (λ (n : ℕ). IsPlayedSoFar c.args.run.now.apps.items statements (gathered_seen was.gathered) n was.run old new (f1 ≡ f0)) all was.invariant.so_far)

@@ -2,6 +2,7 @@
 use Rattle.std.proofs.Common.{◌≡◌, ◌+◌, ◌≤◌, drop, true}
 use Rattle.ak_run.specs.Running.{IsRunning}
 use Rattle.ak_run.specs.Sessions.{all_closed, session_count}
+use Rattle.ak_run.specs.Starts.{StartsMore, thread_count}
 use Rattle.ak_script.specs.Limits.{statement_limit}
 use Rattle.ak_script.specs.Statement.{lines_in}
 use Rattle.ak_script.specs.StatementSeen.{statements_seen}
@@ -16,6 +17,7 @@ invariant-loop-statement g l = record {
   room : HasRoom (lines_in (statements_seen (drop l.statement-index l.statements))) l.gathered;
   few : session_count l.run + all_sessions_in (drop l.statement-index l.statements) ≤ statement_limit;
   spawner_kept : g.W.Spawner.faults l.spawner ≡ g.W.Spawner.faults l.fn.spawner;
+  starts : StartsMore 0 (thread_count l.run) (g.W.Spawner.calls l.fn.spawner) (g.W.Spawner.calls l.spawner);
   running : IsRunning l.run;
   closed : all_closed l.run ≡ true;
   apps : l.run.apps ≡ l.fn.run.apps;

@@ -1,10 +1,12 @@
 -- What a block came to, and how much of its lines was written.
-use Rattle.std.proofs.Common.{◌≡◌, List, [], length, map, Ok, Err, refl, ap, ◌∙◌, subst, arith}
+use Rattle.std.proofs.Common.{◌≡◌, List, [], length, map, Ok, Err, refl, sym, ap, ◌∙◌, subst, arith}
 use Rattle.std.specs.Prelude.{Result}
 use Rattle.std.proofs.lemmas.Result.{err_from_is_err_and}
 use Rattle.ak_outside.specs.Faults.{Rose}
 use Rattle.ak_describe.specs.Whole.{heads_of}
 use Rattle.ak_run.specs.Sessions.{sessions_of}
+use Rattle.ak_run.specs.Starts.{StartsMore, thread_count}
+use Rattle.ak_run.proofs.Surface.{none_more}
 use Rattle.ak_run.specs.declared.run.Run.{Run}
 use Rattle.ak_script.specs.declared.statement.Statement.TheVariants as statement
 use Rattle.ak_block.specs.declared.blocks.Cut.{Cut}
@@ -133,3 +135,14 @@ returns-in-Err-ThreadFault-clause-stepped g c =
     let ran = subst (λ (x : Result (Unit {0}) Cut). HasRunBlock heads t.sessions.items x r r' heard) (cut_is c.in_ok-heard.came c.in-Err-ThreadFault.field-0 cut.ThreadFault c.in-Err-ThreadFault.is (rw c.in-Err-ThreadFault.is at c.in-Err-ThreadFault.field-0-is)) c.in_ok-heard.ensures.ran in
     block_kept r.apps.items t k (gathered_seen c.make_room.new.self) (gathered_seen c.push_sessions.new.self) r r' heard c.sessions-from.result old new (Rose f0 f1) (f1 ≡ f0) (Err (stop.ThreadFault c.lines_told-in-Err-ThreadFault.result)) c.sessions-from.ensures
     c.in_ok-make_room.ensures.seen c.push_sessions.ensures.seen (block_refused r.apps.items t k r r' heard old new (Rose f0 f1) (f1 ≡ f0) told written c.tell_sessions-told.ensures.cause c.tell_sessions-told.ensures.kept c.lines_told-in-Err-ThreadFault.result c.lines_told-in-Err-ThreadFault.ensures ran)
+
+-- ---- no thread was asked for
+pub returns-in_err-make_room-clause-starts : goal.returns-in_err-make_room-clause-starts
+returns-in_err-make_room-clause-starts g c = λ other. none_more _ _ (g.W.Spawner.calls c.args.spawner.now) refl
+
+pub returns-in_err-heard-clause-starts : goal.returns-in_err-heard-clause-starts
+returns-in_err-heard-clause-starts g c =
+    let r = c.args.run.now in
+    let r' = c.together.new.run in
+    let calls = g.W.Spawner.calls c.args.spawner.now in
+    λ other. subst (StartsMore (thread_count r) (thread_count r') calls) (sym c.in_err-heard.ensures.not_asked) (none_more (thread_count r) (thread_count r') calls (ap (λ (x : Run). thread_count x) c.in_err-heard.ensures.nothing))

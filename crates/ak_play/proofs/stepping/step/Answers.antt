@@ -1,8 +1,7 @@
 -- What a statement came to, and how much of its line was written.
-use Rattle.std.proofs.Common.{◌≡◌, Ok, Err, refl, sym, ap, subst, arith}
+use Rattle.std.proofs.Common.{◌≡◌, Ok, Err, refl, sym, subst, arith}
 use Rattle.std.proofs.lemmas.Result.{err_from_is_err_and}
 use Rattle.ak_outside.specs.Faults.{Rose}
-use Rattle.ak_play.specs.declared.stop.Stop.{Stop}
 use Rattle.ak_play.specs.Gathered.{GatheredData, gathered_seen}
 use Rattle.ak_play.specs.Steps.{HasStepped, stop_untold}
 use Rattle.ak_play.proofs.Blocks.{main_stepped, main_stopped, one_line, still_alone}
@@ -57,4 +56,4 @@ returns-in_err-came-clause-stepped g c =
     let given = g.K.Sink.written c.args.sink.now in
     let faults = g.K.Sink.faults c.args.sink.now in
     rw (p.1, p.2) (main_stopped r.apps.items c.args.statement.now k k r c.carry_out.new.run given (Rose faults faults) (faults ≡ faults) did.sessions refl refl
-    c.in_err-came.field-0.0 did.did.steps did.did.so did.did.does (λ bad. did.not_written (ap (λ (x : Stop). Err x) bad)) did.lines did.at_a_launch)
+    c.in_err-came.field-0.0 did.did.steps did.did.so did.did.does did.lines)

@@ -2,12 +2,9 @@
 use Rattle.std.proofs.Common.{refl, sym, ap, ◌∙◌, subst}
 use Rattle.std.proofs.lemmas.List.{length-set}
 use Rattle.ak_turn.specs.Called.{KeepsSeat}
-use Rattle.ak_session.specs.Doing.{EditedSo}
-use Rattle.ak_session.specs.Calls.{edited_event}
 use Rattle.ak_turn.proofs.Surface.{keeps_itself}
-use Rattle.ak_run.proofs.Calls.{desk_after, desk_before, desk_keeps, main_has, one_runs}
-use Rattle.ak_run.proofs.Edits.{edited_does}
-use Rattle.ak_run.proofs.Standing.{same_book}
+use Rattle.ak_run.proofs.Calls.{desk_after, desk_before, main_has}
+use Rattle.ak_run.proofs.Edits.{edit_runs, edited_does}
 use Rattle.ak_run.proofs.run.Run.edit.Goals as goal
 
 pub edit_through-requires : goal.edit_through-requires
@@ -41,11 +38,9 @@ returns-clause-running g c =
     let m = c.index_mut.result.now in
     let there = sym c.index_mut.ensures.value in
     let e = c.edit_through in
-    let keeps = desk_keeps (edited_event c.args.edit e.result) r.hands.clock e.new.clock m.door.desk_seat e.new.door.desk_seat e.ensures.answered in
     let main = m.door.thread ∙ main_has _ c.requires.running.heads r c.args.looper m c.requires.there there c.requires.running.stands in
-    one_runs r _ c.args.looper m e.new.door c.requires.there there refl refl (EditedSo c.args.looper c.args.edit e.result) (subst (KeepsSeat m.door.port_seat) (sym e.ensures.port_seat) (keeps_itself m.door.port_seat)) keeps.0 refl
-    (record { apps = refl; shared = refl; joined = refl; ports = refl; desks = refl; slots = refl }) (same_book r _ refl)
-    (edited_does r _ c.args.looper m _ c.requires.there there refl refl refl (ap (λ s. s.front) e.ensures.port_seat) main c.args.edit e.result e.ensures.answered e.ensures.place) c.requires.running
+    edit_runs r _ c.args.looper m e.new.door c.requires.there there refl refl refl (ap (λ s. s.front) e.ensures.port_seat) main c.args.edit e.result e.ensures.answered e.ensures.place
+    (subst (KeepsSeat m.door.port_seat) (sym e.ensures.port_seat) (keeps_itself m.door.port_seat)) refl (record { apps = refl; shared = refl; joined = refl; ports = refl; desks = refl; slots = refl }) c.requires.running
 
 pub returns-clause-count : goal.returns-clause-count
 returns-clause-count g c = length-set c.args.self.now.members.items c.args.looper _

@@ -2,7 +2,7 @@
 use Rattle.std.proofs.Common.{ℕ, List, ap, ◌∙◌, subst}
 use Rattle.ak_roster.specs.declared.head.AppHead.{AppHead}
 use Rattle.ak_describe.specs.Whole.{heads_of}
-use Rattle.ak_headline.specs.Run.{IsRunWith}
+use Rattle.ak_headline.specs.Run.{EditsStarted, IsRunWith}
 use Rattle.ak_run.specs.Ending.{EndsAs}
 use Rattle.ak_run.specs.Opened.{WereOpened}
 use Rattle.ak_run.specs.Sessions.{session_count}
@@ -29,7 +29,8 @@ returns g c =
     let closed = closed_further r left goes c.requires.closed in
     let many = session_count left in
     let run : IsRunWith many later ended.short h =
-    whole later ended.short many h c.gathered.ensures.run recorded.did recorded.recorded.diary recorded.recorded.in_time.stamped (c.gathered.ensures.done recorded.did recorded.recorded recorded.edits) running.stands.sessions.few (each_session left h running closed c.gathered.ensures.sessions) in
+    whole later ended.short many h c.gathered.ensures.run recorded.did recorded.recorded.diary recorded.recorded.in_time.stamped (c.gathered.ensures.done recorded.did recorded.recorded recorded.edits)
+    (subst (λ (heads : List AppHead). EditsStarted heads recorded.did) running.stands.heads_are recorded.started) running.stands.sessions.few (each_session left h running closed c.gathered.ensures.sessions) in
     let same : EndsAs r h = ends_further r left h goes c.leave_all.ensures.closed.goes.ports_on c.gathered.ensures.same in
     record {
       apps = ap (λ v. v.items) (c.gathered.ensures.apps ∙ goes.apps);

@@ -1,5 +1,5 @@
 -- Main sends to that looper or does nothing, and the run goes on.
-use Rattle.std.proofs.Common.{◌≡◌, Bor, Option, None, List, [], refl, sym, subst, ◌∙◌}
+use Rattle.std.proofs.Common.{◌≡◌, ◌≢◌, Bor, Option, None, List, [], refl, sym, subst, ◌∙◌}
 use Rattle.std.specs.Prelude.{option_map}
 use Rattle.std.proofs.lemmas.List.{length-set}
 use Rattle.ak_message.specs.declared.message.Message.{Message}
@@ -7,8 +7,8 @@ use Rattle.ak_messenger.specs.Sends.{post_event}
 use Rattle.ak_diary.specs.Step.{Step}
 use Rattle.ak_run.specs.declared.answers.LaunchAnswer.TheVariants as answer
 use Rattle.ak_run.specs.Entering.{AreAtPorts, GreetsSo}
-use Rattle.ak_team.specs.Greeting.{from_main}
-use Rattle.ak_team.proofs.Surface.{may_post}
+use Rattle.ak_team.specs.Greeting.{arguments_told, from_main}
+use Rattle.ak_team.proofs.Surface.{may_post, told_fits}
 use Rattle.ak_run.proofs.Calls.{does_same, goes_same, main_has, one_goes, port_alone, seats_of}
 use Rattle.ak_run.proofs.GoingOn.{still_running}
 use Rattle.ak_run.proofs.PortsAtStart.{sends_each}
@@ -29,8 +29,9 @@ returns-in_default-send g c =
     let door = c.send.new.door in
     let main = main_has _ c.requires.running.heads r c.args.first m c.requires.there (sym c.index_mut.ensures.value) c.requires.running.stands in
     let alone = port_alone c.args.first r.hands.clock.time c.send.new.hands.clock.time r.hands.book_seat _ _ _ c.send.ensures.book_seat (c.send.ensures.adds main) in
+    let fits = told_fits c.in-Some.message.now c.in_default-send.ensures.fits in
     record {
-      answer = tt;
+      answer = subst (λ (o : Option (Bor Message)). arguments_told (option_map (λ (b : Bor Message). b.now) o) ≢ []) (sym c.in-Some.is) (λ none. let bad = sym fits ∙ none in absurd (cc bad));
       did = does_as r _ c.args.first m door c.requires.there (sym c.index_mut.ensures.value) refl refl (λ steps. steps ≡ []) None (seats_of m.door door c.send.ensures.door).desk_front main tt c.in_default-send.ensures.unsent c.send.ensures.book_seat (λ steps none. none);
       running = still_running r _ (one_goes r _ c.args.first m door c.requires.there (sym c.index_mut.ensures.value) refl refl AreAtPorts (seats_of m.door door c.send.ensures.door) refl (record { apps = refl; shared = refl; joined = refl; ports = refl; desks = refl; slots = refl }) (same_book r _ c.send.ensures.book_seat) alone) c.requires.running;
       apps = refl;

@@ -87,4 +87,7 @@ returns g c =
       kept = c.life_of-life.ensures.kept;
       cause = c.life_of-life.ensures.cause;
       never_falls = c.life_of-life.ensures.never_falls;
+      asked = c.life_of-life.ensures.asked;
+      given_back = c.life_of-life.ensures.given_back;
+      not_asked = c.life_of-life.ensures.not_asked;
     }

@@ -6,6 +6,7 @@ use Rattle.ak_run.specs.Recording.{fronts_with}
 use Rattle.ak_team.specs.InTime.{new_front, team_fronts}
 use Rattle.ak_run.specs.Starting.{IsStarting}
 use Rattle.ak_run.specs.Stopping.{StopsSince}
+use Rattle.ak_run.proofs.Starts.{RefusedBut, StartedBut}
 use Rattle.ak_run.proofs.run.Run.start_team.Given as goal
 
 abbrev pub invariant-loop-other : goal.invariant-loop-other
@@ -16,5 +17,7 @@ invariant-loop-other g l = record {
   kept : IsTrue l.all → g.W.Spawner.faults l.spawner ≡ g.W.Spawner.faults l.fn.spawner;
   cause : IsFalse l.all → Rose (g.W.Spawner.faults l.fn.spawner) (g.W.Spawner.faults l.spawner);
   never_falls : g.W.Spawner.faults l.fn.spawner ≤ g.W.Spawner.faults l.spawner;
+  asked : IsTrue l.all → StartedBut (length l.other-iterator.rest.items) l.team.loopers (g.W.Spawner.calls l.fn.spawner) (g.W.Spawner.calls l.spawner);
+  given_back : IsFalse l.all → RefusedBut (length l.other-iterator.rest.items) l.team.loopers (g.W.Spawner.calls l.fn.spawner) (g.W.Spawner.calls l.spawner);
   gates : length l.other-iterator.rest.items ≤ length l.gates.items;
 }
