@@ -2,6 +2,7 @@
 use Rattle.std.proofs.Common.{◌≡◌, ◌⊎◌, inl, inr, ℕ, Bool, true, false, List, Option, Some, None, Result, Ok, Err, IfSome, refl, sym, ◌∙◌, subst}
 use Rattle.ak_base.specs.declared.ending.Ending.{Ending}
 use Rattle.ak_base.specs.declared.ending.Ending.TheVariants as ending
+use Rattle.ak_outside.specs.Calls.{Calls}
 use Rattle.ak_outside.specs.Faults.{Rose, Stayed}
 use Rattle.ak_outside.proofs.Surface.{Stayed-not_Rose}
 use Rattle.ak_play.specs.declared.run_end.RunEnd.{RunEnd}
@@ -25,10 +26,10 @@ ends_well ending.ReadFault k k' w w' is write thread sink spawner = absurd is
 
 -- a run that ends without memory is short
 ends_short
-    : (run : Option RunEnd) (end : Ending) (old new : Option (List ℕ)) (a b : ℕ) → IfSome run (λ (r : RunEnd). PlaysAndCloses r end old new a b)
+    : (run : Option RunEnd) (end : Ending) (old new : Option (List ℕ)) (a b : ℕ) (calls calls' : Option Calls) → IfSome run (λ (r : RunEnd). PlaysAndCloses r end old new a b calls calls')
     → IfSome run (λ (r : RunEnd). end ≡ ending.NoMemory → IsShort r.short)
-ends_short (Some r) end old new a b plays = plays.play.ran_short
-ends_short None end old new a b plays = tt
+ends_short (Some r) end old new a b calls calls' plays = plays.play.ran_short
+ends_short None end old new a b calls calls' plays = tt
 
 -- where a write failed behind it
 short_cut : (ended : Ending) (main : Bool) (run : RunEnd) (end : Ending) → end ≡ at_a_write main ended → run.short.main ≡ main → end ≡ ending.NoMemory → IsShort run.short
@@ -54,18 +55,18 @@ short_told lines.Cut ended run main end old new a b short tells = short_behind e
 short_told lines.Lacking ended run main end old new a b short tells = short_behind ended lines.Whole run main end short tells.end_is tells.main_is
 
 short_journaled
-    : (run : Option RunEnd) (end : Ending) (old new : Option (List ℕ)) (a b : ℕ) → IfSome run (λ (r : RunEnd). JournalsAndCloses r end old new a b)
+    : (run : Option RunEnd) (end : Ending) (old new : Option (List ℕ)) (a b : ℕ) (calls calls' : Option Calls) → IfSome run (λ (r : RunEnd). JournalsAndCloses r end old new a b calls calls')
     → IfSome run (λ (r : RunEnd). end ≡ ending.NoMemory → IsShort r.short)
-short_journaled (Some r) end old new a b plays = short_told r.lines plays.ended r plays.main end plays.between new plays.faults_between b plays.play.ran_short plays.tells
-short_journaled None end old new a b plays = tt
+short_journaled (Some r) end old new a b calls calls' plays = short_told r.lines plays.ended r plays.main end plays.between new plays.faults_between b plays.play.ran_short plays.tells
+short_journaled None end old new a b calls calls' plays = tt
 
 -- with a journal and without one
 pub ends_short_so
-    : (journal : Bool) (run : Option RunEnd) (end : Ending) (old new : Option (List ℕ)) (a b : ℕ) → (journal ≡ false → IfSome run (λ (r : RunEnd). PlaysAndCloses r end old new a b))
-    → (journal ≡ true → IfSome run (λ (r : RunEnd). JournalsAndCloses r end old new a b))
+    : (journal : Bool) (run : Option RunEnd) (end : Ending) (old new : Option (List ℕ)) (a b : ℕ) (calls calls' : Option Calls) → (journal ≡ false → IfSome run (λ (r : RunEnd). PlaysAndCloses r end old new a b calls calls'))
+    → (journal ≡ true → IfSome run (λ (r : RunEnd). JournalsAndCloses r end old new a b calls calls'))
     → IfSome run (λ (r : RunEnd). end ≡ ending.NoMemory → IsShort r.short)
-ends_short_so false run end old new a b plays journals = ends_short run end old new a b (plays refl)
-ends_short_so true run end old new a b plays journals = short_journaled run end old new a b (journals refl)
+ends_short_so false run end old new a b calls calls' plays journals = ends_short run end old new a b calls calls' (plays refl)
+ends_short_so true run end old new a b calls calls' plays journals = short_journaled run end old new a b calls calls' (journals refl)
 
 -- what was read is no fault
 pub no_fault : {A E : Type 0} (r : Result A E) (x : A) (e f : E) → r ≡ Ok x → (r ≡ Err e) ⊎ (r ≡ Err f) → ⊥

@@ -3,6 +3,7 @@ use Rattle.std.proofs.Common.{◌≡◌, ◌≢◌, inl, ℕ, List, Option, Some
 use Rattle.std.specs.Prelude.{Bool, IfSome, IsSomeAnd}
 use Rattle.ak_base.specs.declared.ending.Ending.{Ending}
 use Rattle.ak_base.specs.declared.ending.Ending.TheVariants as ending
+use Rattle.ak_outside.specs.Calls.{Calls}
 use Rattle.ak_outside.specs.Faults.{Rose}
 use Rattle.ak_outside.proofs.Surface.{Stayed-not_Rose}
 use Rattle.ak_describe.specs.declared.described.AppText.{AppText}
@@ -24,8 +25,8 @@ module _ (Failed : Type 0) (never : Failed → ⊥) where
   written_so Kept lines.Cut before last old new is = (is.0, never is.1)
   written_so Kept lines.Lacking before last old new is = (is.0, tt)
 
-  plays_so : {Kept : Type 0} (apps : List AppText) (statements : List Statement) (end : Ending) (run : RunEnd) (old new : Option (List ℕ)) → IsPlay apps statements end run old new Failed Kept → IsPlay apps statements end run old new ⊥ (Unit {0})
-  plays_so apps statements end run old new play = record {
+  plays_so : {Kept : Type 0} (apps : List AppText) (statements : List Statement) (end : Ending) (run : RunEnd) (old new : Option (List ℕ)) (calls calls' : Option Calls) → IsPlay apps statements end run old new Failed Kept calls calls' → IsPlay apps statements end run old new ⊥ (Unit {0}) calls calls'
+  plays_so apps statements end run old new calls calls' play = record {
     ends = play.ends;
     played = play.played;
     run_of = play.run_of;
@@ -34,10 +35,12 @@ module _ (Failed : Type 0) (never : Failed → ⊥) where
     cut_at_a_write = play.cut_at_a_write;
     cut_at = play.cut_at;
     lacking_by_main = play.lacking_by_main;
+    lacks_at = play.lacks_at;
     replies = play.replies;
     whole = play.whole;
     whole_by_main = play.whole_by_main;
-    at_a_start = play.at_a_start;
+    stopped_so = play.stopped_so;
+    starts = play.starts;
     before_last = play.before_last;
     stopped_nowhere = play.stopped_nowhere;
     short = play.short;
@@ -45,27 +48,27 @@ module _ (Failed : Type 0) (never : Failed → ⊥) where
     main_short = play.main_short;
   }
 
-  pub plays_nowhere : {Kept : Type 0} (script : Script) (end : Ending) (run : RunEnd) → OfScript script run → IsPlay script.apps.items script.statements.items end run None None Failed Kept → IsPlayNowhere end run
-  plays_nowhere script end run of_script play =
-      let so = plays_so script.apps.items script.statements.items end run None None play in
-      let of_apps = subst (λ (apps : List AppText). IsPlay apps script.statements.items end run None None ⊥ (Unit {0})) (sym of_script.0) so in
-      subst (λ (statements : List Statement). IsPlay run.script.apps.items statements end run None None ⊥ (Unit {0})) (sym of_script.1) of_apps
+  pub plays_nowhere : {Kept : Type 0} (script : Script) (end : Ending) (run : RunEnd) (calls calls' : Option Calls) → OfScript script run → IsPlay script.apps.items script.statements.items end run None None Failed Kept calls calls' → IsPlayNowhere end run calls calls'
+  plays_nowhere script end run calls calls' of_script play =
+      let so = plays_so script.apps.items script.statements.items end run None None calls calls' play in
+      let of_apps = subst (λ (apps : List AppText). IsPlay apps script.statements.items end run None None ⊥ (Unit {0}) calls calls') (sym of_script.0) so in
+      subst (λ (statements : List Statement). IsPlay run.script.apps.items statements end run None None ⊥ (Unit {0}) calls calls') (sym of_script.1) of_apps
 
-pub some_plays_nowhere : (script : Script) (end : Ending) (found : Option RunEnd) → IfSome found (OfScript script)
-    → IfSome found (λ (run : RunEnd). IsPlay script.apps.items script.statements.items end run None None (Rose 0 0) (◌≡◌ {A = ℕ} 0 0)) → IfSome found (IsPlayNowhere end)
-some_plays_nowhere script end None of_script play = tt
-some_plays_nowhere script end (Some run) of_script play = plays_nowhere (Rose 0 0) (λ rose. Stayed-not_Rose 0 0 (omega arith, refl) rose) script end run of_script play
+pub some_plays_nowhere : (script : Script) (end : Ending) (found : Option RunEnd) (calls calls' : Option Calls) → IfSome found (OfScript script)
+    → IfSome found (λ (run : RunEnd). IsPlay script.apps.items script.statements.items end run None None (Rose 0 0) (◌≡◌ {A = ℕ} 0 0) calls calls') → IfSome found (λ (run : RunEnd). IsPlayNowhere end run calls calls')
+some_plays_nowhere script end None calls calls' of_script play = tt
+some_plays_nowhere script end (Some run) calls calls' of_script play = plays_nowhere (Rose 0 0) (λ rose. Stayed-not_Rose 0 0 (omega arith, refl) rose) script end run calls calls' of_script play
 
 -- ---- the run, behind its line
 -- what was written tells of the run as it is handed on
-pub tells_on : (n : ℕ) (run : RunEnd) (ended end : Ending) (found : Option RunEnd) (old new : Option (List ℕ)) (faults faults' : ℕ)
-    → IsPlayNowhere ended run → ended ≢ ending.WriteFault → IsSomeAnd found (λ (e : RunEnd). run ≡ with_main run.short.main e) → IfSome found (λ (e : RunEnd). TellsRun ended n e run.short.main end old new faults faults')
-    → IfSome found (λ (e : RunEnd). GeneratesAndCloses n e end old new faults faults')
-tells_on n run ended end None old new faults faults' play no_write is tells = tt
-tells_on n run ended end (Some e) old new faults faults' play no_write is tells = record {
+pub tells_on : (n : ℕ) (run : RunEnd) (ended end : Ending) (found : Option RunEnd) (old new : Option (List ℕ)) (faults faults' : ℕ) (calls calls' : Option Calls)
+    → IsPlayNowhere ended run calls calls' → ended ≢ ending.WriteFault → IsSomeAnd found (λ (e : RunEnd). run ≡ with_main run.short.main e) → IfSome found (λ (e : RunEnd). TellsRun ended n e run.short.main end old new faults faults')
+    → IfSome found (λ (e : RunEnd). GeneratesAndCloses n e end old new faults faults' calls calls')
+tells_on n run ended end None old new faults faults' calls calls' play no_write is tells = tt
+tells_on n run ended end (Some e) old new faults faults' calls calls' play no_write is tells = record {
   ended = ended;
   main = run.short.main;
-  play = subst (IsPlayNowhere ended) is play;
+  play = subst (λ (r : RunEnd). IsPlayNowhere ended r calls calls') is play;
   no_write = no_write;
   tells = tells;
 }
@@ -87,7 +90,7 @@ module _ (run : RunEnd) where
   answered_on None answered same = tt
   answered_on (Some end) answered same = subst (λ (r : RunEnd). EachGotOneReply r.short.loopers r.histories) same answered
 
-  pub short_on : (ended finally : Ending) (found : Option RunEnd) (n : ℕ) (old new : Option (List ℕ)) (faults faults' : ℕ) → IsPlayNowhere ended run → IsSomeAnd found (λ (end : RunEnd). run ≡ with_main run.short.main end)
+  pub short_on : (ended finally : Ending) (found : Option RunEnd) (n : ℕ) (old new : Option (List ℕ)) (faults faults' : ℕ) (calls calls' : Option Calls) → IsPlayNowhere ended run calls calls' → IsSomeAnd found (λ (end : RunEnd). run ≡ with_main run.short.main end)
       → IfSome found (λ (end : RunEnd). TellsRun ended n end run.short.main finally old new faults faults') → IfSome found (λ (end : RunEnd). finally ≡ ending.NoMemory → IsShort end.short)
-  short_on ended finally None n old new faults faults' play same tells = tt
-  short_on ended finally (Some end) n old new faults faults' play same tells = short_so ended n end run.short.main finally old new faults faults' (λ lacks. subst (λ (r : RunEnd). IsShort r.short) same (play.ran_short lacks)) tells
+  short_on ended finally None n old new faults faults' calls calls' play same tells = tt
+  short_on ended finally (Some end) n old new faults faults' calls calls' play same tells = short_so ended n end run.short.main finally old new faults faults' (λ lacks. subst (λ (r : RunEnd). IsShort r.short) same (play.ran_short lacks)) tells

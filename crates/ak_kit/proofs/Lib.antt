@@ -2,8 +2,10 @@ pub mod ClosingLine
 pub mod Command
 pub mod Counting
 pub mod Ends
+pub mod Found
 pub mod Gathering
 pub mod Generating
 pub mod Playing
 pub mod Reading
 pub mod Scripts
+pub mod Telling

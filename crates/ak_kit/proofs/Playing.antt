@@ -4,6 +4,7 @@ use Rattle.std.specs.Prelude.{IfSome, IfNone, IsSomeAnd}
 use Rattle.std.specs.Io.KnownBytes.{Appends}
 use Rattle.ak_base.specs.declared.ending.Ending.{Ending}
 use Rattle.ak_base.specs.declared.ending.Ending.TheVariants as ending
+use Rattle.ak_outside.specs.Calls.{Calls}
 use Rattle.ak_outside.specs.Faults.{Rose}
 use Rattle.ak_outside.proofs.Surface.{Appends-joined, Rose-after}
 use Rattle.ak_describe.specs.declared.described.AppText.{AppText}
@@ -23,21 +24,21 @@ closes_alone end old between new a b c first second nothing still closes =
 abbrev pub OfScript : Script → RunEnd → Type 0
 OfScript script run = (run.script.apps.items ≡ script.apps.items) × (run.script.statements.items ≡ script.statements.items)
 
-module _ (script : Script) (r : RunEnd) (played : Ending) (old between new : Option (List ℕ)) (a b c : ℕ) (first : a ≤ b) (second : b ≤ c) (of_script : OfScript script r)
-    (play : IsPlay script.apps.items script.statements.items played r old between (Rose a b) (b ≡ a)) where
-  of_all : IsPlay r.script.apps.items r.script.statements.items played r old between (Rose a b) (b ≡ a)
+module _ (script : Script) (r : RunEnd) (played : Ending) (old between new : Option (List ℕ)) (a b c : ℕ) (calls calls' : Option Calls) (first : a ≤ b) (second : b ≤ c) (of_script : OfScript script r)
+    (play : IsPlay script.apps.items script.statements.items played r old between (Rose a b) (b ≡ a) calls calls') where
+  of_all : IsPlay r.script.apps.items r.script.statements.items played r old between (Rose a b) (b ≡ a) calls calls'
   of_all =
-      let of_apps = subst (λ (apps : List AppText). IsPlay apps script.statements.items played r old between (Rose a b) (b ≡ a)) (sym of_script.0) play in
-      subst (λ (statements : List Statement). IsPlay r.script.apps.items statements played r old between (Rose a b) (b ≡ a)) (sym of_script.1) of_apps
+      let of_apps = subst (λ (apps : List AppText). IsPlay apps script.statements.items played r old between (Rose a b) (b ≡ a) calls calls') (sym of_script.0) play in
+      subst (λ (statements : List Statement). IsPlay r.script.apps.items statements played r old between (Rose a b) (b ≡ a) calls calls') (sym of_script.1) of_apps
 
-  pub plays_and_closes : (found : Option RunEnd) (end : Ending) → found ≡ Some r → end ≡ played → ClosesBehind r.lines played between new b c → IfSome found (λ (x : RunEnd). PlaysAndCloses x end old new a c)
+  pub plays_and_closes : (found : Option RunEnd) (end : Ending) → found ≡ Some r → end ≡ played → ClosesBehind r.lines played between new b c → IfSome found (λ (x : RunEnd). PlaysAndCloses x end old new a c calls calls')
   plays_and_closes found end same ended closes =
-      subst (λ (o : Option RunEnd). IfSome o (λ (x : RunEnd). PlaysAndCloses x end old new a c)) (sym same)
-      (subst (λ (e : Ending). PlaysAndCloses r e old new a c) (sym ended) (record { between = between; faults_between = b; first = first; second = second; play = of_all; closes = closes }))
+      subst (λ (o : Option RunEnd). IfSome o (λ (x : RunEnd). PlaysAndCloses x end old new a c calls calls')) (sym same)
+      (subst (λ (e : Ending). PlaysAndCloses r e old new a c calls calls') (sym ended) (record { between = between; faults_between = b; first = first; second = second; play = of_all; closes = closes }))
 
   -- with its journal behind it; the run is handed on, but for whether main found no memory
   pub journals_and_closes : (found : Option RunEnd) (end : Ending) → IsSomeAnd found (λ (x : RunEnd). r ≡ with_main r.short.main x)
-      → IfSome found (λ (x : RunEnd). TellsJournal r.lines played x r.short.main end between new b c) → IfSome found (λ (x : RunEnd). JournalsAndCloses x end old new a c)
+      → IfSome found (λ (x : RunEnd). TellsJournal r.lines played x r.short.main end between new b c) → IfSome found (λ (x : RunEnd). JournalsAndCloses x end old new a c calls calls')
   journals_and_closes None end same tells = tt
   journals_and_closes (Some x) end same tells = record {
     ended = played;
@@ -46,7 +47,7 @@ module _ (script : Script) (r : RunEnd) (played : Ending) (old between new : Opt
     faults_between = b;
     first = first;
     second = second;
-    play = subst (λ (y : RunEnd). IsPlay y.script.apps.items y.script.statements.items played y old between (Rose a b) (b ≡ a)) same of_all;
+    play = subst (λ (y : RunEnd). IsPlay y.script.apps.items y.script.statements.items played y old between (Rose a b) (b ≡ a) calls calls') same of_all;
     tells = subst (λ (y : RunEnd). TellsJournal y.lines played x r.short.main end between new b c) same tells;
   }
 

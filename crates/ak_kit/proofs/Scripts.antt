@@ -5,31 +5,37 @@ use Rattle.ak_base.specs.declared.ending.Ending.TheVariants as ending
 use Rattle.ak_base.specs.declared.ending.RefusalKind.{RefusalKind}
 use Rattle.ak_describe.specs.Pass.{Refusal}
 use Rattle.ak_script.specs.declared.script.Script.{Script}
+use Rattle.ak_script.specs.Refusals.{FirstRefusalIsTold, ScriptsAreRead}
 use Rattle.ak_script.specs.Script.{ScriptData, script_of}
-use Rattle.ak_kit.specs.Kit.{IsFaultOf, IsRefusedAt, IsTextOf}
+use Rattle.ak_script.specs.Seen.{script_seen}
+use Rattle.ak_kit.specs.Kit.{IsFaultOf, IsRefusedAt, IsTextOf, SaysScript}
 
 -- the ending that a refusal is
 abbrev refused : Result ScriptData Refusal → Ending
 refused (Err r) = ending.Refused r.line r.kind
 refused (Ok _) = ending.Done
 
-pub refuses : (r : Result Script Ending) (input : List ℕ) (line : ℕ) (why : RefusalKind) → IfOk r (λ s. IsTextOf s input) → IfErr r (λ e. IsFaultOf e input) → IsRefusedAt line why input
+-- what was read of an input (`given`), of which the same is read as of the whole
+pub refuses : ScriptsAreRead → FirstRefusalIsTold → (r : Result Script Ending) (given input : List ℕ) (line : ℕ) (why : RefusalKind) → script_of given ≡ script_of input → IfOk r (λ s. IsTextOf s given) → IfErr r (λ e. IsFaultOf e given) → IsRefusedAt line why input
     → (r ≡ Err (ending.Refused line why)) ⊎ (r ≡ Err ending.NoMemory)
-refuses (Ok s) input line why text fault is = absurd (let other : script_of input ≡ _ = text in cc)
-refuses (Err (ending.Refused l w)) input line why text fault is = inl (ap (λ (e : Ending). Err e) (ap refused (sym fault ∙ is)))
-refuses (Err ending.NoMemory) input line why text fault is = inr refl
-refuses (Err ending.Done) input line why text fault is = absurd fault
-refuses (Err ending.Usage) input line why text fault is = absurd fault
-refuses (Err ending.ReadFault) input line why text fault is = absurd fault
-refuses (Err ending.WriteFault) input line why text fault is = absurd fault
-refuses (Err ending.ThreadFault) input line why text fault is = absurd fault
+unfolding SaysScript IsRefusedAt
+refuses said told (Ok s) given input line why same text fault refusal = absurd (let one = (said given (script_seen s)).1 text in let other = (told input (record { line = line; kind = why })).1 refusal in cc)
+refuses said told (Err (ending.Refused l w)) given input line why same text fault refusal =
+    inl (ap (λ (e : Ending). Err e) (ap refused (sym ((told given (record { line = l; kind = w })).1 fault) ∙ (same ∙ (told input (record { line = line; kind = why })).1 refusal))))
+refuses said told (Err ending.NoMemory) given input line why same text fault refusal = inr refl
+refuses said told (Err ending.Done) given input line why same text fault refusal = absurd fault
+refuses said told (Err ending.Usage) given input line why same text fault refusal = absurd fault
+refuses said told (Err ending.ReadFault) given input line why same text fault refusal = absurd fault
+refuses said told (Err ending.WriteFault) given input line why same text fault refusal = absurd fault
+refuses said told (Err ending.ThreadFault) given input line why same text fault refusal = absurd fault
 
-pub reads : (r : Result Script Ending) (input : List ℕ) (script : ScriptData) → IfErr r (λ e. IsFaultOf e input) → script_of input ≡ Ok script → IsOk r ⊎ (r ≡ Err ending.NoMemory)
-reads (Ok s) input script fault is = inl refl
-reads (Err (ending.Refused l w)) input script fault is = absurd (let other : script_of input ≡ _ = fault in cc)
-reads (Err ending.NoMemory) input script fault is = inr refl
-reads (Err ending.Done) input script fault is = absurd fault
-reads (Err ending.Usage) input script fault is = absurd fault
-reads (Err ending.ReadFault) input script fault is = absurd fault
-reads (Err ending.WriteFault) input script fault is = absurd fault
-reads (Err ending.ThreadFault) input script fault is = absurd fault
+pub reads : ScriptsAreRead → FirstRefusalIsTold → (r : Result Script Ending) (given input : List ℕ) (script : ScriptData) → script_of given ≡ script_of input → IfErr r (λ e. IsFaultOf e given) → SaysScript script input → IsOk r ⊎ (r ≡ Err ending.NoMemory)
+unfolding SaysScript IsRefusedAt
+reads said told (Ok s) given input script same fault says = inl refl
+reads said told (Err (ending.Refused l w)) given input script same fault says = absurd (let one = (told given (record { line = l; kind = w })).1 fault in let other = (said input script).1 says in cc)
+reads said told (Err ending.NoMemory) given input script same fault says = inr refl
+reads said told (Err ending.Done) given input script same fault says = absurd fault
+reads said told (Err ending.Usage) given input script same fault says = absurd fault
+reads said told (Err ending.ReadFault) given input script same fault says = absurd fault
+reads said told (Err ending.WriteFault) given input script same fault says = absurd fault
+reads said told (Err ending.ThreadFault) given input script same fault says = absurd fault

@@ -1,13 +1,15 @@
 -- What `run -j` writes behind the lines of the outcomes: the line `journal`, and a line for each entry of each object of the run.
-use Rattle.std.specs.Prelude.{◌≡◌, ◌≤◌, ◌⊎◌, ℕ, Bool, true, List, [], ◌∷◌, ◌++◌, take, codes, Option, ◌<◌, length, if◌then◌else◌}
+use Rattle.std.specs.Prelude.{◌≡◌, ◌≤◌, ◌⊎◌, ℕ, Bool, true, List, [], ◌∷◌, ◌++◌, take, codes, Option, ◌<◌, length, if◌then◌else◌, All}
 use Rattle.std.specs.List.{flat_map}
 use Rattle.std.specs.Io.KnownBytes.{Appends}
 use Rattle.ak_base.specs.declared.ending.Ending.{Ending}
 use Rattle.ak_base.specs.declared.ending.Ending.TheVariants as ending
+use Rattle.ak_outside.specs.Calls.{Calls}
 use Rattle.ak_outside.specs.Faults.{Rose}
 use Rattle.ak_outside.specs.Sink.{AppendsPart}
 use Rattle.ak_diary.specs.declared.histories.Histories.{Histories}
 use Rattle.ak_journal.specs.declared.entry.Entry.{Entry}
+use Rattle.ak_journal.specs.Legible.{IsLegible}
 use Rattle.ak_journal.specs.Line.{entry_line}
 use Rattle.ak_world.specs.Merged.{IsMerged}
 use Rattle.ak_play.specs.declared.run_end.Lines.{Lines}
@@ -28,26 +30,34 @@ head_line = codes "journal" ++ 10 ∷ []
 abbrev pub journal_text : List Entry → List ℕ
 journal_text entries = head_line ++ entries_text entries
 
+-- each of them is read back from its line
+abbrev pub AreLegible : List Entry → Type 0
+AreLegible entries = All IsLegible entries
+
 -- of all entries of the run, in one list, that holds
 abbrev pub OfMerged : Histories → (List Entry → Type 0) → Type 0
 OfMerged h Holds = (entries : List Entry) × IsMerged h entries × Holds entries
 
--- nothing of the journal, or the first lines and not all
+-- nothing of the journal, or the first lines and not all, each of a legible entry
 abbrev pub IsJournalFront : Histories → Option (List ℕ) → Option (List ℕ) → Type 0
-IsJournalFront h old new = Appends old new [] ⊎ OfMerged h (λ entries. (count : ℕ) × (count < length entries) × Appends old new (head_line ++ entries_text (take count entries)))
+IsJournalFront h old new =
+    Appends old new []
+    ⊎ OfMerged h (λ entries. (count : ℕ) × (count < length entries) × AreLegible (take count entries) × Appends old new (head_line ++ entries_text (take count entries)))
 
 -- ---- how much of it was written
--- all; a front, where a write failed; or the first lines, where memory ran out
+-- all; a front, where a write failed; or the first lines, where memory ran out. Each line is of a legible entry, so it is read back as that
 abbrev pub HasJournaled : Histories → Lines → Option (List ℕ) → Option (List ℕ) → Type 0
-HasJournaled h lines.Whole old new = OfMerged h (λ entries. Appends old new (journal_text entries))
-HasJournaled h lines.Cut old new = OfMerged h (λ entries. AppendsPart old new (journal_text entries))
+HasJournaled h lines.Whole old new = OfMerged h (λ entries. AreLegible entries × Appends old new (journal_text entries))
+HasJournaled h lines.Cut old new =
+    OfMerged h (λ entries. (count : ℕ) × AreLegible (take count entries) × AppendsPart old new (head_line ++ entries_text (take count entries)))
 HasJournaled h lines.Lacking old new = IsJournalFront h old new
 
 -- so much of the lines of these entries
 abbrev pub HasWrittenEntries : List Entry → Lines → Option (List ℕ) → Option (List ℕ) → Type 0
-HasWrittenEntries entries lines.Whole old new = Appends old new (entries_text entries)
-HasWrittenEntries entries lines.Cut old new = AppendsPart old new (entries_text entries)
-HasWrittenEntries entries lines.Lacking old new = (count : ℕ) × (count < length entries) × Appends old new (entries_text (take count entries))
+HasWrittenEntries entries lines.Whole old new = AreLegible entries × Appends old new (entries_text entries)
+HasWrittenEntries entries lines.Cut old new = (count : ℕ) × AreLegible (take count entries) × AppendsPart old new (entries_text (take count entries))
+HasWrittenEntries entries lines.Lacking old new =
+    (count : ℕ) × (count < length entries) × AreLegible (take count entries) × Appends old new (entries_text (take count entries))
 
 -- the sink failed exactly where a write did
 abbrev pub FailedSo : Lines → ℕ → ℕ → Type 0
@@ -104,13 +114,13 @@ TellsJournal lines.Cut ended run main end old new faults faults' = LeavesJournal
 TellsJournal lines.Lacking ended run main end old new faults faults' = LeavesJournalOut ended run main end old new faults faults'
 
 -- The lines of the run's statements, those of a block session by session; behind them the journal; and behind it the closing line. Behind the lines
--- the run ended so, and main was so; the sink failed so often then
-pub record JournalsAndCloses (run : RunEnd) (end : Ending) (old new : Option (List ℕ)) (faults faults' : ℕ) : Type 0 where
+-- the run ended so, and main was so; the sink failed so often then. The threads of the run were started by these calls
+pub record JournalsAndCloses (run : RunEnd) (end : Ending) (old new : Option (List ℕ)) (faults faults' : ℕ) (calls calls' : Option Calls) : Type 0 where
   pub ended : Ending
   pub main : Bool
   pub between : Option (List ℕ)
   pub faults_between : ℕ
   pub first : faults ≤ faults_between
   pub second : faults_between ≤ faults'
-  pub play : IsPlay run.script.apps.items run.script.statements.items ended (with_main main run) old between (Rose faults faults_between) (faults_between ≡ faults)
+  pub play : IsPlay run.script.apps.items run.script.statements.items ended (with_main main run) old between (Rose faults faults_between) (faults_between ≡ faults) calls calls'
   pub tells : TellsJournal run.lines ended run main end between new faults_between faults'

@@ -1,5 +1,5 @@
 -- The top call: its endings, the input that it read, and what it wrote.
-use Rattle.std.specs.Prelude.{◌≡◌, ◌≢◌, ◌⊎◌, ℕ, ◌<◌, ◌≤◌, Bool, true, List, [], ◌∷◌, ◌++◌, length, take, codes, Option, None, Ok, Err}
+use Rattle.std.specs.Prelude.{◌≡◌, ◌≢◌, ◌⊎◌, ℕ, ◌<◌, ◌≤◌, Bool, true, List, [], ◌∷◌, ◌++◌, length, take, codes, Option, None}
 use Rattle.std.specs.Fmt.{decimal}
 use Rattle.std.specs.Io.KnownBytes.{Appends, Consumes, IsAtEnd}
 use Rattle.ak_base.specs.declared.ending.Ending.{Ending}
@@ -7,11 +7,13 @@ use Rattle.ak_base.specs.declared.ending.Ending.TheVariants as ending
 use Rattle.ak_base.specs.declared.ending.RefusalKind.{RefusalKind}
 use Rattle.ak_base.specs.Refusal.{text_of}
 use Rattle.ak_input.specs.Limits.{input_limit}
+use Rattle.ak_outside.specs.Calls.{Calls}
 use Rattle.ak_outside.specs.Faults.{Rose}
 use Rattle.ak_outside.specs.Sink.{AppendsPart}
 use Rattle.ak_script.specs.declared.script.Script.{Script}
 use Rattle.ak_script.specs.Generated.{generated_limit}
-use Rattle.ak_script.specs.Script.{ScriptData, script_of}
+use Rattle.ak_script.specs.Refusals.{FirstRefusal, ScriptOf}
+use Rattle.ak_script.specs.Script.{ScriptData}
 use Rattle.ak_script.specs.Seen.{script_seen}
 use Rattle.ak_play.specs.declared.run_end.Lines.{Lines}
 use Rattle.ak_play.specs.declared.run_end.Lines.TheVariants as lines
@@ -139,17 +141,21 @@ pub record WasRead (old new : Option (List ℕ)) (input : List ℕ) : Type 0 whe
 abbrev pub SomeInput : (List ℕ → Type 0) → Option (List ℕ) → Option (List ℕ) → Type 0
 SomeInput IsSo old new = (input : List ℕ) × WasRead old new input × IsSo input
 
+-- it is the text of the script that says this
+unfoldable pub SaysScript : ScriptData → List ℕ → Type 0
+SaysScript script input = ScriptOf input script
+
 -- it is the text of that script
 abbrev pub IsTextOf : Script → List ℕ → Type 0
-IsTextOf script input = script_of input ≡ Ok (script_seen script)
+IsTextOf script input = SaysScript (script_seen script) input
 
 -- the script that it is the text of is so
 abbrev pub SomeScript : (ScriptData → Type 0) → List ℕ → Type 0
-SomeScript IsSo input = (script : ScriptData) × (script_of input ≡ Ok script) × IsSo script
+SomeScript IsSo input = (script : ScriptData) × SaysScript script input × IsSo script
 
 -- its first refusal is at that line, for that reason
-abbrev pub IsRefusedAt : ℕ → RefusalKind → List ℕ → Type 0
-IsRefusedAt line why input = script_of input ≡ Err (record { line = line; kind = why })
+unfoldable pub IsRefusedAt : ℕ → RefusalKind → List ℕ → Type 0
+IsRefusedAt line why input = FirstRefusal input line why
 
 -- it ends so where there is no script: with its first refusal, or for want of memory
 abbrev pub IsFaultOf : Ending → List ℕ → Type 0
@@ -189,13 +195,13 @@ Tells ending.ThreadFault left left' old new faults faults' = Closes ending.Threa
 Tells ending.NoMemory left left' old new faults faults' = Closes ending.NoMemory old new faults faults'
 
 -- the lines of the run's statements, those of a block session by session, and behind them the closing line, but where a write failed. The sink
--- failed so often before and after all, and so often between
-pub record PlaysAndCloses (run : RunEnd) (end : Ending) (old new : Option (List ℕ)) (faults faults' : ℕ) : Type 0 where
+-- failed so often before and after all, and so often between. The threads of the run were started by these calls
+pub record PlaysAndCloses (run : RunEnd) (end : Ending) (old new : Option (List ℕ)) (faults faults' : ℕ) (calls calls' : Option Calls) : Type 0 where
   pub between : Option (List ℕ)
   pub faults_between : ℕ
   pub first : faults ≤ faults_between
   pub second : faults_between ≤ faults'
-  pub play : IsPlay run.script.apps.items run.script.statements.items end run old between (Rose faults faults_between) (faults_between ≡ faults)
+  pub play : IsPlay run.script.apps.items run.script.statements.items end run old between (Rose faults faults_between) (faults_between ≡ faults) calls calls'
   pub closes : ClosesBehind run.lines end between new faults_between faults'
 
 -- ---- the script of a number
@@ -205,8 +211,8 @@ abbrev pub with_main : Bool → RunEnd → RunEnd
 with_main main run = record run { short = record run.short { main = main } }
 
 -- it is a run of its script that ended so, of which no line was written anywhere, and so no write failed
-abbrev pub IsPlayNowhere : Ending → RunEnd → Type 0
-IsPlayNowhere ended run = IsPlay run.script.apps.items run.script.statements.items ended run None None ⊥ (Unit {0})
+abbrev pub IsPlayNowhere : Ending → RunEnd → Option Calls → Option Calls → Type 0
+IsPlayNowhere ended run calls calls' = IsPlay run.script.apps.items run.script.statements.items ended run None None ⊥ (Unit {0}) calls calls'
 
 -- What was written of a run that ended so (`ended`). Of one that was done it is the line, and main is told as it was (`main`); or, without memory
 -- for the line, the closing line, and main is told to have found none. Of any other it is the closing line, and main is told as it was
@@ -216,10 +222,10 @@ TellsRun ending.Done n run main end old new faults faults' =
 TellsRun ended n run main end old new faults faults' = (end ≡ ended) × (run.short.main ≡ main) × Closes end old new faults faults'
 
 -- The script was carried out, with its lines written nowhere, and then it was told of by one line. Before the line the run ended so, and main was
--- so; the sink failed so often before and after it
-pub record GeneratesAndCloses (n : ℕ) (run : RunEnd) (end : Ending) (old new : Option (List ℕ)) (faults faults' : ℕ) : Type 0 where
+-- so; the sink failed so often before and after it. The threads of the run were started by these calls
+pub record GeneratesAndCloses (n : ℕ) (run : RunEnd) (end : Ending) (old new : Option (List ℕ)) (faults faults' : ℕ) (calls calls' : Option Calls) : Type 0 where
   pub ended : Ending
   pub main : Bool
-  pub play : IsPlayNowhere ended (with_main main run)
+  pub play : IsPlayNowhere ended (with_main main run) calls calls'
   pub no_write : ended ≢ ending.WriteFault
   pub tells : TellsRun ended n run main end old new faults faults'

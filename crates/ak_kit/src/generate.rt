@@ -1,5 +1,7 @@
 //! The script of a number: it is made, carried out, and told of by one line.
-ghost use Rattle.std.specs.Prelude.{◌≡◌, ◌≢◌, ◌≤◌, ◌↔◌, IfSome, IfNone, IsSomeAnd};
+ghost use Rattle.std.specs.Prelude.{◌≡◌, ◌≢◌, ◌≤◌, ◌↔◌, All, IfSome, IfNone, IsSomeAnd};
+ghost use Rattle.ak_journal.specs.Plain.{IsPlain};
+ghost use Rattle.ak_world.specs.Merged.{entries_of};
 ghost use Rattle.ak_outside.specs.Faults.{Rose};
 ghost use Rattle.ak_describe.specs.Whole.{heads_of};
 ghost use Rattle.ak_headline.specs.Headline.{EachGotOneReply, EachLooper, IsAccounted, IsByRule};
@@ -8,10 +10,12 @@ ghost use Rattle.ak_run.specs.Opened.{WereOpened};
 ghost use Rattle.ak_script.specs.Generated.{generated, generated_limit};
 ghost use Rattle.ak_script.specs.Seen.{script_seen};
 ghost use Rattle.ak_kit.specs.Kit as kit;
+ghost use Rattle.ak_kit.specs.Sequence.{RunsAsOne};
 
 use crate::closing::{close, end_with_line};
 use crate::gen_line::gen_line;
 use crate::kit_end::KitEnd;
+use crate::laws::runs_are_so;
 use crate::nowhere::Nowhere;
 use ak_base::{Ending, NoMemory};
 use ak_outside::{Gate, Sink, Spawner};
@@ -39,12 +43,14 @@ pub(crate) fn kit_gen<
 
     ensures script { IfSome result.run (λ run. script_seen run.script ≡ generated n) }
     ensures run { IfSome result.run (λ run. IsRunOf (heads_of run.script.apps.items) run) }
+    ensures sequence { IfSome result.run RunsAsOne }
     ensures opened { IfSome result.run (λ run. WereOpened run.script.apps.items run.histories) }
+    ensures plain { IfSome result.run (λ run. All IsPlain (entries_of run.histories)) }
     ensures accepted { IfSome result.run (λ run. EachLooper run.histories IsAccounted) }
     ensures dispatched { IfSome result.run (λ run. EachLooper run.histories IsByRule) }
     ensures answered { IfSome result.run (λ run. EachGotOneReply run.short.loopers run.histories) }
 
-    ensures play { IfSome result.run (λ run. kit.GeneratesAndCloses n run result.ending (K.written sink.old) (K.written sink.new) (K.faults sink.old) (K.faults sink.new)) }
+    ensures play { IfSome result.run (λ run. kit.GeneratesAndCloses n run result.ending (K.written sink.old) (K.written sink.new) (K.faults sink.old) (K.faults sink.new) (W.calls spawner.old) (W.calls spawner.new)) }
     ensures closing { IfNone result.run (kit.Closes result.ending (K.written sink.old) (K.written sink.new) (K.faults sink.old) (K.faults sink.new)) }
 
     ensures write_fault { result.ending ≡ Ending.WriteFault → Rose (K.faults sink.old) (K.faults sink.new) }
@@ -79,12 +85,14 @@ fn play_generated<W: Spawner, G: Gate + 'static, R: Threads + Wait + Copy + Send
 
     ensures script { IfSome result.0 (λ run. script_seen run.script ≡ generated n) }
     ensures run { IfSome result.0 (λ run. IsRunOf (heads_of run.script.apps.items) run) }
+    ensures sequence { IfSome result.0 RunsAsOne }
     ensures opened { IfSome result.0 (λ run. WereOpened run.script.apps.items run.histories) }
+    ensures plain { IfSome result.0 (λ run. All IsPlain (entries_of run.histories)) }
     ensures accepted { IfSome result.0 (λ run. EachLooper run.histories IsAccounted) }
     ensures dispatched { IfSome result.0 (λ run. EachLooper run.histories IsByRule) }
     ensures answered { IfSome result.0 (λ run. EachGotOneReply run.short.loopers run.histories) }
 
-    ensures play { IfSome result.0 (kit.IsPlayNowhere result.1) }
+    ensures play { IfSome result.0 (λ run. kit.IsPlayNowhere result.1 run (W.calls spawner.old) (W.calls spawner.new)) }
 
     ensures thread_fault { result.1 ≡ Ending.ThreadFault → Rose (W.faults spawner.old) (W.faults spawner.new) }
     ensures spawner_kept { result.1 ≢ Ending.ThreadFault → W.faults spawner.new ≡ W.faults spawner.old }
@@ -93,6 +101,7 @@ fn play_generated<W: Spawner, G: Gate + 'static, R: Threads + Wait + Copy + Send
     let Ok(script) = generated(alloc, n) else {
         return (None, Ending::NoMemory);
     };
+    runs_are_so();
     let mut nowhere = Nowhere;
     run_script(alloc, rt, script, &mut nowhere, spawner, gate)
 }

@@ -1,12 +1,13 @@
 //! The input: the script that the source gives, or how the program ends without one.
-ghost use Rattle.std.specs.Prelude.{◌≡◌, ◌≢◌, ◌≤◌, ◌⊎◌, ℕ, List, Some, Ok, Err, IfOk, IfErr, IsOk};
+ghost use Rattle.std.specs.Prelude.{◌≡◌, ◌≢◌, ◌≤◌, ◌⊎◌, ℕ, List, Some, Err, IfOk, IfErr, IsOk};
 ghost use Rattle.ak_base.specs.declared.ending.RefusalKind.{RefusalKind};
 ghost use Rattle.ak_outside.specs.Faults.{Rose, Stayed};
 ghost use Rattle.ak_outside.specs.Source.{ConsumesAtMost};
 ghost use Rattle.ak_describe.specs.Whole.{AreWholeApps};
-ghost use Rattle.ak_script.specs.Script.{ScriptData, script_of};
+ghost use Rattle.ak_script.specs.Script.{ScriptData};
 ghost use Rattle.ak_kit.specs.Kit as kit;
 
+use crate::laws::inputs_are_read;
 use ak_base::{Bytes, Ending};
 use ak_input::INPUT_LIMIT;
 use ak_outside::{ReadFault, Source, read_all};
@@ -35,10 +36,11 @@ pub(crate) fn script_from<S: Source>(alloc: Global, source: &mut S) -> Result<Sc
     ensures complete { Stayed (S.faults source.old) (S.faults source.new)
         → (input : List ℕ) (script : ScriptData)
         → S.left source.old ≡ Some input
-        → script_of input ≡ Ok script
+        → kit.SaysScript script input
         → IsOk result ⊎ (result ≡ Err Ending.NoMemory) }
 {
     let input = bytes_from(alloc, source)?;
+    inputs_are_read();
     script_in(alloc, input.as_slice())
 }
 
@@ -59,6 +61,7 @@ fn bytes_from<S: Source>(alloc: Global, source: &mut S) -> Result<Bytes, Ending>
 }
 
 // The script that the input is the text of.
+#[tactic(auto, unfolding(crate::specs::Kit::SaysScript, crate::specs::Kit::IsRefusedAt))]
 fn script_in(alloc: Global, input: &[u8]) -> Result<Script, Ending>
     ensures script { IfOk result (λ script. kit.IsTextOf script input.now) }
     ensures whole { IfOk result (λ script. AreWholeApps script.apps.items) }

@@ -1,5 +1,8 @@
 //! The journal of a run: behind the lines of its outcomes the line `journal`, and then a line for each entry of each object.
-ghost use Rattle.std.specs.Prelude.{◌≡◌, ◌≤◌, ◌++◌, ◌∷◌, [], IsSomeAnd, IfSome, OnOk};
+ghost use Rattle.std.specs.Prelude.{◌≡◌, ◌≤◌, ◌++◌, ◌∷◌, [], All, IsSomeAnd, IfSome, OnOk};
+ghost use Rattle.ak_journal.specs.Plain.{IsPlain};
+ghost use Rattle.ak_journal.specs.Typed.{IsTyped};
+ghost use Rattle.ak_world.specs.Merged.{entries_of};
 ghost use Rattle.ak_play.specs.Play.{IsPlayEnding};
 ghost use Rattle.ak_kit.specs.Untold.{lines_told};
 ghost use Rattle.ak_kit.specs.Journal.{FailedSo, HasJournaled, HasWrittenEntries, TellsJournal, at_a_write, entries_text, without_memory};
@@ -9,8 +12,9 @@ use crate::closing::{close, close_run, end_at_once};
 use crate::kit_end::KitEnd;
 use ak_base::{Bytes, Ending, NoMemory};
 use ak_diary::Histories;
-use ak_journal::{Entry, print_entry};
+use ak_journal::{Entry, plain_is_legible, print_entry};
 use ak_outside::{Sink, WriteFailed, write_all};
+use ak_plain::merged_is_plain;
 use ak_play::{Lines, RunEnd};
 use ak_world::merge;
 use std::alloc::Global;
@@ -80,6 +84,7 @@ pub(crate) fn end_with_journal<K: Sink>(
     sink: &mut K,
 ) -> KitEnd
     requires ending { IsPlayEnding ended }
+    requires plain { All IsPlain (entries_of run.histories) }
     ensures status { result.status ≡ kit.status_of result.ending }
     ensures ending { IsPlayEnding result.ending }
 
@@ -103,10 +108,12 @@ pub(crate) fn end_with_journal<K: Sink>(
 
 // Writes the journal of these histories.
 fn put_journal<K: Sink>(alloc: Global, histories: &Histories, sink: &mut K) -> Result<(), Untold>
+    requires { All IsPlain (entries_of histories.now) }
     ensures written { HasJournaled histories.now (lines_told result) (K.written sink.old) (K.written sink.new) }
     ensures failed { FailedSo (lines_told result) (K.faults sink.old) (K.faults sink.new) }
     ensures never_falls { K.faults sink.old ≤ K.faults sink.new }
 {
+    merged_is_plain();
     let entries = merge(alloc, histories)?;
     write_all(sink, b"journal\n")?;
     put_entries(alloc, entries.as_slice(), sink)
@@ -114,10 +121,12 @@ fn put_journal<K: Sink>(alloc: Global, histories: &Histories, sink: &mut K) -> R
 
 // Writes the lines of the entries, some at a time.
 fn put_entries<K: Sink>(alloc: Global, entries: &[Entry], sink: &mut K) -> Result<(), Untold>
+    requires { All IsPlain entries.now }
     ensures written { HasWrittenEntries entries.now (lines_told result) (K.written sink.old) (K.written sink.new) }
     ensures failed { FailedSo (lines_told result) (K.faults sink.old) (K.faults sink.new) }
     ensures never_falls { K.faults sink.old ≤ K.faults sink.new }
 {
+    plain_is_legible();
     let mut lines = Bytes::new(alloc);
     for entry in entries {
         put_line(alloc, entry, &mut lines)?;
@@ -132,7 +141,8 @@ fn put_entries<K: Sink>(alloc: Global, entries: &[Entry], sink: &mut K) -> Resul
 
 // The line of one entry, and its end.
 fn put_line(alloc: Global, entry: &Entry, lines: &mut Bytes) -> Result<(), NoMemory>
-    ensures { OnOk result (lines.new ≡ lines.old ++ entries_text (entry.now ∷ [])) }
+    ensures line { OnOk result (lines.new ≡ lines.old ++ entries_text (entry.now ∷ [])) }
+    ensures typed { OnOk result (IsTyped entry.now) }
 {
     print_entry(alloc, entry, lines)?;
     lines.push(b'\n')

@@ -13,6 +13,7 @@ mod generate;
 mod input;
 mod journal;
 mod kit_end;
+mod laws;
 mod nowhere;
 mod read;
 mod run;

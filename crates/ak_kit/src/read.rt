@@ -1,8 +1,8 @@
-ghost use Rattle.std.specs.Prelude.{◌≡◌, ◌≢◌, ◌≤◌, ◌⊎◌, ℕ, List, None, Some, Ok};
+ghost use Rattle.std.specs.Prelude.{◌≡◌, ◌≢◌, ◌≤◌, ◌⊎◌, ℕ, List, None, Some};
 ghost use Rattle.ak_base.specs.declared.ending.RefusalKind.{RefusalKind};
 ghost use Rattle.ak_outside.specs.Faults.{Rose, Stayed};
 ghost use Rattle.ak_outside.specs.Source.{ConsumesAtMost};
-ghost use Rattle.ak_script.specs.Script.{ScriptData, script_of};
+ghost use Rattle.ak_script.specs.Script.{ScriptData};
 ghost use Rattle.ak_kit.specs.Kit as kit;
 
 use crate::closing::end_without_script;
@@ -52,7 +52,7 @@ pub fn kit_read<S: Source, K: Sink>(alloc: Global, source: &mut S, sink: &mut K)
         → Stayed (K.faults sink.old) (K.faults sink.new)
         → (input : List ℕ) (script : ScriptData)
         → S.left source.old ≡ Some input
-        → script_of input ≡ Ok script
+        → kit.SaysScript script input
         → (result.ending ≡ Ending.Done) ⊎ (result.ending ≡ Ending.NoMemory) }
 {
     match script_from(alloc, source) {

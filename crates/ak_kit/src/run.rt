@@ -1,5 +1,7 @@
 //! The command `run`: the input is read, and the script that it is the text of is carried out.
-ghost use Rattle.std.specs.Prelude.{◌≡◌, ◌≢◌, ◌≤◌, ◌⊎◌, ℕ, List, Some, Ok, IfSome, IfNone, true, false};
+ghost use Rattle.std.specs.Prelude.{◌≡◌, ◌≢◌, ◌≤◌, ◌⊎◌, ℕ, List, Some, All, IfSome, IfNone, true, false};
+ghost use Rattle.ak_journal.specs.Plain.{IsPlain};
+ghost use Rattle.ak_world.specs.Merged.{entries_of};
 ghost use Rattle.ak_base.specs.declared.ending.RefusalKind.{RefusalKind};
 ghost use Rattle.ak_outside.specs.Faults.{Rose, Stayed};
 ghost use Rattle.ak_outside.specs.Source.{ConsumesAtMost};
@@ -7,9 +9,10 @@ ghost use Rattle.ak_describe.specs.Whole.{heads_of};
 ghost use Rattle.ak_headline.specs.Headline.{EachGotOneReply, EachLooper, IsAccounted, IsByRule};
 ghost use Rattle.ak_play.specs.Play.{IsRunOf, IsShort};
 ghost use Rattle.ak_run.specs.Opened.{WereOpened};
-ghost use Rattle.ak_script.specs.Script.{ScriptData, script_of};
+ghost use Rattle.ak_script.specs.Script.{ScriptData};
 ghost use Rattle.ak_kit.specs.Journal.{JournalsAndCloses};
 ghost use Rattle.ak_kit.specs.Kit as kit;
+ghost use Rattle.ak_kit.specs.Sequence.{RunsAsOne};
 
 use crate::closing::end_without_script;
 use crate::commands::play;
@@ -47,13 +50,15 @@ pub(crate) fn kit_run<
     ensures no_run { IfNone result.run (kit.IsUnrun result.ending) }
     ensures starts_nothing { IfNone result.run (spawner.new ≡ spawner.old) }
     ensures run { IfSome result.run (λ run. IsRunOf (heads_of run.script.apps.items) run) }
+    ensures sequence { IfSome result.run RunsAsOne }
     ensures opened { IfSome result.run (λ run. WereOpened run.script.apps.items run.histories) }
+    ensures plain { IfSome result.run (λ run. All IsPlain (entries_of run.histories)) }
     ensures accepted { IfSome result.run (λ run. EachLooper run.histories IsAccounted) }
     ensures dispatched { IfSome result.run (λ run. EachLooper run.histories IsByRule) }
     ensures answered { IfSome result.run (λ run. EachGotOneReply run.short.loopers run.histories) }
 
-    ensures play { journal ≡ false → IfSome result.run (λ run. kit.PlaysAndCloses run result.ending (K.written sink.old) (K.written sink.new) (K.faults sink.old) (K.faults sink.new)) }
-    ensures journal { journal ≡ true → IfSome result.run (λ run. JournalsAndCloses run result.ending (K.written sink.old) (K.written sink.new) (K.faults sink.old) (K.faults sink.new)) }
+    ensures play { journal ≡ false → IfSome result.run (λ run. kit.PlaysAndCloses run result.ending (K.written sink.old) (K.written sink.new) (K.faults sink.old) (K.faults sink.new) (W.calls spawner.old) (W.calls spawner.new)) }
+    ensures journal { journal ≡ true → IfSome result.run (λ run. JournalsAndCloses run result.ending (K.written sink.old) (K.written sink.new) (K.faults sink.old) (K.faults sink.new) (W.calls spawner.old) (W.calls spawner.new)) }
     ensures closing { IfNone result.run (kit.Closes result.ending (K.written sink.old) (K.written sink.new) (K.faults sink.old) (K.faults sink.new)) }
 
     ensures read_fault { result.ending ≡ Ending.ReadFault → Rose (S.faults source.old) (S.faults source.new) }
@@ -77,7 +82,7 @@ pub(crate) fn kit_run<
         → Stayed (W.faults spawner.old) (W.faults spawner.new)
         → (input : List ℕ) (script : ScriptData)
         → S.left source.old ≡ Some input
-        → script_of input ≡ Ok script
+        → kit.SaysScript script input
         → (result.ending ≡ Ending.Done) ⊎ (result.ending ≡ Ending.NoMemory) }
 {
     match script_from(alloc, source) {

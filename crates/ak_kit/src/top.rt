@@ -1,4 +1,4 @@
-ghost use Rattle.std.specs.Prelude.{◌≡◌, ◌≢◌, ◌≤◌, ◌↔◌, ◌⊎◌, ℕ, List, None, Some, Ok, IfSome, IfNone};
+ghost use Rattle.std.specs.Prelude.{◌≡◌, ◌≢◌, ◌≤◌, ◌↔◌, ◌⊎◌, ℕ, List, None, Some, All, IfSome, IfNone};
 ghost use Rattle.ak_base.specs.declared.ending.RefusalKind.{RefusalKind};
 ghost use Rattle.ak_outside.specs.Faults.{Rose, Stayed};
 ghost use Rattle.ak_outside.specs.Source.{ConsumesAtMost};
@@ -6,11 +6,14 @@ ghost use Rattle.ak_describe.specs.Whole.{heads_of};
 ghost use Rattle.ak_headline.specs.Headline.{EachGotOneReply, EachLooper, IsAccounted, IsByRule};
 ghost use Rattle.ak_play.specs.Play.{IsPlayEnding, IsRunOf, IsShort};
 ghost use Rattle.ak_run.specs.Opened.{WereOpened};
+ghost use Rattle.ak_journal.specs.Plain.{IsPlain};
+ghost use Rattle.ak_world.specs.Merged.{entries_of};
 ghost use Rattle.ak_script.specs.Generated.{generated};
-ghost use Rattle.ak_script.specs.Script.{ScriptData, script_of};
+ghost use Rattle.ak_script.specs.Script.{ScriptData};
 ghost use Rattle.ak_script.specs.Seen.{script_seen};
 ghost use Rattle.ak_kit.specs.Journal.{JournalsAndCloses};
 ghost use Rattle.ak_kit.specs.Kit as kit;
+ghost use Rattle.ak_kit.specs.Sequence.{RunsAsOne};
 
 use crate::closing::close;
 use crate::generate::kit_gen;
@@ -76,14 +79,18 @@ pub fn kit<
 
     // The headline.
     ensures run { IfSome result.run (λ run. IsRunOf (heads_of run.script.apps.items) run) }
+    ensures sequence { IfSome result.run RunsAsOne }
     ensures opened { IfSome result.run (λ run. WereOpened run.script.apps.items run.histories) }
+
+    // Each entry is of a form that is read back from its line.
+    ensures plain { IfSome result.run (λ run. All IsPlain (entries_of run.histories)) }
     ensures accepted { IfSome result.run (λ run. EachLooper run.histories IsAccounted) }
     ensures dispatched { IfSome result.run (λ run. EachLooper run.histories IsByRule) }
     ensures answered { IfSome result.run (λ run. EachGotOneReply run.short.loopers run.histories) }
 
     // What main and the sessions did for the statements, and what was written.
-    ensures play { words.now ≡ kit.run_words → IfSome result.run (λ run. kit.PlaysAndCloses run result.ending (K.written sink.old) (K.written sink.new) (K.faults sink.old) (K.faults sink.new)) }
-    ensures journal { words.now ≡ kit.journal_words → IfSome result.run (λ run. JournalsAndCloses run result.ending (K.written sink.old) (K.written sink.new) (K.faults sink.old) (K.faults sink.new)) }
+    ensures play { words.now ≡ kit.run_words → IfSome result.run (λ run. kit.PlaysAndCloses run result.ending (K.written sink.old) (K.written sink.new) (K.faults sink.old) (K.faults sink.new) (W.calls spawner.old) (W.calls spawner.new)) }
+    ensures journal { words.now ≡ kit.journal_words → IfSome result.run (λ run. JournalsAndCloses run result.ending (K.written sink.old) (K.written sink.new) (K.faults sink.old) (K.faults sink.new) (W.calls spawner.old) (W.calls spawner.new)) }
     ensures closing { words.now ≢ kit.read_words → IfNone result.run (kit.Closes result.ending (K.written sink.old) (K.written sink.new) (K.faults sink.old) (K.faults sink.new)) }
 
     // With `read` nothing is run, and the summary line is written.
@@ -95,7 +102,7 @@ pub fn kit<
     ensures gen_reads_nothing { kit.IsGen words.now → source.new ≡ source.old }
     ensures gen_ending { kit.IsGen words.now → IsPlayEnding result.ending }
     ensures gen_script { (n : ℕ) → words.now ≡ kit.gen_words n → IfSome result.run (λ run. script_seen run.script ≡ generated n) }
-    ensures gen_play { (n : ℕ) → words.now ≡ kit.gen_words n → IfSome result.run (λ run. kit.GeneratesAndCloses n run result.ending (K.written sink.old) (K.written sink.new) (K.faults sink.old) (K.faults sink.new)) }
+    ensures gen_play { (n : ℕ) → words.now ≡ kit.gen_words n → IfSome result.run (λ run. kit.GeneratesAndCloses n run result.ending (K.written sink.old) (K.written sink.new) (K.faults sink.old) (K.faults sink.new) (W.calls spawner.old) (W.calls spawner.new)) }
 
     // A fault has its cause, and where a call failed the run doesn't go on.
     ensures read_fault { result.ending ≡ Ending.ReadFault → Rose (S.faults source.old) (S.faults source.new) }
@@ -123,14 +130,14 @@ pub fn kit<
         → Stayed (W.faults spawner.old) (W.faults spawner.new)
         → (input : List ℕ) (script : ScriptData)
         → S.left source.old ≡ Some input
-        → script_of input ≡ Ok script
+        → kit.SaysScript script input
         → (result.ending ≡ Ending.Done) ⊎ (result.ending ≡ Ending.NoMemory) }
     ensures read_complete { words.now ≡ kit.read_words
         → Stayed (S.faults source.old) (S.faults source.new)
         → Stayed (K.faults sink.old) (K.faults sink.new)
         → (input : List ℕ) (script : ScriptData)
         → S.left source.old ≡ Some input
-        → script_of input ≡ Ok script
+        → kit.SaysScript script input
         → (result.ending ≡ Ending.Done) ⊎ (result.ending ≡ Ending.NoMemory) }
     ensures gen_complete { kit.IsGen words.now
         → Stayed (K.faults sink.old) (K.faults sink.new)

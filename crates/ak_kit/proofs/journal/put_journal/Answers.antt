@@ -1,4 +1,5 @@
-use Rattle.std.proofs.Common.{subst}
+use Rattle.std.proofs.Common.{All, subst, sym}
+use Rattle.ak_journal.specs.Plain.{IsPlain}
 use Rattle.ak_kit.specs.Journal.{HasWrittenEntries}
 use Rattle.ak_kit.specs.Untold.{lines_told}
 use Rattle.ak_kit.proofs.Gathering.{head_and_entries, head_cut}
@@ -16,3 +17,6 @@ returns-clause-written g c =
     c.in_ok-entries.ensures
     c.in_ok-write_all.ensures.ok
     (subst (λ entries. HasWrittenEntries entries (lines_told c.put_entries.result) (g.K.Sink.written c.write_all.new.sink) (g.K.Sink.written c.put_entries.new.sink)) c.as_slice.ensures.value c.put_entries.ensures.written)
+
+pub put_entries-requires : goal.put_entries-requires
+put_entries-requires g c = subst (All IsPlain) (sym c.as_slice.ensures.value) (c.merged_is_plain.ensures c.args.histories.now c.in_ok-entries.entries.items c.in_ok-entries.ensures c.requires)
